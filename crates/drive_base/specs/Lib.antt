@@ -1,0 +1,5 @@
+pub mod Faults
+pub mod Files
+pub mod Leaves
+pub mod Names
+pub mod Plan

@@ -1,0 +1,23 @@
+//! What the store asks of a drive, and how drives form a set.
+//!
+//! A drive keeps named files. A new file is written under a loose name, synced, and then put in place
+//! under its name by one `rename`. Every layer above sees drives through the trait [`Drive`] alone, so its
+//! contract says all that the store relies on: what each call leaves of the files, when a name is
+//! answered `Absent`, and that each `Failed` is counted.
+//!
+//! The contract holds of drives that tell what they hold and of drives that tell nothing, such as a
+//! folder or a drive behind a lock. What a drive holds is claimed only of one that tells it. Counts,
+//! causes and the order of names are claimed of every drive.
+//!
+//! It stands on no other crate of the store.
+#![tactic(auto)]
+
+mod drive;
+mod fault;
+mod plan;
+#[cfg(test)]
+mod tests;
+
+pub use drive::{Drive, LONGEST_NAME};
+pub use fault::DriveFault;
+pub use plan::{MOST_DRIVES, SetPlan, usual_parity};
