@@ -1,0 +1,8 @@
+pub mod Count
+pub mod MemSink
+pub mod MemSource
+pub mod Sink
+pub mod Source
+pub mod StdSink
+pub mod StdSource
+pub mod Wrote
