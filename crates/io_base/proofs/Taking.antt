@@ -1,7 +1,7 @@
 -- Lemmas on one take, and on several, one after the other.
-use Rattle.std.proofs.Common.{◌≡◌, ℕ, List, [], ◌++◌, None, Some, length, take, drop, min, refl, sym, ap, ◌∙◌, arith, append_assoc, take-append-drop}
+use Rattle.std.proofs.Common.{◌≡◌, ℕ, List, [], ◌++◌, None, Some, IfSome, length, take, drop, min, refl, sym, ap, subst, append-nil, ◌∙◌, arith, append_assoc, take-append-drop}
 use Rattle.std.specs.Prelude.{Option}
-use Rattle.std.specs.Io.KnownBytes.{prepend_known}
+use Rattle.std.specs.Io.KnownBytes.{prepend_known, IsAtEnd}
 use Rattle.std.proofs.lemmas.List.{take-append-le, take-take, length-take, drop_all}
 use Rattle.io_base.specs.Source.{TookFront}
 
@@ -29,3 +29,10 @@ pub prepend_known-joined : (old mid new : Option (List ℕ)) (xs ys : List ℕ) 
 prepend_known-joined old mid None xs ys first second = first ∙ ap (prepend_known xs) second
 prepend_known-joined old mid (Some rest) xs ys first second =
     first ∙ ap (prepend_known xs) second ∙ ap Some (sym (append_assoc xs ys rest))
+
+-- what was taken from a source that has ended is all that it had
+pub prepend_known-ended : (old new : Option (List ℕ)) (bytes : List ℕ) → old ≡ prepend_known bytes new
+    → IsAtEnd new → IfSome old (λ all. all ≡ bytes)
+prepend_known-ended old None bytes taken ended = subst (λ o. IfSome o (λ all. all ≡ bytes)) (sym taken) tt
+prepend_known-ended old (Some rest) bytes taken ended =
+    subst (λ o. IfSome o (λ all. all ≡ bytes)) (sym taken) (ap (λ xs. bytes ++ xs) ended ∙ append-nil bytes)

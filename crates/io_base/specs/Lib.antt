@@ -5,4 +5,5 @@ pub mod Sink
 pub mod Source
 pub mod StdSink
 pub mod StdSource
+pub mod SystemClock
 pub mod Wrote

@@ -1,7 +1,10 @@
-use crate::{IoFault, MemSink, MemSource, Sink, Source, StdSink, StdSource};
-use std::io;
+use crate::{
+    Clock, IoFault, MemClock, MemSink, MemSource, Sink, Source, StdSink, StdSource, SystemClock,
+};
 use std::io::{ErrorKind, Read, Write};
 use std::test::Fail;
+use std::time::Duration;
+use std::{io, rt};
 
 fn take_from<S: Source + Drop>(mut source: S, into: &mut [u8]) -> Result<usize, IoFault> {
     source.take(into)
@@ -117,5 +120,65 @@ fn standard_sink_writes_all_or_counts_a_fault(rt: HostRuntime) -> Result<(), Fai
     assert_eq!(rt; sink.give(b"abc"), Err(IoFault::Failed));
     assert_eq!(rt; sink.write_faults(), 1);
     assert_eq!(rt; flaky.bytes.as_slice(), b"helloab".as_slice());
+    Ok(())
+}
+
+/// A runtime whose clock reads so many seconds, or can't be read.
+#[derive(Drop)]
+struct FixedTime(Option<u64>);
+
+impl rt::Clock for FixedTime {
+    fn monotonic(&self) -> io::Result<Duration> {
+        Ok(Duration::from_secs(0))
+    }
+
+    fn since_1970(&self) -> io::Result<Duration> {
+        match self.0 {
+            Some(seconds) => Ok(Duration::from_secs(seconds)),
+            None => Err(io::Error::from(ErrorKind::Other)),
+        }
+    }
+}
+
+#[test]
+fn clocks_answer_moments(rt: HostRuntime) {
+    let memory = MemClock::new(784_111_777);
+    memory.rest(u64::MAX);
+    assert_eq!(rt; memory.now(), 784_111_777);
+    let table = [
+        (None, 0),
+        (Some(784_111_777), 784_111_777),
+        (Some(253_402_300_799), 253_402_300_799),
+        (Some(253_402_300_800), 253_402_300_799),
+        (Some(u64::MAX), 253_402_300_799),
+    ];
+    for (read, want) in table {
+        assert_eq!(rt; SystemClock::new(FixedTime(read)).now(), want);
+    }
+}
+
+#[test]
+fn system_clock_rests(rt: HostRuntime) -> Result<(), Fail> {
+    let clock = SystemClock::new(rt.clone()?);
+    assert!(rt; clock.now() > 1_700_000_000);
+    let before = rt::Clock::monotonic(&rt)?;
+    clock.rest(1);
+    assert!(rt; rt::Clock::monotonic(&rt)?.saturating_sub(before) >= Duration::from_secs(1));
+    Ok(())
+}
+
+fn keep_sent<T: Send>(value: T) -> T {
+    value
+}
+
+#[test]
+fn ends_may_be_sent(rt: HostRuntime) -> Result<(), Fail> {
+    let source = MemSource::new(Vec::new(rt.alloc()), Vec::new(rt.alloc()));
+    assert_eq!(rt; keep_sent(source).read_faults(), 0);
+    let sink = MemSink::new(Vec::new(rt.alloc()));
+    assert_eq!(rt; keep_sent(sink).write_faults(), 0);
+    let source = StdSource::new(rt.alloc(), rt.stdin())?;
+    assert_eq!(rt; keep_sent(source).read_faults(), 0);
+    assert_eq!(rt; keep_sent(StdSink::new(rt.stdout())).write_faults(), 0);
     Ok(())
 }
