@@ -1,0 +1,9 @@
+pub mod Count
+pub mod MemSink
+pub mod MemSource
+pub mod Sink
+pub mod Source
+pub mod StdSink
+pub mod StdSource
+pub mod SystemClock
+pub mod Wrote

@@ -1,0 +1,8 @@
+-- What a `StdSource` reads.
+use Rattle.std.specs.Prelude.{ℕ, List, Option}
+use Rattle.std.specs.Io.Buffered.{reader_remaining}
+use Rattle.io_base.specs.declared.standard_source.StdSource.{StdSource}
+
+-- the bytes read ahead and then those that the reader has left, where it tells them
+abbrev pub unread : {R : Type 0} → (R → Option (List ℕ)) → StdSource R → Option (List ℕ)
+unread remaining s = reader_remaining remaining s.reader

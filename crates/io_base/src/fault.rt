@@ -1,0 +1,8 @@
+use thiserror::Error;
+
+/// Why a source or a sink failed. The cause is not kept: it is counted where it was met.
+#[derive(Clone, Copy, Debug, PartialEq, Eq, Error)]
+pub enum IoFault {
+    #[error("a read or a write failed")]
+    Failed,
+}

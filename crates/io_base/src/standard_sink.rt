@@ -1,0 +1,75 @@
+ghost use Rattle.std.specs.Prelude.{◌≡◌, None, MatchBool};
+ghost use Rattle.std.specs.Io.KnownBytes.{Appends};
+ghost use Rattle.io_base.specs.Count.{CountsFault};
+ghost use Rattle.io_base.specs.Sink.{Gave};
+ghost use Rattle.io_base.specs.Wrote.{Wrote, WroteFront};
+
+use crate::{IoFault, Sink};
+use std::io::{ErrorKind, Write};
+
+/// A sink over a writer of the outside, as standard output. It tells nothing. Each `give` is written
+/// and flushed before it answers.
+#[derive(Drop)]
+pub struct StdSink<W> {
+    writer: W,
+    faults: u64,
+}
+
+impl<W: Write + Drop> StdSink<W> {
+    ghost use Rattle.io_base.specs.StdSink.{written};
+
+    /// Writes nothing yet.
+    pub fn new(writer: W) -> StdSink<W>
+        ensures writer { written W.contents result ≡ W.contents writer }
+        ensures count { ⟦<StdSink<W> as Sink>⟧.faults result ≡ 0 }
+    {
+        StdSink { writer, faults: 0 }
+    }
+}
+
+impl<W: Write + Drop> Sink for StdSink<W> {
+    ghost use Rattle.io_base.specs.StdSink.{written};
+
+    ghost given = { λ _. None };
+
+    ghost faults = { λ s. s.faults };
+
+    /// Where the writer tells its bytes, it has got these in their order.
+    fn give(&mut self, bytes: &[u8]) -> Result<(), IoFault>
+        ensures given { Gave result bytes.now None None }
+        ensures counted { CountsFault result self.old.faults self.new.faults }
+        ensures wrote { Wrote result bytes.now (written W.contents self.old) (written W.contents self.new) }
+    {
+        if deliver(&mut self.writer, bytes) {
+            return Ok(());
+        }
+        self.faults = self.faults.saturating_add(1);
+        Err(IoFault::Failed)
+    }
+
+    fn write_faults(&self) -> u64 {
+        self.faults
+    }
+}
+
+/// Writes all the bytes and flushes them, and answers whether it could. A writer that takes nothing
+/// of a piece has failed, and one that was interrupted is asked again.
+fn deliver<W: Write>(writer: &mut W, bytes: &[u8]) -> bool
+    ensures { MatchBool result
+        (Appends (W.contents writer.old) (W.contents writer.new) bytes.now)
+        (WroteFront bytes.now (W.contents writer.old) (W.contents writer.new)) }
+{
+    let mut done = 0;
+    for _ in 0..u64::MAX {
+        if done == bytes.len() {
+            return writer.flush().is_ok();
+        }
+        match writer.write(&bytes[done..]) {
+            Ok(0) => return false,
+            Ok(n) => done += n,
+            Err(e) if e.kind() == ErrorKind::Interrupted => {}
+            Err(_) => return false,
+        }
+    }
+    false
+}

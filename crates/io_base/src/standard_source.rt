@@ -1,0 +1,63 @@
+ghost use Rattle.std.specs.Prelude.{◌≡◌, ℕ, None};
+ghost use Rattle.std.specs.Io.KnownBytes.{ReadConsumes};
+ghost use Rattle.io_base.specs.Count.{CountsFault};
+ghost use Rattle.io_base.specs.Source.{Took};
+
+use crate::{IoFault, Source};
+use std::alloc::{AllocError, Global};
+use std::io::{BufReader, ErrorKind, Read};
+
+/// How many bytes are read ahead for small takes.
+const BUFFER_BYTES: usize = 65_536;
+
+/// A source over a reader of the outside, as standard input. It tells nothing itself.
+#[derive(Drop)]
+pub struct StdSource<R> {
+    reader: BufReader<R>,
+    faults: u64,
+}
+
+impl<R: Read + Drop> StdSource<R> {
+    ghost use Rattle.std.specs.Prelude.{IfOk};
+    ghost use Rattle.io_base.specs.StdSource.{unread};
+
+    /// Takes 64 KiB to read ahead, and reads nothing yet. The only error is want of memory.
+    pub fn new(alloc: Global, reader: R) -> Result<StdSource<R>, AllocError>
+        ensures reader { IfOk result (λ s. unread R.remaining s ≡ R.remaining reader) }
+        ensures count { IfOk result (λ s. ⟦<StdSource<R> as Source>⟧.faults s ≡ 0) }
+    {
+        match BufReader::with_capacity(alloc, BUFFER_BYTES, reader) {
+            Ok(reader) => Ok(StdSource { reader, faults: 0 }),
+            Err(_) => Err(AllocError),
+        }
+    }
+}
+
+impl<R: Read + Drop> Source for StdSource<R> {
+    ghost use Rattle.io_base.specs.StdSource.{unread};
+
+    ghost left = { λ _. None };
+
+    ghost faults = { λ s. s.faults };
+
+    /// Also where the reader tells its bytes, none is lost, repeated or changed.
+    fn take(&mut self, into: &mut [u8]) -> Result<usize, IoFault>
+        ensures taken { Took result into.new None None }
+        ensures counted { CountsFault result self.old.faults self.new.faults }
+        ensures read { ReadConsumes (unread R.remaining self.old) (unread R.remaining self.new) result into.new }
+    {
+        for _ in 0..u64::MAX {
+            match self.reader.read(into) {
+                Ok(n) => return Ok(n),
+                Err(e) if e.kind() == ErrorKind::Interrupted => {}
+                Err(_) => break,
+            }
+        }
+        self.faults = self.faults.saturating_add(1);
+        Err(IoFault::Failed)
+    }
+
+    fn read_faults(&self) -> u64 {
+        self.faults
+    }
+}
