@@ -1,10 +1,10 @@
 -- The files of a drive, after a change of one of its maps.
-use Rattle.std.specs.Prelude.{◌≡◌, ℕ, IsTrue, cond, List, length, replicate, Option, Some, None, Vec, String, refl}
+use Rattle.std.specs.Prelude.{◌≡◌, ℕ, IsTrue, cond, List, length, replicate, Option, Some, None, Vec, String}
 use Rattle.std.proofs.Common.{sym, ap, ◌∙◌}
 use Rattle.std.specs.BTreeMap.{BTreeMap, get_by_text}
 use Rattle.std.specs.Option.{option_map}
 use Rattle.drive_base.specs.Files.{Files, LooseFile, Named, with_name, with_loose, with_placed}
-use Rattle.drive_base.specs.Leaves.{AnyLoose, Placed}
+use Rattle.drive_base.specs.Leaves.{AnyLoose}
 use Rattle.drive_memory.proofs.NameLemmas.{loose_files-with, placed_files-with, with_name-same}
 use Rattle.drive_memory.specs.Maps.{loose_file, loose_files, placed_files}
 use Rattle.drive_memory.specs.Placed.{placed_bytes, with_renamed}
@@ -29,7 +29,6 @@ pub files-with_loose : {Y : Type 0} (placed : Named (List ℕ)) (m n : BTreeMap 
 files-with_loose placed m n name w e = ap (files_at placed) (loose_files-with m n name w e)
 
 module _ {Y Z : Type 0} where
-
   -- a file was put in place or taken out
   pub files-with_placed : (loose : Named LooseFile) (m n : BTreeMap (String Y) (Vec ℕ Z)) (name : List ℕ) (w : Option (Vec ℕ Z))
       → get_by_text n ≡ with_name (get_by_text m) name w

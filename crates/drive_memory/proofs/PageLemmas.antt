@@ -1,9 +1,9 @@
 -- Listings of the names of a map, from what a loop over its keys has seen.
-use Rattle.std.specs.Prelude.{◌≡◌, ◌≢◌, ◌⊎◌, ℕ, ◌≤◌, ◌+◌, Bool, true, false, cond, IsTrue, IsSome, List, [], ◌∷◌, ◌++◌, length, map, filter, All, Contains, Option, Some, None, String, Vec, refl, nat_le, ◌&&◌}
-use Rattle.std.proofs.Common.{sym, ap, ◌∙◌, subst, inl, inr, arith, rules}
+use Rattle.std.specs.Prelude.{◌≡◌, ◌≢◌, ◌⊎◌, ℕ, ◌≤◌, Bool, true, false, cond, IsSome, List, [], ◌∷◌, ◌++◌, length, map, filter, All, Contains, Option, Some, None, String, Vec, refl, nat_le, ◌&&◌}
+use Rattle.std.proofs.Common.{sym, ap, ◌∙◌, subst, inl, inr, arith}
 use Rattle.std.proofs.lemmas.Bool.{leb-true, le-leb}
 use Rattle.std.proofs.lemmas.List.{map-append}
-use Rattle.std.proofs.lemmas.List.Elements.{All-nil, All-cons, All-append, All-contains, All-filter, All-map, All-weaker, All-from_recursion, recursion_from_All, All-contains_itself, Contains-append_left, Contains-append_right, Contains-append_cases, Contains-push, Contains-push_cases, filter_passes}
+use Rattle.std.proofs.lemmas.List.Elements.{All-nil, All-cons, All-contains, All-filter, All-map, All-weaker, All-from_recursion, recursion_from_All, All-contains_itself, Contains-append_left, Contains-append_right, Contains-append_cases, Contains-push, Contains-push_cases, filter_passes}
 use Rattle.std.proofs.lemmas.List.Kept.{IsStrictlySortedBy-filter}
 use Rattle.std.proofs.lemmas.Map.Text.{is_eq-slice_cmp}
 use Rattle.std.proofs.lemmas.Slice.Eq.{bytes_eq-Decides}
@@ -13,7 +13,7 @@ use Rattle.std.specs.List.{AllByRecursion}
 use Rattle.std.specs.List.Sorted.{IsStrictlySortedBy}
 use Rattle.std.specs.Map.{lookup, keys_of}
 use Rattle.std.specs.Option.{option_map}
-use Rattle.std.specs.Ordering.{nat_cmp, is_ge, is_eq}
+use Rattle.std.specs.Ordering.{nat_cmp, is_ge}
 use Rattle.std.specs.String.{string_bytes, string_cmp}
 use Rattle.std.specs.declared.cmp.Ordering.{Ordering}
 use Rattle.std.specs.declared.cmp.Ordering.TheVariants.{Less, Equal, Greater}
@@ -25,9 +25,10 @@ use Rattle.drive_memory.specs.Page.{is_listed}
 module _ {K : Type 0} where
   -- an element of a list with a first element
   Contains-cases : (x : K) (xs : List K) (q : K) → Contains (x ∷ xs) q → (x ≡ q) ⊎ Contains xs q
-  Contains-cases x xs q i = elim (Contains-append_cases (x ∷ []) xs q i) as (λ _. (x ≡ q) ⊎ Contains xs q)
-      [ inl here ↦ elim (Contains-push_cases [] x q here) as (λ _. (x ≡ q) ⊎ Contains xs q) [ inl none ↦ absurd (omega (arith, none.1)) | inr e ↦ inl e ]
-      | inr there ↦ inr there ]
+  Contains-cases x xs q i = elim (Contains-append_cases (x ∷ []) xs q i) as (λ _. (x ≡ q) ⊎ Contains xs q) [
+    | inl here ↦ elim (Contains-push_cases [] x q here) as (λ _. (x ≡ q) ⊎ Contains xs q) [ inl none ↦ absurd (omega (arith, none.1)) | inr e ↦ inl e ]
+    | inr there ↦ inr there
+  ]
 
   Contains-head : (x : K) (xs : List K) → Contains (x ∷ xs) x
   Contains-head x xs = Contains-append_left (x ∷ []) xs x (Contains-push [] x)
@@ -148,7 +149,7 @@ module _ (from : List ℕ) (most longest : ℕ) (seen rest : List (List ℕ)) (s
     few = few;
     rising = IsStrictlySortedBy-filter byte_order (is_listed from longest) seen (sorted_front byte_order seen rest sorted);
     begins = All-weaker (λ name. is_listed from longest name ≡ true) (λ name. byte_order name from ≢ Less) (λ name e. (listed_is from longest name e).1) listed (filter_passes (is_listed from longest) seen);
-    short = All-weaker (λ name. is_listed from longest name ≡ true) (λ name. length name ≤ longest) (λ name e. (listed_is from longest name e).0) listed (filter_passes (is_listed from longest) seen)
+    short = All-weaker (λ name. is_listed from longest name ≡ true) (λ name. length name ≤ longest) (λ name e. (listed_is from longest name e).0) listed (filter_passes (is_listed from longest) seen);
   }
 
   full_page : length listed ≤ most → (name : List ℕ) → Contains rest name → (rest ≡ []) ⊎ (most ≤ length listed) → length listed ≡ most
@@ -160,9 +161,10 @@ module _ (from : List ℕ) (most longest : ℕ) (seen rest : List (List ℕ)) (s
       → ListsShown shown from most longest listed
   shown_of_listed shown few full each has = record {
     shows = All-filter (is_listed from longest) (λ name. IsSome (shown name)) seen (All_front (λ name. IsSome (shown name)) seen rest each);
-    complete = λ name there ge short. elim (Contains-append_cases seen rest name (has name there)) as (λ _. Contains listed name ⊎ ((length listed ≡ most) × All (λ given. IsBefore given name) listed))
-      [ inl i ↦ inl (Contains-filter (is_listed from longest) seen name (is_listed_from from longest name short ge) i)
-      | inr i ↦ inr (full_page few name i full, All-filter (is_listed from longest) (λ given. IsBefore given name) seen (sorted_parts byte_order seen rest sorted name i)) ]
+    complete = λ name there ge short. elim (Contains-append_cases seen rest name (has name there)) as (λ _. Contains listed name ⊎ ((length listed ≡ most) × All (λ given. IsBefore given name) listed)) [
+      | inl i ↦ inl (Contains-filter (is_listed from longest) seen name (is_listed_from from longest name short ge) i)
+      | inr i ↦ inr (full_page few name i full, All-filter (is_listed from longest) (λ given. IsBefore given name) seen (sorted_parts byte_order seen rest sorted name i))
+    ];
   }
 
 module _ {Y Z : Type 0} (m : BTreeMap (String Y) (Vec ℕ Z)) where
@@ -183,11 +185,12 @@ module _ {Y Z : Type 0} (m : BTreeMap (String Y) (Vec ℕ Z)) where
       let sorted : IsStrictlySortedBy byte_order (map string_bytes seen ++ map string_bytes rest) = subst (IsStrictlySortedBy byte_order) split_names (sorted-map byte_order string_bytes (keys m) ordered) in
       let few_listed : length (filter (is_listed from longest) (map string_bytes seen)) ≤ most = subst (λ names. length names ≤ most) is few in
       let all_or_full : (map string_bytes rest ≡ []) ⊎ (most ≤ length (filter (is_listed from longest) (map string_bytes seen))) =
-          elim full as (λ _. (map string_bytes rest ≡ []) ⊎ (most ≤ length (filter (is_listed from longest) (map string_bytes seen))))
-          [ inl none ↦ inl (ap (map string_bytes) none) | inr reached ↦ inr (subst (λ names. most ≤ length names) is reached) ] in
+      elim full as (λ _. (map string_bytes rest ≡ []) ⊎ (most ≤ length (filter (is_listed from longest) (map string_bytes seen))))
+      [ inl none ↦ inl (ap (map string_bytes) none) | inr reached ↦ inr (subst (λ names. most ≤ length names) is reached) ] in
       let P : List (List ℕ) → Type 0 = λ names. IsPage from most longest names × ListsShown (placed_files m) from most longest names in
-      subst P (sym is)
-          (page_of_listed from most longest (map string_bytes seen) (map string_bytes rest) sorted few_listed,
-           shown_of_listed from most longest (map string_bytes seen) (map string_bytes rest) sorted (placed_files m) few_listed all_or_full
-              (subst (All (λ name. IsSome (placed_files m name))) split_names each_there)
-              (λ name h. subst (λ names. Contains names name) split_names (there_has name h)))
+      subst P (sym is) (
+        page_of_listed from most longest (map string_bytes seen) (map string_bytes rest) sorted few_listed,
+        shown_of_listed from most longest (map string_bytes seen) (map string_bytes rest) sorted (placed_files m) few_listed all_or_full
+            (subst (All (λ name. IsSome (placed_files m name))) split_names each_there)
+            (λ name h. subst (λ names. Contains names name) split_names (there_has name h)),
+      )

@@ -1,5 +1,5 @@
 -- A clause on a result, by what is known of the result.
-use Rattle.std.specs.Prelude.{◌≡◌, true, false, Result, Ok, Err, OnOk, OnErr, is_err, ⊤}
+use Rattle.std.specs.Prelude.{◌≡◌, true, false, Result, Ok, Err, OnOk, OnErr, is_err}
 use Rattle.std.proofs.Common.{rules}
 
 module _ {T E P : Type 0} where

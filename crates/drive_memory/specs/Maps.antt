@@ -1,5 +1,5 @@
 -- The maps of a drive as functions from the bytes of a name.
-use Rattle.std.specs.Prelude.{◌≡◌, ℕ, Bool, List, Option, Vec, String}
+use Rattle.std.specs.Prelude.{ℕ, List, Vec, String}
 use Rattle.std.specs.Option.{option_map}
 use Rattle.std.specs.BTreeMap.{BTreeMap, get_by_text}
 use Rattle.drive_base.specs.Files.{LooseFile, Named}

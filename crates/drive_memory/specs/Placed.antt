@@ -1,5 +1,5 @@
 -- What a `rename` puts in place.
-use Rattle.std.specs.Prelude.{◌≡◌, ℕ, List, length, replicate, Option, Some, None, Result, Ok, Err, ⊤, if◌then◌else◌}
+use Rattle.std.specs.Prelude.{◌≡◌, ℕ, List, length, replicate, Some, None, Result, Ok, Err, if◌then◌else◌}
 use Rattle.drive_base.specs.declared.fault.DriveFault.{DriveFault}
 use Rattle.drive_base.specs.declared.fault.DriveFault.TheVariants.{Absent, Failed, NoMemory}
 use Rattle.drive_base.specs.Files.{Files, LooseFile, with_loose, with_placed}

@@ -91,8 +91,9 @@ impl MemDrive {
     /// Counts a call that found no memory.
     fn count_starved(&mut self)
         ensures after { self.new ≡ record self.old {
-            faults = min (self.old.faults + 1) 18446744073709551615;
-            starved = min (self.old.starved + 1) 18446744073709551615 } }
+          faults = min (self.old.faults + 1) 18446744073709551615;
+          starved = min (self.old.starved + 1) 18446744073709551615;
+        } }
         ensures rose { Rose self.old.faults self.new.faults }
     {
         self.count_fault();

@@ -1,4 +1,4 @@
-use Rattle.std.proofs.Common.{◌≡◌, arith, map, string_bytes, inl, inr, sym, ◌∙◌}
+use Rattle.std.proofs.Common.{arith, map, string_bytes, inl, inr, sym, ◌∙◌}
 use Rattle.std.proofs.lemmas.List.{length-map}
 use Rattle.std.proofs.lemmas.Map.Iter.{rest_so_far}
 use Rattle.std.specs.Map.Iter.{deref}

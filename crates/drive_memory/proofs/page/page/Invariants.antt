@@ -7,5 +7,5 @@ use Rattle.drive_memory.proofs.page.page.Given as goal
 abbrev pub invariant-loop-name : goal.invariant-loop-name
 invariant-loop-name l = record {
   listed : map string_bytes l.names.items ≡ filter (is_listed l.from 1129) (map string_bytes (map deref l.yielded));
-  few : length l.names.items ≤ l.most
+  few : length l.names.items ≤ l.most;
 }

@@ -9,11 +9,13 @@ pub returns-then-self-clause-files : goal.returns-then-self-clause-files
 returns-then-self-clause-files c = AnyLoose-same (files_of c.args.self.now) (files_of c.count_fault.new.self) c.args.loose.now (ap files_of c.count_fault.ensures.after)
 
 pub returns-in_default-clause-files : goal.returns-in_default-clause-files
-returns-in_default-clause-files c =
-    (ap (option_map loose_file) (sym c.in_default.ensures.value),
-     ap (λ f. files_at (placed_files c.args.self.now.placed) (λ q. option_map loose_file (f q))) c.in_default.ensures.absent)
+returns-in_default-clause-files c = (
+  ap (option_map loose_file) (sym c.in_default.ensures.value),
+  ap (λ f. files_at (placed_files c.args.self.now.placed) (λ q. option_map loose_file (f q))) c.in_default.ensures.absent,
+)
 
 pub returns-clause-files : goal.returns-clause-files
-returns-clause-files c =
-    ((loose_file c.in-Some.field-0, ap (option_map loose_file) (sym c.in-Some.ensures.value)),
-     files-with_loose (placed_files c.args.self.now.placed) c.args.self.now.loose c.take.new.map c.args.loose.now None c.take.ensures.rest)
+returns-clause-files c = (
+  (loose_file c.in-Some.field-0, ap (option_map loose_file) (sym c.in-Some.ensures.value)),
+  files-with_loose (placed_files c.args.self.now.placed) c.args.self.now.loose c.take.new.map c.args.loose.now None c.take.ensures.rest,
+)

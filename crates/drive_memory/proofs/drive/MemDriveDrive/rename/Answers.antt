@@ -15,21 +15,24 @@ pub returns-then-self-clause-places : goal.returns-then-self-clause-places
 returns-then-self-clause-places c = AnyLoose-same (files_of c.args.self.now) (files_of c.count_fault.new.self) c.args.loose.now (ap files_of c.count_fault.ensures.after)
 
 pub returns-in_default-clause-files : goal.returns-in_default-clause-files
-returns-in_default-clause-files c =
-    (ap (option_map loose_file) (sym c.in_default.ensures.value),
-     ap (λ f. files_at (placed_files c.args.self.now.placed) (λ q. option_map loose_file (f q))) c.in_default.ensures.absent)
+returns-in_default-clause-files c = (
+  ap (option_map loose_file) (sym c.in_default.ensures.value),
+  ap (λ f. files_at (placed_files c.args.self.now.placed) (λ q. option_map loose_file (f q))) c.in_default.ensures.absent,
+)
 
 pub returns-in_default-clause-places : goal.returns-in_default-clause-places
 returns-in_default-clause-places c =
-     ap (λ f. files_at (placed_files c.args.self.now.placed) (λ q. option_map loose_file (f q))) c.in_default.ensures.absent
+    ap (λ f. files_at (placed_files c.args.self.now.placed) (λ q. option_map loose_file (f q))) c.in_default.ensures.absent
 
 -- the loose file is gone, and no named file was changed
 starved : (c : goal.After-count_starved) → AnyLoose (files_of c.args.self.now) c.args.loose.now (files_of c.count_starved.new.self)
 starved c =
-    let same = after_err c.put.result (sym c.is_err.ensures.value ∙ c.if-is_err.true) c.put.ensures.err in
-    (None, ap files_of c.count_starved.ensures.after
-        ∙ ap (λ f. files_at (λ (q : List ℕ). option_map (λ v. v.items) (f q)) (loose_files c.take.new.map)) same
-        ∙ files-with_loose (placed_files c.args.self.now.placed) c.args.self.now.loose c.take.new.map c.args.loose.now None c.take.ensures.rest)
+    let same = after_err c.put.result (sym c.is_err.ensures.value ∙ c.if-is_err.true) c.put.ensures.err in (
+      None,
+      ap files_of c.count_starved.ensures.after
+          ∙ ap (λ f. files_at (λ (q : List ℕ). option_map (λ v. v.items) (f q)) (loose_files c.take.new.map)) same
+          ∙ files-with_loose (placed_files c.args.self.now.placed) c.args.self.now.loose c.take.new.map c.args.loose.now None c.take.ensures.rest,
+    )
 
 pub returns-then-is_err-clause-files : goal.returns-then-is_err-clause-files
 returns-then-is_err-clause-files c = inl (starved c)
@@ -49,7 +52,7 @@ returns-clause-files c = record {
   was = ap (option_map loose_file) (sym c.in-Some.ensures.value);
   bytes = placed_bytes (loose_file c.in-Some.file);
   synced = placed_bytes-synced (loose_file c.in-Some.file);
-  is = renamed c
+  is = renamed c;
 }
 
 pub returns-clause-places : goal.returns-clause-places
