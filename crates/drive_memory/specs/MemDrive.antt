@@ -5,7 +5,7 @@ use Rattle.drive_memory.specs.Maps.{loose_files, placed_files}
 use Rattle.drive_memory.specs.declared.drive.MemDrive.{MemDrive}
 
 -- the files of the drive: what is in place is kept and shown
-abbrev pub files_of : MemDrive → Files
+unfoldable pub files_of : MemDrive → Files
 files_of drive = record { kept = placed_files drive.placed; shown = placed_files drive.placed; loose = loose_files drive.loose }
 
 -- how many calls failed

@@ -28,6 +28,7 @@ pub struct MemDrive {
     starved: u64,
 }
 
+#[tactic(auto, unfolding(crate::specs::MemDrive::files_of))]
 impl MemDrive {
     /// A drive without any file, which isn't lost, and has counted nothing. It takes no memory.
     pub fn new(alloc: Global) -> MemDrive
@@ -112,6 +113,7 @@ fn copy_from(bytes: &[u8], at: u64, into: &mut [u8]) -> usize
     count
 }
 
+#[tactic(auto, unfolding(crate::specs::MemDrive::files_of))]
 impl Drive for MemDrive {
     ghost tells = { λ _. true };
 
