@@ -16,6 +16,7 @@ use Rattle.drive_memory.specs.Maps.{loose_file, loose_files, placed_files}
 use Rattle.drive_memory.specs.declared.loose.Loose.{Loose}
 
 module _ {S T : Type 0} (view : S → T) where
+  -- the view of a choice
   option_map-cond : (b : Bool) (w v : Option S) → option_map view (cond b w v) ≡ cond b (option_map view w) (option_map view v)
   option_map-cond true w v = refl
   option_map-cond false w v = refl
@@ -38,10 +39,12 @@ pub get_by_text-updates : {X Y : Type 0} (m n : BTreeMap (String Y) X) (name : L
     → UpdatesBy string_cmp (λ k. slice_cmp nat_cmp name (string_bytes k)) m n w → get_by_text n ≡ with_name (get_by_text m) name w
 get_by_text-updates m n name w h = fun_ext (btree_map_updates_text name m n w h)
 
+-- the loose files after one key was changed
 pub loose_files-with : {Y : Type 0} (m n : BTreeMap (String Y) Loose) (name : List ℕ) (w : Option Loose)
     → get_by_text n ≡ with_name (get_by_text m) name w → loose_files n ≡ with_name (loose_files m) name (option_map loose_file w)
 loose_files-with m n name w e = ap (λ (f : Named Loose). λ (q : List ℕ). option_map loose_file (f q)) e ∙ view-with_name loose_file (get_by_text m) name w
 
+-- the placed files after one key was changed
 pub placed_files-with : {Y Z : Type 0} (m n : BTreeMap (String Y) (Vec ℕ Z)) (name : List ℕ) (w : Option (Vec ℕ Z))
     → get_by_text n ≡ with_name (get_by_text m) name w → placed_files n ≡ with_name (placed_files m) name (option_map (λ v. v.items) w)
 placed_files-with {Z = Z} m n name w e = ap (λ (f : Named (Vec ℕ Z)). λ (q : List ℕ). option_map (λ v. v.items) (f q)) e ∙ view-with_name (λ v. v.items) (get_by_text m) name w

@@ -30,6 +30,7 @@ module _ {K : Type 0} where
     | inr there ↦ inr there
   ]
 
+  -- the first element is there
   Contains-head : (x : K) (xs : List K) → Contains (x ∷ xs) x
   Contains-head x xs = Contains-append_left (x ∷ []) xs x (Contains-push [] x)
 
@@ -44,6 +45,7 @@ module _ {K : Type 0} where
       at false e (inl here) below = let same : p x ≡ p q = ap p here in absurd (cc)
       at false e (inr there) below = below there
 
+-- what holds of each element holds of each in the front
 recursion_front : {K : Type 0} (P : K → Type 0) (xs ys : List K) → AllByRecursion P (xs ++ ys) → AllByRecursion P xs
 recursion_front P [] ys h = tt
 recursion_front P (x ∷ xs) ys h = (h.0, recursion_front P xs ys h.1)
@@ -78,9 +80,11 @@ module _ {Y : Type 0} where
   abbrev finds : List ℕ → String Y → Bool
   finds name key = is_at (λ k. slice_cmp nat_cmp name (string_bytes k)) key
 
+  -- it finds the key of this text
   finds-is : (name : List ℕ) (key : String Y) → finds name key ≡ true → string_bytes key ≡ name
   finds-is name key e = sym ((bytes_eq-Decides name (string_bytes key)).0 (sym (is_eq-slice_cmp name (string_bytes key)) ∙ e))
 
+  -- and that alone
   is-finds : (name : List ℕ) (key : String Y) → string_bytes key ≡ name → finds name key ≡ true
   is-finds name key e = is_eq-slice_cmp name (string_bytes key) ∙ (bytes_eq-Decides name (string_bytes key)).1 (sym e)
 
@@ -111,14 +115,17 @@ IsSome-option_map : {A B : Type 0} (f : A → B) (o : Option A) → IsSome o →
 IsSome-option_map f (Some _) h = refl
 IsSome-option_map f None h = h
 
+-- and only there
 IsSome-from_option_map : {A B : Type 0} (f : A → B) (o : Option A) → IsSome (option_map f o) → IsSome o
 IsSome-from_option_map f (Some _) h = refl
 IsSome-from_option_map f None h = h
 
+-- both parts of an `&&`
 and_both : (a b : Bool) → (a && b) ≡ true → (a ≡ true) × (b ≡ true)
 and_both true b e = (refl, e)
 and_both false b e = absurd (cc)
 
+-- `is_ge` is the test for not `Less`
 ge_not_less : (r : Ordering) → is_ge r ≡ true → r ≢ Less
 ge_not_less Less e d = cc
 ge_not_less Equal e d = cc
@@ -130,11 +137,13 @@ ge_from_not_less Equal d = refl
 ge_from_not_less Greater d = refl
 
 module _ (from : List ℕ) (longest : ℕ) where
+  -- what a listed name is
   listed_is : (name : List ℕ) → is_listed from longest name ≡ true → (length name ≤ longest) × (byte_order name from ≢ Less)
   listed_is name e =
       let parts = and_both (nat_le (length name) longest) (is_ge (byte_order name from)) e in
       (leb-true (length name) longest parts.0, ge_not_less (byte_order name from) parts.1)
 
+  -- such a name is listed
   is_listed_from : (name : List ℕ) → length name ≤ longest → byte_order name from ≢ Less → is_listed from longest name ≡ true
   is_listed_from name short ge =
       ap (λ b. b && is_ge (byte_order name from)) (le-leb (length name) longest short) ∙ ge_from_not_less (byte_order name from) ge
@@ -144,6 +153,7 @@ module _ (from : List ℕ) (most longest : ℕ) (seen rest : List (List ℕ)) (s
   abbrev listed : List (List ℕ)
   listed = filter (is_listed from longest) seen
 
+  -- the listed of those seen are a page
   page_of_listed : length listed ≤ most → IsPage from most longest listed
   page_of_listed few = record {
     few = few;
@@ -152,10 +162,12 @@ module _ (from : List ℕ) (most longest : ℕ) (seen rest : List (List ℕ)) (s
     short = All-weaker (λ name. is_listed from longest name ≡ true) (λ name. length name ≤ longest) (λ name e. (listed_is from longest name e).0) listed (filter_passes (is_listed from longest) seen);
   }
 
+  -- where a name is left over, the page is full
   full_page : length listed ≤ most → (name : List ℕ) → Contains rest name → (rest ≡ []) ⊎ (most ≤ length listed) → length listed ≡ most
   full_page few name i (inl none) = let there : Contains [] name = subst (λ names. Contains names name) none i in absurd (omega (arith, there.1))
   full_page few name i (inr full) = omega arith
 
+  -- they are the first names that are shown
   shown_of_listed : (shown : Named (List ℕ)) → length listed ≤ most → (rest ≡ []) ⊎ (most ≤ length listed)
       → All (λ name. IsSome (shown name)) (seen ++ rest) → ((name : List ℕ) → IsSome (shown name) → Contains (seen ++ rest) name)
       → ListsShown shown from most longest listed
@@ -173,6 +185,7 @@ module _ {Y Z : Type 0} (m : BTreeMap (String Y) (Vec ℕ Z)) where
   each_there = All-weaker (Contains (map string_bytes (keys m))) (λ name. IsSome (placed_files m name))
       (λ name i. IsSome-option_map (λ v. v.items) (get_by_text m name) (lookup-from_Contains name m.entries i)) (map string_bytes (keys m)) (All-contains_itself (map string_bytes (keys m)))
 
+  -- a name that is there is the name of a key
   there_has : (name : List ℕ) → IsSome (placed_files m name) → Contains (map string_bytes (keys m)) name
   there_has name h = Contains-from_lookup name m.entries (IsSome-from_option_map (λ v. v.items) (get_by_text m name) h)
 
