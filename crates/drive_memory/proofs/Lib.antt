@@ -1,0 +1,4 @@
+pub mod FilesLemmas
+pub mod NameLemmas
+pub mod PageLemmas
+pub mod ResultLemmas
