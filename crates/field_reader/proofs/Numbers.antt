@@ -6,23 +6,12 @@ use Rattle.std.proofs.lemmas.List.{append-nil, take_at, drop_at, take-append-dro
 use Rattle.std.proofs.lemmas.Nat.{be_bytes_2, be_bytes_4, be_bytes_8, from_be_bytes-to_be_bytes_2, from_be_bytes-to_be_bytes_4, from_be_bytes-to_be_bytes_8}
 use Rattle.field_reader.specs.Format.{Spot, Found, done, field, number, short_text}
 use Rattle.field_reader.specs.Spelling.{IsBytes, number_bytes, short_text_bytes}
-use Rattle.field_reader.proofs.Parts.{spot, Spans, IsSpelled, Then, then_spelled, Done, done_spelled, told_spelled}
-
-pub IsBytes-drop : (n : ℕ) (bytes : List ℕ) → IsBytes bytes → IsBytes (drop n bytes)
-IsBytes-drop n bytes h i = rw get_or-drop (h (n + i))
-
-pub IsBytes-take : (n : ℕ) (bytes : List ℕ) → IsBytes bytes → IsBytes (take n bytes)
-IsBytes-take n bytes h i =
-    elim (cases_lt i n) [
-      | inl lt ↦ rw (get_or-take n bytes i 0 lt) (h i)
-      | inr le ↦ rw (get_or_past (take n bytes) i 0 (omega (arith, length-take n bytes))) (omega arith)
-    ]
+use Rattle.field_reader.proofs.Parts.{IsBytes-drop, IsBytes-take, spot, Spans, IsSpelled, Then, then_spelled, Done, done_spelled, told_spelled}
 
 -- so many bytes, as they are
 pub record Plain (size : ℕ) (value text : List ℕ) : Type 0 where
   pub is : text ≡ value
   pub sized : length value ≡ size
-  pub bytes : IsBytes value
 
 -- a test that did not fail
 abbrev chosen : {A : Type 0} → Bool → ℕ → A × Spot → Found A
@@ -43,7 +32,7 @@ field_spelled size = record {
       let P : List ℕ × Spot → Type 0 = λ x. Spans (Plain size) from x.0 x.1 in
       let here : P made = record {
         text = take size from.left;
-        spells = record { is = refl; sized = sized; bytes = IsBytes-take size from.left bytes };
+        spells = record { is = refl; sized = sized };
         parts = sym (take-append-drop size from.left);
         place = ap (λ (n : ℕ). from.at + n) (sym sized);
         bytes = IsBytes-drop size from.left bytes;
@@ -57,16 +46,6 @@ field_spelled size = record {
       let place : at + size ≡ at + length text = omega (arith, sized) in
       rw (enough, front, behind, place) refl;
 }
-
-byte_below : (k n : ℕ) → byte_at k n < 256
-byte_below zero n = omega arith
-byte_below (suc k) n = omega arith
-
--- a number's bytes are bytes
-bytes_below : (k n : ℕ) → IsBytes (bytes_high_first k n)
-bytes_below zero n place = omega arith
-bytes_below (suc k) n zero = byte_below k n
-bytes_below (suc k) n (suc place) = bytes_below k n place
 
 -- what is known of a width
 record IsWide (w : Width) (limit : ℕ) : Type 0 where
@@ -123,18 +102,19 @@ number_spelled w limit wide =
     let First : List ℕ → List ℕ → Type 0 = Plain (byte_len w) in
     let Rest : List ℕ → ℕ → List ℕ → Type 0 = λ bytes. Done (from_be_bytes w bytes) in
     let both = then_spelled (field (byte_len w)) (λ bytes. done (from_be_bytes w bytes)) First Rest (field_spelled (byte_len w)) (λ bytes. done_spelled (from_be_bytes w bytes)) in
-    let into : (n : ℕ) (text : List ℕ) → Then First Rest n text → Numbered w limit n text = λ n text t.
+    let into : (n : ℕ) (text : List ℕ) → IsBytes text → Then First Rest n text → Numbered w limit n text = λ n text fits t.
     let bytes : text ≡ t.first = t.whole ∙ ap (λ (x : List ℕ). t.front ++ x) t.is_rest.nothing ∙ append-nil t.front ∙ t.is_first.is in
-    let back : to_be_bytes w (from_be_bytes w t.first) ≡ t.first = wide.back t.first t.is_first.sized t.is_first.bytes in
+    let first_fits : IsBytes t.first = subst (λ (x : List ℕ). IsBytes x) bytes fits in
+      let back : to_be_bytes w (from_be_bytes w t.first) ≡ t.first = wide.back t.first t.is_first.sized first_fits in
     record {
       is = bytes ∙ sym back ∙ ap (λ (x : ℕ). to_be_bytes w x) (sym t.is_rest.is);
-      below = subst (λ (x : ℕ). x < limit) (sym t.is_rest.is) (wide.below t.first t.is_first.bytes);
+      below = subst (λ (x : ℕ). x < limit) (sym t.is_rest.is) (wide.below t.first first_fits);
     } in
     let out_of : (n : ℕ) (text : List ℕ) → Numbered w limit n text → Then First Rest n text = λ n text m. record {
       first = to_be_bytes w n;
       front = to_be_bytes w n;
       back = [];
-      is_first = record { is = refl; sized = wide.len n; bytes = bytes_below (byte_len w) n };
+      is_first = record { is = refl; sized = wide.len n };
       is_rest = record { is = sym (wide.again n m.below); nothing = refl };
       whole = m.is ∙ sym (append-nil (to_be_bytes w n));
     } in
@@ -156,7 +136,6 @@ u64_spelled = number_spelled w64 (2 ^ 64) wide64
 pub record Short (value text : List ℕ) : Type 0 where
   pub is : text ≡ short_text_bytes value
   pub sized : length value ≤ 255
-  pub bytes : IsBytes value
 
 pub short_text_spelled : IsSpelled short_text Short
 unfolding short_text
@@ -164,17 +143,16 @@ short_text_spelled =
     let First : ℕ → List ℕ → Type 0 = Numbered w8 (2 ^ 8) in
     let Rest : ℕ → List ℕ → List ℕ → Type 0 = Plain in
     let both = then_spelled (number w8) field First Rest u8_spelled field_spelled in
-    let into : (value text : List ℕ) → Then First Rest value text → Short value text = λ value text t. record {
+    let into : (value text : List ℕ) → IsBytes text → Then First Rest value text → Short value text = λ value text fits t. record {
       is = t.whole ∙ ap (λ (x : List ℕ). x ++ t.back) (t.is_first.is ∙ ap (λ (n : ℕ). number_bytes w8 n) (sym t.is_rest.sized)) ∙ ap (λ (x : List ℕ). number_bytes w8 (length value) ++ x) t.is_rest.is;
       sized = omega (arith, t.is_rest.sized, t.is_first.below);
-      bytes = t.is_rest.bytes;
     } in
     let out_of : (value text : List ℕ) → Short value text → Then First Rest value text = λ value text m. record {
       first = length value;
       front = number_bytes w8 (length value);
       back = value;
       is_first = record { is = refl; below = omega (arith, m.sized) };
-      is_rest = record { is = refl; sized = refl; bytes = m.bytes };
+      is_rest = record { is = refl; sized = refl };
       whole = m.is;
     } in
     told_spelled short_text (Then First Rest) Short into out_of both

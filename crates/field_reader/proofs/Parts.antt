@@ -1,11 +1,26 @@
 -- That a format takes spellings alone, and how this follows for a format from its parts.
-use Rattle.std.proofs.Common.{◌≡◌, ℕ, ◌+◌, Bool, true, false, cond, List, [], ◌++◌, length, Ok, Err, refl, sym, ap, subst, ◌∙◌, append_assoc, arith}
-use Rattle.std.proofs.lemmas.List.{length-append}
+use Rattle.std.proofs.Common.{◌≡◌, ℕ, ◌+◌, ◌<◌, Bool, true, false, cond, List, [], ◌∷◌, ◌++◌, length, get_or, take, drop, Result, Ok, Err, refl, sym, ap, subst, ◌∙◌, append_assoc, arith, inl, inr}
+use Rattle.std.proofs.lemmas.List.{take_at, length-append, length-take, get_or-drop, get_or-take, get_or_past}
+use Rattle.std.proofs.lemmas.Bool.{cases_lt}
 use Rattle.field_reader.specs.Format.{Spot, Found, Format, and_then, ◌>>=◌, done, kept, with_rule}
 use Rattle.field_reader.specs.Spelling.{IsBytes}
 
 abbrev pub spot : ℕ → List ℕ → Spot
 spot at left = record { at = at; left = left }
+
+pub IsBytes-drop : (n : ℕ) (bytes : List ℕ) → IsBytes bytes → IsBytes (drop n bytes)
+IsBytes-drop n bytes h i = rw get_or-drop (h (n + i))
+
+pub IsBytes-take : (n : ℕ) (bytes : List ℕ) → IsBytes bytes → IsBytes (take n bytes)
+IsBytes-take n bytes h i =
+    elim (cases_lt i n) [
+      | inl lt ↦ rw (get_or-take n bytes i 0 lt) (h i)
+      | inr le ↦ rw (get_or_past (take n bytes) i 0 (omega (arith, length-take n bytes))) (omega arith)
+    ]
+
+-- the front of bytes
+pub IsBytes-front : (front back bytes : List ℕ) → bytes ≡ front ++ back → IsBytes bytes → IsBytes front
+IsBytes-front front back bytes e h = subst (λ (x : List ℕ). IsBytes x) (ap (λ (x : List ℕ). take (length front) x) e ∙ take_at front back (length front) refl) (IsBytes-take (length front) bytes h)
 
 -- from the first spot to the second stands a text that spells the value
 pub record Spans {A : Type 0} (Spells : A → List ℕ → Type 0) (from : Spot) (value : A) (to : Spot) : Type 0 where
@@ -106,11 +121,12 @@ rule_spelled {A} rule part Spells one = record {
   again = λ value text rest at r. rw (one.again value text rest at r.spells, r.keeps) refl;
 }
 
--- the same format, its spellings told in other words
-pub told_spelled : {A : Type 0} (part : Format A) (Old New : A → List ℕ → Type 0) → ((a : A) (text : List ℕ) → Old a text → New a text) → ((a : A) (text : List ℕ) → New a text → Old a text) → IsSpelled part Old → IsSpelled part New
+-- The same format, its spellings told in other words. A text that it takes is made of bytes.
+pub told_spelled : {A : Type 0} (part : Format A) (Old New : A → List ℕ → Type 0) → ((a : A) (text : List ℕ) → IsBytes text → Old a text → New a text)
+    → ((a : A) (text : List ℕ) → New a text → Old a text) → IsSpelled part Old → IsSpelled part New
 told_spelled part Old New into back one = record {
   takes = λ from value to bytes e.
-      let a = one.takes from value to bytes e in
-      record { text = a.text; spells = into value a.text a.spells; parts = a.parts; place = a.place; bytes = a.bytes };
+    let a = one.takes from value to bytes e in
+    record { text = a.text; spells = into value a.text (IsBytes-front a.text to.left from.left a.parts bytes) a.spells; parts = a.parts; place = a.place; bytes = a.bytes };
   again = λ value text rest at s. one.again value text rest at (back value text s);
 }

@@ -5,6 +5,7 @@ use Rattle.field_reader.specs.declared.fault.ReadFault.{ReadFault}
 use Rattle.field_reader.specs.declared.fault.ReadFault.TheVariants.{At, NoMemory}
 use Rattle.field_reader.specs.Format.{Spot, Found, Format, and_then, ◌>>=◌, done, series}
 use Rattle.field_reader.specs.Reading.{Gives}
+use Rattle.field_reader.specs.Spelling.{IsBytes}
 use Rattle.field_reader.proofs.Parts.{IsSpelled, Then, then_spelled, Done, done_spelled, told_spelled}
 
 -- the texts of a list of parts, each after those before it
@@ -21,7 +22,7 @@ pub series_spelled : {A : Type 0} (part : List A → Format A) (Spells : List A 
     → (count : ℕ) (before : List A) → IsSpelled (series count part before) (Counted Spells count before)
 unfolding series
 series_spelled {A} part Spells one zero before =
-    let into : (values : List A) (text : List ℕ) → Done [] values text → Counted Spells 0 before values text = λ values text d.
+    let into : (values : List A) (text : List ℕ) → IsBytes text → Done [] values text → Counted Spells 0 before values text = λ values text fits d.
     subst (λ (v : List A). Counted Spells 0 before v text) (sym d.is) (record { counted = refl; each = d.nothing }) in
     let out_of : (values : List A) (text : List ℕ) → Counted Spells 0 before values text → Done [] values text = none before in
     told_spelled (done []) (Done []) (Counted Spells 0 before) into out_of (done_spelled [])
@@ -36,8 +37,8 @@ series_spelled {A} part Spells one (suc count) before =
     (series_spelled part Spells one count (before ++ first ∷ [])) (λ others. done_spelled (first ∷ others))) in
     told_spelled (series (suc count) part before) (Then (Spells before) Rest) (Counted Spells (suc count) before) (into before) (out_of before) both
   where
-    into : (before values : List A) (text : List ℕ) → Then (Spells before) (λ first. Then (Counted Spells count (before ++ first ∷ [])) (λ others. Done (first ∷ others))) values text → Counted Spells (suc count) before values text
-    into before values text t =
+    into : (before values : List A) (text : List ℕ) → IsBytes text → Then (Spells before) (λ first. Then (Counted Spells count (before ++ first ∷ [])) (λ others. Done (first ∷ others))) values text → Counted Spells (suc count) before values text
+    into before values text fits t =
         let u = t.is_rest in
         let P : List A → Type 0 = λ v. Counted Spells (suc count) before v text in
         let all : text ≡ t.front ++ u.front = t.whole ∙ ap (λ (x : List ℕ). t.front ++ x) (u.whole ∙ ap (λ (x : List ℕ). u.front ++ x) u.is_rest.nothing ∙ append-nil u.front) in

@@ -1,0 +1,10 @@
+//! The versions and open uploads of one key: the state that its registers hold.
+//!
+//! The crate stands on `stamp_id`, `seal_file`, `call_types` and `field_reader`. Each canonical state has one spelling
+//! as bytes: `write` gives it, and `read` accepts spellings alone and answers the state that a content spells, or the
+//! place of its first fault.
+#![tactic(auto)]
+
+mod state;
+
+pub use state::{KeyState, MOMENT_LIMIT, MOST_KIND_BYTES, MOST_UPLOADS, MOST_VERSIONS};
