@@ -1,28 +1,75 @@
 //! What can be wrong with a stored file.
 
+ghost use Rattle.std.specs.Prelude.{◌≡◌};
+
+use stamp_id::NoMemory;
+use std::alloc::{AllocError, AllocFailed};
+
 /// What is wrong with the bytes of a sealed file.
 #[derive(Clone, Copy, Debug, PartialEq, Eq)]
 pub enum Damage {
-    /// The file has this many bytes, which is fewer than 36.
+    /// The file has so many bytes, fewer than the 36 of a kind and a digest.
     Short(u64),
-    /// The digest that ends the file is not the SHA-256 of what stands before it.
+    /// The last 32 bytes, `stored`, are not the SHA-256 of the bytes before them, `computed`.
     Digest {
         stored: [u8; 32],
         computed: [u8; 32],
     },
-    /// The file is of this other kind.
+    /// The digest is right, and the file begins with this kind, which is another one.
     Kind([u8; 4]),
-    /// The body is no spelling of a record, from this byte on. No `unseal` gives it: readers of bodies do.
+    /// The body is no spelling of a record: it leaves the grammar at this byte. Readers of bodies say so,
+    /// and `unseal` never does.
     Spelling(u64),
 }
 
-/// Why a file could not be read.
+/// Why no record was read from a file.
 #[derive(Clone, Copy, Debug, PartialEq, Eq)]
 pub enum FileRead {
     /// The file is damaged.
     Unsealed(Damage),
-    /// The body is spelled in a form that no writer gives, at this byte.
+    /// The body spells a record, but in a form that no writer gives: the byte where that form begins.
     NotCanonical(u64),
     /// There was not enough memory.
     NoMemory,
+}
+
+impl From<Damage> for FileRead {
+    ghost use Rattle.std.specs.Prelude.{◌≡◌};
+    ghost use Rattle.seal_file.specs.declared.damage.FileRead.TheVariants.{Unsealed};
+
+    ghost from_gives = { λ damage error. error ≡ Unsealed damage };
+
+    fn from(damage: Damage) -> FileRead {
+        FileRead::Unsealed(damage)
+    }
+}
+
+impl From<NoMemory> for FileRead {
+    ghost use Rattle.seal_file.specs.declared.damage.FileRead.TheVariants as file_read;
+
+    ghost from_gives = { λ _ error. error ≡ file_read.NoMemory };
+
+    fn from(_error: NoMemory) -> FileRead {
+        FileRead::NoMemory
+    }
+}
+
+impl From<AllocError> for FileRead {
+    ghost use Rattle.seal_file.specs.declared.damage.FileRead.TheVariants as file_read;
+
+    ghost from_gives = { λ _ error. error ≡ file_read.NoMemory };
+
+    fn from(_error: AllocError) -> FileRead {
+        FileRead::NoMemory
+    }
+}
+
+impl<T: Drop> From<AllocFailed<T>> for FileRead {
+    ghost use Rattle.seal_file.specs.declared.damage.FileRead.TheVariants as file_read;
+
+    ghost from_gives = { λ _ error. error ≡ file_read.NoMemory };
+
+    fn from(_refused: AllocFailed<T>) -> FileRead {
+        FileRead::NoMemory
+    }
 }

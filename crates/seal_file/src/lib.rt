@@ -1,8 +1,23 @@
-//! Sealed files: a kind, a body and the SHA-256 of both, and the owned byte strings that records hold.
+//! Sealed files, and the owned bytes that the records in them hold.
+//!
+//! A sealed file is a kind of four bytes, a body, and the SHA-256 (FIPS 180-4) of kind and body together.
+//! [`seal`] makes one, and [`unseal`] gives the body or says which damage comes first. [`Text`] and
+//! [`Bytes`] are bytes that a record owns: a contract sees each as the list of its bytes.
+//!
+//! The crate stands on `sha2` for the digest and on `stamp_id` for its error. It promises that exactly
+//! the bytes that `seal` gives for a kind and a body are opened as that body, that each damage is named
+//! where it stands and nowhere else, and that one file has one body.
 #![tactic(auto)]
 
-mod contents;
 mod damage;
+mod octets;
+mod sealing;
+mod texts;
 
-pub use contents::{Bytes, Text};
 pub use damage::{Damage, FileRead};
+pub use octets::Bytes;
+pub use sealing::{seal, sealing_laws, unseal};
+pub use texts::Text;
+
+#[cfg(test)]
+mod tests;

@@ -1,12 +1,13 @@
 -- Ids are one to one with their bytes and with their text.
-use Rattle.std.proofs.Common.{All, Some, Option, unwrap_or, [], inl, ◌≡◌, ℕ, ◌^◌, ◌<◌, ◌≤◌, List, ◌++◌, refl, sym, ap, ◌∙◌, arith}
+use Rattle.std.proofs.Common.{All, length, Some, Option, unwrap_or, [], inl, ◌≡◌, ℕ, ◌^◌, ◌<◌, ◌≤◌, List, ◌++◌, refl, sym, ap, ◌∙◌, arith}
 use Rattle.std.specs.Int.{w64, to_be_bytes}
 use Rattle.std.proofs.lemmas.List.Elements.{All-append}
 use Rattle.std.proofs.lemmas.Nat.{from_be_bytes-to_be_bytes_8}
 use Rattle.std.proofs.lemmas.Grind.{common_steps}
 use Rattle.uuid.specs.Text.{lower, parsed}
 use Rattle.uuid.proofs.RoundTrips.{parses_hyphenated}
-use Rattle.stamp_id.specs.Layout.{high_word_of, low_word_of, high_word, low_word}
+use Rattle.uuid.proofs.TextLemmas.{by_index_length}
+use Rattle.stamp_id.specs.Layout.{AreIdWords, IsId, high_word_of, low_word_of, high_word, low_word}
 use Rattle.stamp_id.specs.VersionId.{id_bytes, id_text}
 use Rattle.stamp_id.specs.declared.stamp.Ballot.{Ballot}
 use Rattle.stamp_id.specs.declared.version.VersionId.{VersionId}
@@ -40,38 +41,55 @@ id_by_parts v w change slot = λ i. record {
   seq_counts = is_prop→PathP (λ j. 1 ≤ (change j).0.seq) (λ j. le_prop) v.seq_counts w.seq_counts i;
 }
 
--- ids with the same bytes are the same
-pub id_bytes-injective : (v w : VersionId) → id_bytes v ≡ id_bytes w → v ≡ w
-id_bytes-injective v w same =
-    let fits_v = v.change.0.term_fits in
-    let fits_w = w.change.0.term_fits in
-    let seq_v = v.change.0.seq_fits in
-    let seq_w = w.change.0.seq_fits in
-    let slot_v = v.slot_fits in
-    let slot_w = w.slot_fits in
-    let high : high_word_of v.change.0.term v.slot ≡ high_word_of w.change.0.term w.slot =
-    sym (high_word-bytes _ (low_word_of v.change.0.seq) (omega arith)) ∙ ap high_word same
-    ∙ high_word-bytes _ (low_word_of w.change.0.seq) (omega arith) in
-    let low : low_word_of v.change.0.seq ≡ low_word_of w.change.0.seq =
-    sym (low_word-bytes (high_word_of v.change.0.term v.slot) _ (omega arith)) ∙ ap low_word same
-    ∙ low_word-bytes (high_word_of w.change.0.term w.slot) _ (omega arith) in
-    let term : v.change.0.term ≡ w.change.0.term = omega arith in
-    let seq : v.change.0.seq ≡ w.change.0.seq = omega arith in
-    let ballot = ballot_by_parts v.change.0 w.change.0 term seq in
-    let change : v.change ≡ w.change = λ i. record { 0 = ballot i } in
-    id_by_parts v w change (omega arith)
+-- an id has sixteen bytes
+pub length-id_bytes : (v : VersionId) → length (id_bytes v) ≡ 16
+unfolding id_bytes
+length-id_bytes v = refl
 
 -- the words of an id's bytes
 pub high_word-id_bytes : (v : VersionId) → high_word (id_bytes v) ≡ high_word_of v.change.0.term v.slot
+unfolding id_bytes
 high_word-id_bytes v =
     let fits = v.change.0.term_fits in
     let slot = v.slot_fits in
     high_word-bytes _ (low_word_of v.change.0.seq) (omega arith)
 
 pub low_word-id_bytes : (v : VersionId) → low_word (id_bytes v) ≡ low_word_of v.change.0.seq
+unfolding id_bytes
 low_word-id_bytes v =
     let fits = v.change.0.seq_fits in
     low_word-bytes (high_word_of v.change.0.term v.slot) _ (omega arith)
+
+-- the bytes of an id are in its layout
+pub IsId-id_bytes : (v : VersionId) → IsId (id_bytes v)
+IsId-id_bytes v =
+    let slot_fits = v.slot_fits in
+    let term_counts = v.term_counts in
+    let seq_counts = v.seq_counts in
+    let seq_fits = v.change.0.seq_fits in
+    let high = high_word-id_bytes v in
+    let low = low_word-id_bytes v in
+    let words : AreIdWords (high_word (id_bytes v)) (low_word (id_bytes v)) = rw (high, low) record {
+      version = omega arith;
+      variant = omega arith;
+      slot = omega arith;
+      term = omega arith;
+      seq = omega arith;
+    } in
+    (length-id_bytes v, words)
+
+-- ids with the same bytes are the same
+pub id_bytes-injective : (v w : VersionId) → id_bytes v ≡ id_bytes w → v ≡ w
+id_bytes-injective v w same =
+    let slot_v = v.slot_fits in
+    let slot_w = w.slot_fits in
+    let high = sym (high_word-id_bytes v) ∙ ap high_word same ∙ high_word-id_bytes w in
+    let low = sym (low_word-id_bytes v) ∙ ap low_word same ∙ low_word-id_bytes w in
+    let term : v.change.0.term ≡ w.change.0.term = omega arith in
+    let seq : v.change.0.seq ≡ w.change.0.seq = omega arith in
+    let ballot = ballot_by_parts v.change.0 w.change.0 term seq in
+    let change : v.change ≡ w.change = λ i. record { 0 = ballot i } in
+    id_by_parts v w change (omega arith)
 
 -- each byte of a number fits
 bytes-fit : (n : ℕ) → All (λ b. b < 256) (to_be_bytes w64 n)
@@ -79,13 +97,20 @@ bytes-fit n = grind (arith, common_steps)
 
 -- each byte of an id fits
 pub id_bytes-fit : (v : VersionId) → All (λ b. b < 256) (id_bytes v)
+unfolding id_bytes
 id_bytes-fit v =
     All-append (λ b. b < 256) (to_be_bytes w64 (high_word_of v.change.0.term v.slot)) (to_be_bytes w64 (low_word_of v.change.0.seq))
     (bytes-fit _) (bytes-fit _)
 
+-- a text has 36 bytes
+pub length-id_text : (v : VersionId) → length (id_text v) ≡ 36
+unfolding id_text
+length-id_text v = by_index_length 36 _
+
 -- the text of an id is read as its bytes
 pub parsed-id_text : (v : VersionId) → Some (id_bytes v) ≡ parsed (id_text v)
-parsed-id_text v = parses_hyphenated lower (id_bytes v) (inl refl) refl (id_bytes-fit v)
+unfolding id_text
+parsed-id_text v = parses_hyphenated lower (id_bytes v) (inl refl) (length-id_bytes v) (id_bytes-fit v)
 
 -- ids with the same text are the same
 pub id_text-injective : (v w : VersionId) → id_text v ≡ id_text w → v ≡ w

@@ -5,11 +5,11 @@ use Rattle.stamp_id.specs.Layout.{bytes_of}
 use Rattle.stamp_id.specs.declared.version.VersionId.{VersionId}
 
 -- the sixteen bytes of an id
-abbrev pub id_bytes : VersionId → List ℕ
+unfoldable pub id_bytes : VersionId → List ℕ
 id_bytes v = bytes_of v.change.0.term v.slot v.change.0.seq
 
 -- the text of an id: its bytes as 8-4-4-4-12 lower-case hex digits
-abbrev pub id_text : VersionId → List ℕ
+unfoldable pub id_text : VersionId → List ℕ
 id_text v = hyphenated_text lower (id_bytes v)
 
 -- ids with the same bytes are the same

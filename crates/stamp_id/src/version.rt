@@ -36,6 +36,7 @@ impl VersionId {
 
     /// The sixteen bytes: a UUID of version 8 (RFC 9562, section 5.8) whose custom_a is the term, whose
     /// custom_b is the slot and whose custom_c is the sequence number.
+    #[tactic(auto, unfolding(crate::specs::VersionId::id_bytes))]
     pub fn bytes(&self) -> [u8; 16]
         ensures { result ≡ id_bytes self.now }
     {
@@ -46,6 +47,7 @@ impl VersionId {
 
     /// The id with these bytes. Bytes are those of an id exactly where the version is 8, the variant 10,
     /// the slot below 64, and the term and the sequence number at least 1; else the answer is `NotAnId`.
+    #[tactic(auto, unfolding(crate::specs::VersionId::id_bytes))]
     pub fn from_bytes(bytes: [u8; 16]) -> Result<VersionId, NotAnId>
         ensures ok { IfOk result (λ v. bytes ≡ id_bytes v) }
         ensures reads { (v : VersionId) → bytes ≡ id_bytes v → result ≡ Ok v }

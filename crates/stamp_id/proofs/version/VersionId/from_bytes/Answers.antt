@@ -1,10 +1,12 @@
 use Rattle.std.proofs.Common.{◌≡◌, ◌++◌, ap, ap₂, sym, ◌∙◌, Ok, arith}
 use Rattle.std.specs.Int.{w64, to_be_bytes}
 use Rattle.stamp_id.specs.Layout.{high_word_of, low_word_of}
+use Rattle.stamp_id.specs.VersionId.{id_bytes}
 use Rattle.stamp_id.proofs.IdLemmas.{id_bytes-injective}
 use Rattle.stamp_id.proofs.version.VersionId.from_bytes.Goals as goal
 
 pub returns-clause-ok : goal.returns-clause-ok
+unfolding id_bytes
 returns-clause-ok c =
     let words = c.from_bytes-high.result in
     let id = c.from_parts.result in

@@ -22,6 +22,7 @@ returns-in-Err-clause-reads c = λ v same.
 
 -- and writes it again as it was
 pub returns-then-ne-clause-reads : goal.returns-then-ne-clause-reads
+unfolding id_text
 returns-then-ne-clause-reads c = λ v same.
     let text = c.args.text.now in
     let canonical = c.encode_lower-canonical.result.now in
@@ -35,6 +36,7 @@ returns-then-ne-clause-reads c = λ v same.
 
 -- a text that is written again as it was is its bytes' text
 pub returns-clause-ok : goal.returns-clause-ok
+unfolding id_text
 returns-clause-ok c =
     let text = c.args.text.now in
     let canonical = c.encode_lower-canonical.result.now in
