@@ -16,7 +16,5 @@ pub use refusal::{KeyRefusal, ListRead, Refusal};
 pub use reply::{
     BucketRow, BucketRows, PageCut, PageRow, PageRows, Reply, VersionRow, VersionRows,
 };
-pub use version::{
-    PartRecord, PartRef, PartRefs, Upload, Uploads, Version, Versions, What, copy_text,
-};
+pub use version::{PartRecord, PartRef, PartRefs, Upload, Uploads, Version, Versions, What};
 pub use why::{FileKind, MOST_DRIVES, Why, Whys};

@@ -38,7 +38,7 @@ pub enum KeyRefusal {
 
 /// Why a call is refused. Each has its S3 error code; those of `BadHead`, `HeadTooLong`, `VersionLimit` and
 /// `UploadLimit` are this project's own.
-#[derive(Debug, Drop)]
+#[derive(Clone, Debug, PartialEq, Eq, Drop)]
 pub enum Refusal {
     /// The request head is malformed.
     BadHead,

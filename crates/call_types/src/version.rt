@@ -1,15 +1,15 @@
 //! Versions, uploads and parts as a key's registers hold them.
 
-ghost use Rattle.std.specs.Prelude.{◌≡◌, IfOk};
+ghost use Rattle.std.specs.Prelude.{◌≡◌};
 
 use crate::list::Listing;
 use crate::names::VersionName;
 use seal_file::Text;
-use stamp_id::{NoMemory, VersionId};
-use std::alloc::Global;
+use stamp_id::VersionId;
+use std::alloc::AllocError;
 
 /// A version of a key.
-#[derive(Debug, Drop)]
+#[derive(Debug, PartialEq, Eq, Drop)]
 pub struct Version {
     /// Its name.
     pub id: VersionName,
@@ -20,7 +20,7 @@ pub struct Version {
 }
 
 /// What a version is.
-#[derive(Debug, Drop)]
+#[derive(Clone, Debug, PartialEq, Eq, Drop)]
 pub enum What {
     /// A delete marker.
     Marker,
@@ -44,7 +44,7 @@ pub enum What {
 }
 
 /// An open multipart upload.
-#[derive(Debug, Drop)]
+#[derive(Debug, PartialEq, Eq, Drop)]
 pub struct Upload {
     /// Its id.
     pub id: VersionId,
@@ -87,12 +87,12 @@ pub type Uploads = Listing<Upload>;
 /// The parts that a Complete lists, in its order.
 pub type PartRefs = Listing<PartRef>;
 
-impl Version {
-    /// A copy.
-    pub fn try_clone(&self, alloc: Global) -> Result<Version, NoMemory>
-        ensures { IfOk result (λ copy. copy ≡ self.now) }
-    {
-        let what = self.what.try_clone(alloc)?;
+/// The clone of a version is the same version.
+impl Clone for Version {
+    ghost is_clone = { λ version copy. copy ≡ version };
+
+    fn clone(&self) -> Result<Version, AllocError> {
+        let what = self.what.clone()?;
         Ok(Version {
             id: self.id,
             modified: self.modified,
@@ -101,55 +101,16 @@ impl Version {
     }
 }
 
-impl What {
-    /// A copy.
-    pub fn try_clone(&self, alloc: Global) -> Result<What, NoMemory>
-        ensures { IfOk result (λ copy. copy ≡ self.now) }
-    {
-        match self {
-            What::Marker => Ok(What::Marker),
-            What::Object {
-                data_id,
-                print,
-                length,
-                md5,
-                parts,
-                upload,
-                kind,
-            } => {
-                let kind = copy_text(alloc, kind)?;
-                Ok(What::Object {
-                    data_id: *data_id,
-                    print: *print,
-                    length: *length,
-                    md5: *md5,
-                    parts: *parts,
-                    upload: *upload,
-                    kind,
-                })
-            }
-        }
-    }
-}
+/// The clone of an upload is the same upload.
+impl Clone for Upload {
+    ghost is_clone = { λ upload copy. copy ≡ upload };
 
-impl Upload {
-    /// A copy.
-    pub fn try_clone(&self, alloc: Global) -> Result<Upload, NoMemory>
-        ensures { IfOk result (λ copy. copy ≡ self.now) }
-    {
-        let kind = copy_text(alloc, &self.kind)?;
+    fn clone(&self) -> Result<Upload, AllocError> {
+        let kind = self.kind.clone()?;
         Ok(Upload {
             id: self.id,
             opened: self.opened,
             kind,
         })
     }
-}
-
-/// A copy of a text.
-pub fn copy_text(alloc: Global, text: &Text) -> Result<Text, NoMemory>
-    ensures { IfOk result (λ copy. copy ≡ text.now) }
-{
-    let bytes = Vec::from_slice(alloc, text.as_slice())?;
-    Ok(Text::from_vec(bytes))
 }
