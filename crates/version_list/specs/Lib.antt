@@ -1,1 +1,6 @@
+pub mod Answers
+pub mod Gone
+pub mod Naming
+pub mod Reads
 pub mod State
+pub mod Step

@@ -5,6 +5,17 @@
 //! place of its first fault.
 #![tactic(auto)]
 
+mod change;
+mod edit;
+mod gone;
+mod outcome;
+mod reads;
+mod same;
 mod state;
+mod step;
+mod uploads;
 
+pub use outcome::{ActFault, Applied};
+pub use reads::find;
 pub use state::{KeyState, MOMENT_LIMIT, MOST_KIND_BYTES, MOST_UPLOADS, MOST_VERSIONS};
+pub use step::apply;
