@@ -1,5 +1,8 @@
 pub mod AnswerLemmas
+pub mod CanonicalLemmas
 pub mod GoneLemmas
 pub mod KeptLemmas
 pub mod LeavesLemmas
 pub mod NamingLemmas
+pub mod StepLemmas
+pub mod SubLemmas

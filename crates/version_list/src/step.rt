@@ -1,9 +1,11 @@
 //! One step of a key.
 
-ghost use Rattle.std.specs.Prelude.{◌≡◌, ◌<◌, ◌≤◌, ◌⊎◌, true, Some, None, IsSome, IsNone, find, length};
+ghost use Rattle.std.specs.Prelude.{◌≡◌, ◌<◌, ◌≤◌, ◌⊎◌, true, false, IfOk, OnOk, IfSome, Some, None, IsSome, IsNone, find, length};
 ghost use Rattle.version_list.specs.Answers.{Answers};
+ghost use Rattle.version_list.specs.Lawful.{IsLawful, IsSized, AreSized};
+ghost use Rattle.version_list.specs.State.{IsCanonical, IsMoment};
 ghost use Rattle.version_list.specs.Step.{Step, AddsMarker, AddsVersion, RemovesVersion, Deletes, Does, OpensUpload, WithUpload, replaced, told};
-ghost use Rattle.version_list.specs.Naming.{is_named, is_upload, still_open};
+ghost use Rattle.version_list.specs.Naming.{has_id, is_named, is_upload, still_open};
 
 use crate::change::{add_version, close_upload, complete_upload, open_upload, remove_version};
 use crate::edit::{any_marker_named, count_kept, new_name, replaced, told};
@@ -25,7 +27,26 @@ pub fn apply(
     id: VersionId,
     now: u64,
 ) -> Result<Applied, ActFault>
-    ensures { Answers (Step state.now mode act.now id now) state.now result }
+    requires canonical { IsCanonical state.now }
+    requires fresh { has_id id state.now ≡ false }
+    requires moment { IsMoment now }
+    requires lawful { IsLawful act.now }
+    ensures step { Answers (Step state.now mode act.now id now) state.now result }
+    ensures canonical { IfOk result (λ a. IfSome a.state IsCanonical) }
+{
+    do_act(alloc, state, mode, act, id, now)
+}
+
+fn do_act(
+    alloc: Global,
+    state: &KeyState,
+    mode: Mode,
+    act: &Act,
+    id: VersionId,
+    now: u64,
+) -> Result<Applied, ActFault>
+    ensures step { Answers (Step state.now mode act.now id now) state.now result }
+    ensures sized { OnOk result (IsSized act.now) }
 {
     match act {
         Act::Put {
@@ -39,15 +60,7 @@ pub fn apply(
             let made = Version {
                 id: new_name(mode, id),
                 modified: now,
-                what: What::Object {
-                    data_id: *data_id,
-                    print: *print,
-                    length: *length,
-                    md5: *md5,
-                    parts: 0,
-                    upload: None,
-                    kind,
-                },
+                what: object(*data_id, *print, *length, *md5, 0, None, kind),
             };
             put(
                 alloc,
@@ -81,15 +94,7 @@ pub fn apply(
             let made = Version {
                 id: new_name(mode, id),
                 modified: now,
-                what: What::Object {
-                    data_id: *data_id,
-                    print: *print,
-                    length: *length,
-                    md5: *md5,
-                    parts: *parts,
-                    upload: Some(*upload),
-                    kind,
-                },
+                what: object(*data_id, *print, *length, *md5, *parts, Some(*upload), kind),
             };
             let etag = Etag {
                 md5: *md5,
@@ -98,6 +103,29 @@ pub fn apply(
             complete(alloc, state, mode, made, *upload, etag)
         }
         Act::Abort { upload } => abort(alloc, state, *upload),
+    }
+}
+
+fn object(
+    data_id: VersionId,
+    print: [u8; 32],
+    length: u64,
+    md5: [u8; 16],
+    parts: u16,
+    upload: Option<VersionId>,
+    kind: Text,
+) -> What
+    ensures made { result ≡ What.Object data_id print length md5 parts upload kind }
+    ensures sized { AreSized print length md5 parts }
+{
+    What::Object {
+        data_id,
+        print,
+        length,
+        md5,
+        parts,
+        upload,
+        kind,
     }
 }
 
