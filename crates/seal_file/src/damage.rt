@@ -1,6 +1,7 @@
 //! What can be wrong with a stored file.
 
 ghost use Rattle.std.specs.Prelude.{◌≡◌};
+ghost use Rattle.seal_file.specs.declared.damage.FileRead.TheVariants.{NoMemory, Unsealed};
 
 use stamp_id::NoMemory;
 use std::alloc::{AllocError, AllocFailed};
@@ -34,9 +35,6 @@ pub enum FileRead {
 }
 
 impl From<Damage> for FileRead {
-    ghost use Rattle.std.specs.Prelude.{◌≡◌};
-    ghost use Rattle.seal_file.specs.declared.damage.FileRead.TheVariants.{Unsealed};
-
     ghost from_gives = { λ damage error. error ≡ Unsealed damage };
 
     fn from(damage: Damage) -> FileRead {
@@ -45,9 +43,7 @@ impl From<Damage> for FileRead {
 }
 
 impl From<NoMemory> for FileRead {
-    ghost use Rattle.seal_file.specs.declared.damage.FileRead.TheVariants as file_read;
-
-    ghost from_gives = { λ _ error. error ≡ file_read.NoMemory };
+    ghost from_gives = { λ _ error. error ≡ NoMemory };
 
     fn from(_error: NoMemory) -> FileRead {
         FileRead::NoMemory
@@ -55,9 +51,7 @@ impl From<NoMemory> for FileRead {
 }
 
 impl From<AllocError> for FileRead {
-    ghost use Rattle.seal_file.specs.declared.damage.FileRead.TheVariants as file_read;
-
-    ghost from_gives = { λ _ error. error ≡ file_read.NoMemory };
+    ghost from_gives = { λ _ error. error ≡ NoMemory };
 
     fn from(_error: AllocError) -> FileRead {
         FileRead::NoMemory
@@ -65,9 +59,7 @@ impl From<AllocError> for FileRead {
 }
 
 impl<T: Drop> From<AllocFailed<T>> for FileRead {
-    ghost use Rattle.seal_file.specs.declared.damage.FileRead.TheVariants as file_read;
-
-    ghost from_gives = { λ _ error. error ≡ file_read.NoMemory };
+    ghost from_gives = { λ _ error. error ≡ NoMemory };
 
     fn from(_refused: AllocFailed<T>) -> FileRead {
         FileRead::NoMemory

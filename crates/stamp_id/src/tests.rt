@@ -84,3 +84,9 @@ fn orders_ballots_by_term_first(rt: HostRuntime) {
     assert!(rt; low < high && high < Ballot { term: 2, seq: 4 });
     assert!(rt; ChangeId(low) < ChangeId(high));
 }
+
+#[test]
+fn prints_errors(rt: HostRuntime) {
+    let text = format!(in rt.alloc(); "{}; {}", NoMemory, NotAnId).expect(&rt, "there is memory");
+    assert_eq!(rt; text.as_str(), "out of memory; not a version id");
+}

@@ -1,6 +1,6 @@
 //! Version ids and their bytes.
 
-ghost use Rattle.std.specs.Prelude.{◌≡◌, ◌+◌, ◌*◌, ◌<◌, ◌≤◌, ◌^◌, ◌↔◌, IsOk, IfOk};
+ghost use Rattle.std.specs.Prelude.{◌≡◌, ◌<◌, ◌≤◌, ◌↔◌, IsOk, IfOk};
 
 use crate::error::NotAnId;
 use crate::stamp::{Ballot, ChangeId};
@@ -41,6 +41,7 @@ impl VersionId {
         ensures { result ≡ id_bytes self.now }
     {
         let Ballot { term, seq } = self.change.0;
+        // 48 bits of the term, 4 of the version and 12 of the slot; 2 of the variant and 62 of the seq.
         let high = term * 0x1_0000 + 0x8000 + self.slot as u64;
         words::to_bytes(high, 0x8000_0000_0000_0000 + seq)
     }
