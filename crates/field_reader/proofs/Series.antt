@@ -68,6 +68,16 @@ regroup : {A : Type 0} (front : List A) (a : A) (found : Found (List A)) → wit
 regroup {A} front a (Ok x) = let same : front ++ (a ∷ x.0) ≡ (front ++ a ∷ []) ++ x.0 = sym (append_assoc front (a ∷ []) x.0) in ap (λ (l : List A). done l x.1) same
 regroup front a (Err place) = refl
 
+-- nothing was read yet
+pub begins : {A : Type 0} (part : List A → Format A) (front : List A) (count : ℕ) (from : Spot) → front ≡ [] → with_front front (series (count - 0) part front from) ≡ series count part [] from
+begins {A} part front count from none =
+    let all : count - 0 ≡ count = omega arith in
+    rw (none, all) (nothing_before (series count part [] from))
+  where
+    nothing_before : (found : Found (List A)) → with_front [] found ≡ found
+    nothing_before (Ok x) = refl
+    nothing_before (Err place) = refl
+
 -- a part more was read
 pub goes_on : {A : Type 0} (part : List A → Format A) (front : List A) (count i : ℕ) (from : Spot) (a : A) (to : Spot) (total : Found (List A)) → i < count → part front from ≡ Ok (a, to)
     → with_front front (series (count - i) part front from) ≡ total → with_front (front ++ a ∷ []) (series (count - (i + 1)) part (front ++ a ∷ []) to) ≡ total

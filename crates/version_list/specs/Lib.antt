@@ -1,1 +1,5 @@
+pub mod Known
+pub mod Layout
+pub mod Rows
+pub mod Spelling
 pub mod State

@@ -5,6 +5,15 @@
 //! place of its first fault.
 #![tactic(auto)]
 
+
+
+mod ids;
+mod names;
+mod reading;
+mod sizes;
 mod state;
+mod writing;
 
 pub use state::{KeyState, MOMENT_LIMIT, MOST_KIND_BYTES, MOST_UPLOADS, MOST_VERSIONS};
+
+pub use writing::write;

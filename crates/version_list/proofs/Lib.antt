@@ -1,0 +1,2 @@
+pub mod IdTests
+pub mod Known
