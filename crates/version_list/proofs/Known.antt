@@ -9,7 +9,7 @@ use Rattle.version_list.specs.Known.{is_known}
 use Rattle.version_list.specs.Rows.{VersionRow, UploadRow}
 use Rattle.version_list.specs.Layout.{is_among, version_names, upload_names}
 
-or_rest : (a b c : Bool) → (a || (b || c)) ≡ ((a || b) || c)
+pub or_rest : (a b c : Bool) → (a || (b || c)) ≡ ((a || b) || c)
 or_rest true b c = refl
 or_rest false b c = refl
 

@@ -1,2 +1,10 @@
+pub mod Canonical
+pub mod Distinct
 pub mod IdTests
+pub mod Injective
 pub mod Known
+pub mod LawProofs
+pub mod Made
+pub mod ObjectText
+pub mod RowTexts
+pub mod StateText

@@ -1,4 +1,5 @@
 pub mod Known
+pub mod Laws
 pub mod Layout
 pub mod Rows
 pub mod Spelling

@@ -14,6 +14,7 @@ mod sizes;
 mod state;
 mod writing;
 
+pub use reading::{read, state_laws};
 pub use state::{KeyState, MOMENT_LIMIT, MOST_KIND_BYTES, MOST_UPLOADS, MOST_VERSIONS};
 
 pub use writing::write;

@@ -3,16 +3,20 @@
 ghost use Rattle.std.specs.Prelude.{◌≡◌, List, ℕ, false, ◌||◌, map, IfOk};
 ghost use Rattle.std.specs.Str.{bytes_eq};
 ghost use Rattle.std.specs.Int.{w8, w32, w64};
-ghost use Rattle.field_reader.specs.Format.{number, short_text, with_rule, value_of};
+ghost use Rattle.field_reader.specs.Format.{number, short_text, with_rule, value_of, fault_at};
 ghost use Rattle.field_reader.specs.Reading.{Gives, GivesWhole};
 ghost use Rattle.version_list.specs.Rows.{object_row, version_row, upload_row, rows_of};
 ghost use Rattle.version_list.specs.Layout.{is_moment, is_class, object, object_of_class, version, version_names, versions, upload, uploads, is_among, is_version_count, is_upload_count, long_state, key_state};
 ghost use Rattle.version_list.specs.Known.{is_known};
+ghost use Rattle.version_list.specs.State.{IsCanonical};
+ghost use Rattle.version_list.specs.Spelling.{spelling};
+ghost use Rattle.version_list.specs.Laws.{IsReadAs, TellsFault, SpellingsHaveNoFault, FaultlessIsSpelled, SpellingIsInjective};
+ghost use Rattle.version_list.specs.declared.state.KeyState.{KeyState};
 
 use crate::ids::{take_id, take_name, take_new_id, take_upload_id};
 use crate::names::Names;
 use crate::state::{KeyState, MOMENT_LIMIT, MOST_UPLOADS, MOST_VERSIONS};
-use call_types::{Upload, Uploads, Version, Versions, What};
+use call_types::{ListRead, Upload, Uploads, Version, Versions, What};
 use field_reader::{Fields, ReadFault, refuse_unless};
 use seal_file::Text;
 use std::alloc::Global;
@@ -206,4 +210,31 @@ fn whole_state(alloc: Global, content: &[u8]) -> Result<KeyState, ReadFault>
     let state = take_state(alloc, &mut fields)?;
     fields.finish()?;
     Ok(state)
+}
+
+/// The state that a content spells. A content that spells none is `NotCanonical`, at the place of its first fault:
+/// the start of the first field that breaks its rule, the number of its bytes where bytes are missing, or the first
+/// byte too many.
+pub fn read(alloc: Global, content: &[u8]) -> Result<KeyState, ListRead>
+    // What is read is canonical, and the content is its spelling.
+    ensures found { IfOk result (λ state. IsCanonical state × (content.now ≡ spelling state)) }
+    // The spelling of a canonical state is read as that state.
+    ensures only { (state : KeyState) → IsCanonical state → content.now ≡ spelling state → IsReadAs state result }
+    // A refusal names the first fault.
+    ensures fault { TellsFault result (fault_at key_state content.now) }
+{
+    match whole_state(alloc, content) {
+        Ok(state) => Ok(state),
+        Err(ReadFault::At(place)) => Err(ListRead::NotCanonical(place)),
+        Err(ReadFault::NoMemory) => Err(ListRead::NoMemory),
+    }
+}
+
+/// The laws of spellings, for a caller's proof: the spelling of a canonical state has no fault, a content with no
+/// fault spells a canonical state, and two canonical states with one spelling are the same. It does nothing.
+pub fn state_laws()
+    ensures spelled { SpellingsHaveNoFault }
+    ensures faultless { FaultlessIsSpelled }
+    ensures injective { SpellingIsInjective }
+{
 }
