@@ -1,9 +1,10 @@
 -- That a format takes spellings alone, and how this follows for a format from its parts.
 use Rattle.std.proofs.Common.{◌≡◌, ℕ, ◌+◌, ◌<◌, Bool, true, false, cond, List, [], ◌∷◌, ◌++◌, length, get_or, take, drop, Result, Ok, Err, refl, sym, ap, subst, ◌∙◌, append_assoc, arith, inl, inr}
-use Rattle.std.proofs.lemmas.List.{take_at, length-append, length-take, get_or-drop, get_or-take, get_or_past}
+use Rattle.std.proofs.lemmas.List.{take_at, drop_at, length-append, length-take, get_or-drop, get_or-take, get_or_past}
 use Rattle.std.proofs.lemmas.Bool.{cases_lt}
 use Rattle.field_reader.specs.Format.{Spot, Found, Format, and_then, ◌>>=◌, done, kept, with_rule}
 use Rattle.field_reader.specs.Spelling.{IsBytes}
+use Rattle.std.specs.Bool.{MatchBool}
 
 abbrev pub spot : ℕ → List ℕ → Spot
 spot at left = record { at = at; left = left }
@@ -21,6 +22,10 @@ IsBytes-take n bytes h i =
 -- the front of bytes
 pub IsBytes-front : (front back bytes : List ℕ) → bytes ≡ front ++ back → IsBytes bytes → IsBytes front
 IsBytes-front front back bytes e h = subst (λ (x : List ℕ). IsBytes x) (ap (λ (x : List ℕ). take (length front) x) e ∙ take_at front back (length front) refl) (IsBytes-take (length front) bytes h)
+
+-- the bytes behind the front
+pub IsBytes-back : (front back bytes : List ℕ) → bytes ≡ front ++ back → IsBytes bytes → IsBytes back
+IsBytes-back front back bytes e h = subst (λ (x : List ℕ). IsBytes x) (ap (λ (x : List ℕ). drop (length front) x) e ∙ drop_at front back (length front) refl) (IsBytes-drop (length front) bytes h)
 
 -- from the first spot to the second stands a text that spells the value
 pub record Spans {A : Type 0} (Spells : A → List ℕ → Type 0) (from : Spot) (value : A) (to : Spot) : Type 0 where
@@ -54,6 +59,10 @@ pub record Then {A B : Type 0} (First : A → List ℕ → Type 0) (Rest : A →
   pub is_first : First first front
   pub is_rest : Rest first value back
   pub whole : text ≡ front ++ back
+
+-- a text that begins with this field and goes on with these bytes
+pub then_joined : {A B : Type 0} {First : A → List ℕ → Type 0} {Rest : A → B → List ℕ → Type 0} {value : B} {text : List ℕ} (t : Then First Rest value text) (field more : List ℕ) → t.front ≡ field → t.back ≡ more → text ≡ field ++ more
+then_joined t field more front back = t.whole ∙ ap (λ (x : List ℕ). x ++ t.back) front ∙ ap (λ (x : List ℕ). field ++ x) back
 
 pub then_spelled : {A B : Type 0} (part : Format A) (rest : A → Format B) (First : A → List ℕ → Type 0) (Rest : A → B → List ℕ → Type 0)
     → IsSpelled part First → ((a : A) → IsSpelled (rest a) (Rest a)) → IsSpelled (part >>= rest) (Then First Rest)
@@ -120,6 +129,11 @@ rule_spelled {A} rule part Spells one = record {
       record { text = a.text; spells = record { spells = a.spells; keeps = k.1 }; parts = a.parts; place = a.place; bytes = a.bytes };
   again = λ value text rest at r. rw (one.again value text rest at r.spells, r.keeps) refl;
 }
+
+-- one of two formats
+pub choice_spelled : {A : Type 0} (b : Bool) (yes_part no_part : Format A) (Yes No : A → List ℕ → Type 0) → IsSpelled yes_part Yes → IsSpelled no_part No → IsSpelled (cond b yes_part no_part) (λ a text. MatchBool b (Yes a text) (No a text))
+choice_spelled true yes_part no_part Yes No one other = record { takes = one.takes; again = one.again }
+choice_spelled false yes_part no_part Yes No one other = record { takes = other.takes; again = other.again }
 
 -- The same format, its spellings told in other words. A text that it takes is made of bytes.
 pub told_spelled : {A : Type 0} (part : Format A) (Old New : A → List ℕ → Type 0) → ((a : A) (text : List ℕ) → IsBytes text → Old a text → New a text)

@@ -1,6 +1,8 @@
 -- Series of parts: how they are spelled, and how a loop reads one.
 use Rattle.std.proofs.Common.{◌≡◌, ℕ, zero, suc, ◌-◌, ◌+◌, ◌≤◌, ◌<◌, List, [], ◌∷◌, ◌++◌, length, Ok, Err, refl, sym, ap, subst, ◌∙◌, append_assoc, arith}
+use Rattle.std.specs.List.{flat_map}
 use Rattle.std.proofs.lemmas.List.{append-nil}
+use Rattle.std.proofs.lemmas.List.Concat.{flat_map-cons}
 use Rattle.field_reader.specs.declared.fault.ReadFault.{ReadFault}
 use Rattle.field_reader.specs.declared.fault.ReadFault.TheVariants.{At, NoMemory}
 use Rattle.field_reader.specs.Format.{Spot, Found, Format, and_then, ◌>>=◌, done, series}
@@ -58,6 +60,41 @@ series_spelled {A} part Spells one (suc count) before =
           whole = e.4;
         }
 
+-- each item keeps a fact that may speak of those before it
+abbrev pub AllAfter : {A : Type 0} → (List A → A → Type 0) → List A → List A → Type 0
+AllAfter Keeps before [] = Unit {0}
+AllAfter {A} Keeps before (a ∷ others) = Keeps before a × AllAfter Keeps (before ++ a ∷ []) others
+
+-- a part that keeps a fact and is spelled by a function
+pub record Kept {A : Type 0} (Keeps : A → Type 0) (bytes : A → List ℕ) (value : A) (text : List ℕ) : Type 0 where
+  pub keeps : Keeps value
+  pub is : text ≡ bytes value
+
+-- so many of them
+pub record Listed {A : Type 0} (Keeps : List A → A → Type 0) (bytes : A → List ℕ) (count : ℕ) (before values : List A) (text : List ℕ) : Type 0 where
+  pub counted : length values ≡ count
+  pub each : AllAfter Keeps before values
+  pub is : text ≡ flat_map bytes values
+
+each_all : {A : Type 0} (Keeps : List A → A → Type 0) (bytes : A → List ℕ) (before values : List A) (text : List ℕ) → Each (λ before. Kept (Keeps before) bytes) before values text → AllAfter Keeps before values × (text ≡ flat_map bytes values)
+each_all Keeps bytes before [] text e = (tt, e)
+each_all {A} Keeps bytes before (a ∷ others) text e =
+    let rest = each_all Keeps bytes (before ++ a ∷ []) others e.1 e.3 in
+    ((e.2.keeps, rest.0), e.4 ∙ ap (λ (x : List ℕ). x ++ e.1) e.2.is ∙ ap (λ (x : List ℕ). bytes a ++ x) rest.1 ∙ sym (flat_map-cons bytes a others))
+
+all_each : {A : Type 0} (Keeps : List A → A → Type 0) (bytes : A → List ℕ) (before values : List A) (text : List ℕ) → AllAfter Keeps before values → text ≡ flat_map bytes values → Each (λ before. Kept (Keeps before) bytes) before values text
+all_each Keeps bytes before [] text all e = e
+all_each {A} Keeps bytes before (a ∷ others) text all e =
+    (bytes a, flat_map bytes others, record { keeps = all.0; is = refl }, all_each Keeps bytes (before ++ a ∷ []) others (flat_map bytes others) all.1 refl, e ∙ flat_map-cons bytes a others)
+
+pub listed_spelled : {A : Type 0} (part : List A → Format A) (Keeps : List A → A → Type 0) (bytes : A → List ℕ) → ((before : List A) → IsSpelled (part before) (Kept (Keeps before) bytes))
+    → (count : ℕ) (before : List A) → IsSpelled (series count part before) (Listed Keeps bytes count before)
+listed_spelled part Keeps bytes one count before =
+    told_spelled (series count part before) (Counted (λ before. Kept (Keeps before) bytes) count before) (Listed Keeps bytes count before)
+      (λ values text fits c. let a = each_all Keeps bytes before values text c.each in record { counted = c.counted; each = a.0; is = a.1 })
+      (λ values text l. record { counted = l.counted; each = all_each Keeps bytes before values text l.each l.is })
+      (series_spelled part (λ before. Kept (Keeps before) bytes) one count before)
+
 -- ---- a loop
 
 -- what was read before, and what is still read
@@ -67,6 +104,16 @@ with_front front found = and_then found (λ others. done (front ++ others))
 regroup : {A : Type 0} (front : List A) (a : A) (found : Found (List A)) → with_front front (and_then found (λ others. done (a ∷ others))) ≡ with_front (front ++ a ∷ []) found
 regroup {A} front a (Ok x) = let same : front ++ (a ∷ x.0) ≡ (front ++ a ∷ []) ++ x.0 = sym (append_assoc front (a ∷ []) x.0) in ap (λ (l : List A). done l x.1) same
 regroup front a (Err place) = refl
+
+-- nothing was read yet
+pub begins : {A : Type 0} (part : List A → Format A) (front : List A) (count : ℕ) (from : Spot) → front ≡ [] → with_front front (series (count - 0) part front from) ≡ series count part [] from
+begins {A} part front count from none =
+    let all : count - 0 ≡ count = omega arith in
+    rw (none, all) (nothing_before (series count part [] from))
+  where
+    nothing_before : (found : Found (List A)) → with_front [] found ≡ found
+    nothing_before (Ok x) = refl
+    nothing_before (Err place) = refl
 
 -- a part more was read
 pub goes_on : {A : Type 0} (part : List A → Format A) (front : List A) (count i : ℕ) (from : Spot) (a : A) (to : Spot) (total : Found (List A)) → i < count → part front from ≡ Ok (a, to)

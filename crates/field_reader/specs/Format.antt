@@ -1,5 +1,5 @@
 -- Formats: tables of fields, each with its rule, and what is found where a content is to follow one.
-use Rattle.std.specs.Prelude.{ℕ, zero, suc, ◌+◌, List, [], ◌∷◌, ◌++◌, length, take, drop, Bool, Result, Ok, Err, nat_lt, ◌==◌, if◌then◌else◌}
+use Rattle.std.specs.Prelude.{ℕ, zero, suc, ◌+◌, List, [], ◌∷◌, ◌++◌, length, take, drop, Bool, Option, Some, None, Result, Ok, Err, nat_lt, ◌==◌, if◌then◌else◌}
 use Rattle.std.specs.Int.{Width, w8, byte_len, from_be_bytes}
 
 -- a place in a content, and the bytes from there on
@@ -62,8 +62,12 @@ series zero part before = done []
 series (suc count) part before = part before >>= λ first. series count part (before ++ first ∷ []) >>= λ others. done (first ∷ others)
 
 -- The end of the content. Where bytes follow, the fault is at the first of them.
-unfoldable pub ends : {A : Type 0} → A → Format A
-ends value spot = if length spot.left == 0 then Ok (value, spot) else Err spot.at
+unfoldable pub ends : Format (Unit {0})
+ends spot = if length spot.left == 0 then Ok (tt, spot) else Err spot.at
+
+-- a format and then the end
+abbrev pub to_the_end : {A : Type 0} → Format A → Format A
+to_the_end format = format >>= λ value. ends >>= λ _. done value
 
 -- the value that is found, or the place of the first fault
 abbrev pub value_found : {A : Type 0} → Found A → Result A ℕ
@@ -71,5 +75,14 @@ value_found (Ok found) = Ok found.0
 value_found (Err place) = Err place
 
 -- the value of a whole content, or the place of its first fault
-abbrev pub value_of : {A : Type 0} → Format A → List ℕ → Result A ℕ
-value_of format content = value_found ((format >>= ends) (start content))
+unfoldable pub value_of : {A : Type 0} → Format A → List ℕ → Result A ℕ
+value_of format content = value_found (to_the_end format (start content))
+
+-- the place of a fault, if there is one
+abbrev pub place_of : {A : Type 0} → Result A ℕ → Option ℕ
+place_of (Ok value) = None
+place_of (Err place) = Some place
+
+-- the place of the first fault of a whole content, if it has one
+abbrev pub fault_at : {A : Type 0} → Format A → List ℕ → Option ℕ
+fault_at format content = place_of (value_of format content)

@@ -123,7 +123,7 @@ impl<'a> Fields<'a> {
     /// Ends the reading. Where bytes are left, the fault is at the first of them.
     #[tactic(auto, unfolding(crate::specs::Format::ends))]
     pub fn finish(&self) -> Result<(), ReadFault>
-        ensures { Gives (λ unit. unit) result self.now (ends tt self.now) }
+        ensures { Gives (λ unit. unit) result self.now (ends self.now) }
     {
         refuse_unless(self.next == self.content.len(), self.next as u64)
     }

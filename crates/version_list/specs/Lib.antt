@@ -1,7 +1,12 @@
 pub mod Answers
 pub mod Gone
+pub mod Known
+pub mod Lawful
+pub mod Laws
+pub mod Layout
 pub mod Naming
 pub mod Reads
-pub mod Lawful
+pub mod Rows
+pub mod Spelling
 pub mod State
 pub mod Step
