@@ -46,7 +46,7 @@ pub uploads_known : (used : List ℕ → Bool) (before after : Names) (front : L
 uploads_known used before after front row known added bytes =
     let names : upload_names (front ++ row ∷ []) ≡ upload_names front ++ row.id ∷ [] = map_push (λ u. u.id) front row in
     let more : is_among (upload_names (front ++ row ∷ [])) bytes ≡ (is_among (upload_names front) bytes || bytes_eq row.id bytes) =
-      ap (λ (l : List (List ℕ)). is_among l bytes) names ∙ is_among-push (upload_names front) row.id bytes in
+    ap (λ (l : List (List ℕ)). is_among l bytes) names ∙ is_among-push (upload_names front) row.id bytes in
     added bytes ∙ ap (λ (b : Bool). bytes_eq row.id bytes || b) (known bytes) ∙ or_last (bytes_eq row.id bytes) _
     ∙ sym (or_rest (used bytes) (is_among (upload_names front) bytes) (bytes_eq row.id bytes)) ∙ ap (λ (b : Bool). used bytes || b) (sym more)
 

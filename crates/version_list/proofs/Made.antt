@@ -49,9 +49,11 @@ id_of bytes sized fits e =
     let back_fits = IsBytes-drop 8 bytes fits in
     let w = of_words (high_word bytes) (low_word bytes) (word_below (take 8 bytes) front_fits) (word_below (drop 8 bytes) back_fits) (is_id-true bytes e) in
     let front : to_be_bytes w64 (high_word bytes) ≡ take 8 bytes = be_bytes_8 (take 8 bytes) (high_word bytes) (omega (arith, length-take 8 bytes)) front_fits refl in
-    let back : to_be_bytes w64 (low_word bytes) ≡ drop 8 bytes = be_bytes_8 (drop 8 bytes) (low_word bytes) (omega (arith, length-drop 8 bytes)) back_fits refl in
-    (w.0, ap (λ (n : ℕ). to_be_bytes w64 n ++ to_be_bytes w64 (low_word_of w.0.change.0.seq)) w.1 ∙ ap (λ (n : ℕ). to_be_bytes w64 (high_word bytes) ++ to_be_bytes w64 n) w.2
-      ∙ ap (λ (x : List ℕ). x ++ to_be_bytes w64 (low_word bytes)) front ∙ ap (λ (x : List ℕ). take 8 bytes ++ x) back ∙ take-append-drop 8 bytes)
+    let back : to_be_bytes w64 (low_word bytes) ≡ drop 8 bytes = be_bytes_8 (drop 8 bytes) (low_word bytes) (omega (arith, length-drop 8 bytes)) back_fits refl in (
+      w.0,
+      ap (λ (n : ℕ). to_be_bytes w64 n ++ to_be_bytes w64 (low_word_of w.0.change.0.seq)) w.1 ∙ ap (λ (n : ℕ). to_be_bytes w64 (high_word bytes) ++ to_be_bytes w64 n) w.2
+          ∙ ap (λ (x : List ℕ). x ++ to_be_bytes w64 (low_word bytes)) front ∙ ap (λ (x : List ℕ). take 8 bytes ++ x) back ∙ take-append-drop 8 bytes,
+    )
 
 name_of : (bytes : List ℕ) → length bytes ≡ 16 → IsBytes bytes → (is_no_id bytes || is_id bytes) ≡ true → (name : VersionName) × (name_field name ≡ bytes)
 name_of bytes sized fits e =

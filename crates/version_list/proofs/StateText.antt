@@ -131,16 +131,28 @@ into r text fits a =
 
 out_of : (r : StateRows) (text : List ℕ) → LongText r text → t1 r text
 out_of r text t = record {
-  first = length r.versions; front = number_bytes w32 (length r.versions); back = _; whole = t.is;
+  first = length r.versions;
+  front = number_bytes w32 (length r.versions);
+  back = _;
+  whole = t.is;
   is_first = record { spells = record { is = refl; below = omega (arith, t.rows.few_versions) }; keeps = version_count_kept (length r.versions) t.rows.few_versions };
   is_rest = record {
-    first = r.versions; front = flat_map version_bytes r.versions; back = _; whole = refl;
+    first = r.versions;
+    front = flat_map version_bytes r.versions;
+    back = _;
+    whole = refl;
     is_first = record { counted = refl; each = t.rows.versions; is = refl };
     is_rest = record {
-      first = length r.uploads; front = number_bytes w32 (length r.uploads); back = _; whole = refl;
+      first = length r.uploads;
+      front = number_bytes w32 (length r.uploads);
+      back = _;
+      whole = refl;
       is_first = record { spells = record { is = refl; below = omega (arith, t.rows.few_uploads) }; keeps = upload_count_kept (length r.versions) (length r.uploads) t.rows.few_uploads t.some };
       is_rest = record {
-        first = r.uploads; front = flat_map upload_bytes r.uploads; back = []; whole = refl;
+        first = r.uploads;
+        front = flat_map upload_bytes r.uploads;
+        back = [];
+        whole = refl;
         is_first = record { counted = refl; each = t.rows.uploads; is = refl };
         is_rest = record { is = refl; nothing = refl };
       };

@@ -5,6 +5,7 @@ pub mod Lawful
 pub mod Laws
 pub mod Layout
 pub mod Naming
+pub mod Plain
 pub mod Reads
 pub mod Rows
 pub mod Spelling

@@ -115,7 +115,7 @@ pub fn close_upload(alloc: Global, state: &KeyState, upload: VersionId) -> Resul
     })
 }
 
-fn copied_versions(versions: &Versions) -> Result<Versions, NoMemory>
+pub fn copied_versions(versions: &Versions) -> Result<Versions, NoMemory>
     ensures { IfOk result (λ copy. copy ≡ versions.now) }
 {
     Ok(versions.clone()?)

@@ -32,7 +32,7 @@ pub fn gone(
     Ok(Bytes::from_vec(bytes))
 }
 
-fn push_gone(bytes: &mut Vec<u8>, version: &Version, new: &[Version]) -> Result<(), NoMemory>
+pub fn push_gone(bytes: &mut Vec<u8>, version: &Version, new: &[Version]) -> Result<(), NoMemory>
     ensures { OnOk result (bytes.new.items ≡ bytes.old.items ++ gone_bytes (version.now ∷ []) new.now) }
 {
     if let Some(id) = data_id(&version.what) {

@@ -13,6 +13,8 @@ mod gone;
 mod ids;
 mod names;
 mod outcome;
+#[cfg(test)]
+mod plain;
 mod reading;
 mod reads;
 mod same;

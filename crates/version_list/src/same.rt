@@ -70,13 +70,13 @@ fn is_same_upload(a: Option<VersionId>, b: Option<VersionId>) -> bool
     }
 }
 
-fn is_same_id(a: VersionId, b: VersionId) -> bool
+pub fn is_same_id(a: VersionId, b: VersionId) -> bool
     ensures { IsTrue result ↔ (a ≡ b) }
 {
     a == b
 }
 
-fn is_same_text(a: &Text, b: &Text) -> bool
+pub fn is_same_text(a: &Text, b: &Text) -> bool
     ensures { IsTrue result ↔ (a.now ≡ b.now) }
 {
     a == b

@@ -37,7 +37,7 @@ pub fn apply(
     do_act(alloc, state, mode, act, id, now)
 }
 
-fn do_act(
+pub fn do_act(
     alloc: Global,
     state: &KeyState,
     mode: Mode,
@@ -269,3 +269,6 @@ fn abort(alloc: Global, state: &KeyState, upload: VersionId) -> Result<Applied, 
     let outcome = close_upload(alloc, state, upload)?;
     Ok(outcome.answered(Reply::Plain))
 }
+
+#[cfg(test)]
+mod tests;

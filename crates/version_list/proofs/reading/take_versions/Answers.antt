@@ -28,7 +28,7 @@ returns-in_err-version-clause-gives c =
     let test : is_known c.loop.names ≡ is_among (version_names (map version_row c.loop.versions.items)) = fun_ext c.loop.invariant.known in
     let one = subst (λ (used : List ℕ → Bool). Gives version_row (Err c.in_err-version.field-0.0) c.take_version.new.fields (version used c.loop.fields)) test c.in_err-version.ensures.gives in
     rw (p.1, p.2) (stops version_row (λ (vs : Vec Version). map version_row vs.items) c.in_err-version.field-0.0 c.take_version.new.fields c.take_version.new.fields (λ before. version (is_among (version_names before)))
-      (map version_row c.loop.versions.items) c.args.count c.loop.counter c.loop.fields (versions c.args.count c.args.fields.now) c.loop-test.true one c.loop.invariant.read)
+    (map version_row c.loop.versions.items) c.args.count c.loop.counter c.loop.fields (versions c.args.count c.args.fields.now) c.loop-test.true one c.loop.invariant.read)
 
 pub loop-preserved : goal.loop-preserved
 loop-preserved c =
