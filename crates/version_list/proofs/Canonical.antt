@@ -1,6 +1,6 @@
 -- A state is canonical exactly where its rows are those that the format takes.
-use Rattle.std.proofs.Common.{◌≡◌, ◌≢◌, ℕ, zero, suc, ◌<◌, ◌≤◌, Bool, true, false, cond, eqb, List, [], ◌∷◌, ◌++◌, length, All, get_or, Option, Some, None, refl, sym, ap, subst, ◌∙◌, append_assoc, arith, inl, inr}
-use Rattle.std.specs.Prelude.{◌&&◌, ◌||◌, not, ◌↔◌, map, IsNone, is_none}
+use Rattle.std.proofs.Common.{◌≡◌, ℕ, ◌<◌, Bool, true, false, cond, eqb, List, [], ◌∷◌, ◌++◌, length, All, Option, Some, None, refl, sym, ap, subst, ◌∙◌, append_assoc, arith, inl, inr}
+use Rattle.std.specs.Prelude.{◌&&◌, ◌||◌, not, ◌↔◌, map, IsNone}
 use Rattle.std.specs.List.{AllByRecursion}
 use Rattle.std.proofs.lemmas.Bool.{false_from_ne_true, eqb-true, cases_lt, eq-eqb}
 use Rattle.std.proofs.lemmas.List.{append-nil, length-map, map-append, map_push, get_or_past}
@@ -16,12 +16,11 @@ use Rattle.call_types.specs.declared.version.Upload.{Upload}
 use Rattle.call_types.specs.declared.version.What.{What}
 use Rattle.call_types.specs.declared.version.What.TheVariants.{Marker, Object}
 use Rattle.version_list.specs.declared.state.KeyState.{KeyState}
-use Rattle.version_list.specs.State.{AreDistinct, names_of, IsObject, IsCanonicalWhat, IsCanonicalVersion, IsCanonicalUpload, IsCanonical}
+use Rattle.version_list.specs.State.{AreDistinct, names_of, IsCanonicalWhat, IsCanonicalVersion, IsCanonicalUpload, IsCanonical}
 use Rattle.version_list.specs.Rows.{VersionRow, UploadRow, no_id, name_field, upload_field, object_row, version_row, upload_row, rows_of}
 use Rattle.version_list.specs.Layout.{is_id, is_no_id, is_among, upload_rule, version_names, upload_names}
 use Rattle.version_list.proofs.IdTests.{both_true, is_id-yes, no_id-from}
-use Rattle.version_list.proofs.ObjectText.{IsObjectRow}
-use Rattle.version_list.proofs.RowTexts.{IsObjectOption, name_rule, IsVersionRow, IsUploadRow}
+use Rattle.version_list.proofs.RowTexts.{IsObjectOption}
 use Rattle.version_list.proofs.StateText.{IsVersionAfter, IsUploadAfter, AreRows}
 use Rattle.version_list.proofs.Distinct.{Fresh, fresh_distinct, distinct_fresh, none_seen, fresh_split, fresh_join, is_among-append, distinct_map, distinct_unmap}
 
@@ -172,21 +171,23 @@ versions_in : (before : List VersionRow) (vs : List Version) → Fresh (version_
 versions_in before [] fresh all = tt
 versions_in before (v ∷ vs) fresh all =
     let names : version_names (before ++ version_row v ∷ []) ≡ version_names before ++ name_field v.id ∷ [] = map_push (λ r. r.id) before (version_row v) in
-    let rest = subst (λ (seen : List (List ℕ)). Fresh seen (version_names (map version_row vs))) (sym names) fresh.1 in
-    (record {
-      id_sized = name_size v.id;
-      id_kept = kept_rule (is_no_id (name_field v.id) || is_id (name_field v.id)) (is_among (version_names before) (name_field v.id)) (name_kept v.id) fresh.0;
-      id_bytes = name_bytes v.id;
-      modified_kept = all.0.modified;
-      object = object_out v.what all.0.what;
-    }, versions_in (before ++ version_row v ∷ []) vs rest all.1)
+    let rest = subst (λ (seen : List (List ℕ)). Fresh seen (version_names (map version_row vs))) (sym names) fresh.1 in (
+      record {
+        id_sized = name_size v.id;
+        id_kept = kept_rule (is_no_id (name_field v.id) || is_id (name_field v.id)) (is_among (version_names before) (name_field v.id)) (name_kept v.id) fresh.0;
+        id_bytes = name_bytes v.id;
+        modified_kept = all.0.modified;
+        object = object_out v.what all.0.what;
+      },
+      versions_in (before ++ version_row v ∷ []) vs rest all.1,
+    )
 
 uploads_out : (seen : List (List ℕ)) (before : List UploadRow) (us : List Upload) → AllAfter (IsUploadAfter (is_among seen)) before (map upload_row us) → Fresh (seen ++ upload_names before) (upload_names (map upload_row us)) × AllByRecursion IsCanonicalUpload us
 uploads_out seen before [] all = (tt, tt)
 uploads_out seen before (u ∷ us) all =
     let rest = uploads_out seen (before ++ upload_row u ∷ []) us all.1 in
     let names : seen ++ upload_names (before ++ upload_row u ∷ []) ≡ (seen ++ upload_names before) ++ id_bytes u.id ∷ [] =
-      ap (λ (l : List (List ℕ)). seen ++ l) (map_push (λ r. r.id) before (upload_row u)) ∙ sym (append_assoc seen (upload_names before) (id_bytes u.id ∷ [])) in
+    ap (λ (l : List (List ℕ)). seen ++ l) (map_push (λ r. r.id) before (upload_row u)) ∙ sym (append_assoc seen (upload_names before) (id_bytes u.id ∷ [])) in
     let fresh = subst (λ (seen : List (List ℕ)). Fresh seen (upload_names (map upload_row us))) names rest.0 in
     let new = unused (is_among seen (id_bytes u.id) || is_among (upload_names before) (id_bytes u.id)) (both_true _ _ all.0.id_kept).1 in
     ((is_among-append seen (upload_names before) (id_bytes u.id) ∙ new, fresh), (record { opened = all.0.opened_kept; kind_short = all.0.kind_short }, rest.1))
@@ -195,15 +196,17 @@ uploads_in : (seen : List (List ℕ)) (before : List UploadRow) (us : List Uploa
 uploads_in seen before [] fresh all = tt
 uploads_in seen before (u ∷ us) fresh all =
     let names : seen ++ upload_names (before ++ upload_row u ∷ []) ≡ (seen ++ upload_names before) ++ id_bytes u.id ∷ [] =
-      ap (λ (l : List (List ℕ)). seen ++ l) (map_push (λ r. r.id) before (upload_row u)) ∙ sym (append_assoc seen (upload_names before) (id_bytes u.id ∷ [])) in
-    let rest = subst (λ (seen : List (List ℕ)). Fresh seen (upload_names (map upload_row us))) (sym names) fresh.1 in
-    (record {
-      id_sized = length-id_bytes u.id;
-      id_kept = kept_rule (is_id (id_bytes u.id)) (is_among seen (id_bytes u.id) || is_among (upload_names before) (id_bytes u.id)) (id-yes u.id) (sym (is_among-append seen (upload_names before) (id_bytes u.id)) ∙ fresh.0);
-      id_bytes = id-bytes u.id;
-      opened_kept = all.0.opened;
-      kind_short = all.0.kind_short;
-    }, uploads_in seen (before ++ upload_row u ∷ []) us rest all.1)
+    ap (λ (l : List (List ℕ)). seen ++ l) (map_push (λ r. r.id) before (upload_row u)) ∙ sym (append_assoc seen (upload_names before) (id_bytes u.id ∷ [])) in
+    let rest = subst (λ (seen : List (List ℕ)). Fresh seen (upload_names (map upload_row us))) (sym names) fresh.1 in (
+      record {
+        id_sized = length-id_bytes u.id;
+        id_kept = kept_rule (is_id (id_bytes u.id)) (is_among seen (id_bytes u.id) || is_among (upload_names before) (id_bytes u.id)) (id-yes u.id) (sym (is_among-append seen (upload_names before) (id_bytes u.id)) ∙ fresh.0);
+        id_bytes = id-bytes u.id;
+        opened_kept = all.0.opened;
+        kind_short = all.0.kind_short;
+      },
+      uploads_in seen (before ++ upload_row u ∷ []) us rest all.1,
+    )
 
 -- ---- states
 

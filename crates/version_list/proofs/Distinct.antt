@@ -44,15 +44,16 @@ pub fresh_distinct : (seen xs : List (List ℕ)) → Fresh seen xs → AreDistin
 fresh_distinct seen [] f = (tt, tt)
 fresh_distinct seen (x ∷ xs) f =
     let rest = fresh_distinct (seen ++ x ∷ []) xs f.1 in
-    let apart = λ (y : List ℕ) (e : is_among (seen ++ x ∷ []) y ≡ false). neither (is_among seen y) (bytes_eq x y) (sym (is_among-push seen x y) ∙ e) in
-    ((each_item (λ y. is_among (seen ++ x ∷ []) y ≡ false) (λ y. x ≢ y) (λ y e. different x y (apart y e).1) xs rest.1, rest.0),
-      (f.0, each_item (λ y. is_among (seen ++ x ∷ []) y ≡ false) (λ y. is_among seen y ≡ false) (λ y e. (apart y e).0) xs rest.1))
+    let apart = λ (y : List ℕ) (e : is_among (seen ++ x ∷ []) y ≡ false). neither (is_among seen y) (bytes_eq x y) (sym (is_among-push seen x y) ∙ e) in (
+      (each_item (λ y. is_among (seen ++ x ∷ []) y ≡ false) (λ y. x ≢ y) (λ y e. different x y (apart y e).1) xs rest.1, rest.0),
+      (f.0, each_item (λ y. is_among (seen ++ x ∷ []) y ≡ false) (λ y. is_among seen y ≡ false) (λ y e. (apart y e).0) xs rest.1),
+    )
 
 pub distinct_fresh : (seen xs : List (List ℕ)) → AreDistinct xs → AllByRecursion (λ x. is_among seen x ≡ false) xs → Fresh seen xs
 distinct_fresh seen [] d unseen = tt
 distinct_fresh seen (x ∷ xs) d unseen =
     let unseen_more = both_items (λ y. x ≢ y) (λ y. is_among seen y ≡ false) (λ y. is_among (seen ++ x ∷ []) y ≡ false)
-      (λ y apart e. is_among-push seen x y ∙ both_false (is_among seen y) (bytes_eq x y) e (not_equal x y apart)) xs d.0 unseen.1 in
+    (λ y apart e. is_among-push seen x y ∙ both_false (is_among seen y) (bytes_eq x y) e (not_equal x y apart)) xs d.0 unseen.1 in
     (unseen.0, distinct_fresh (seen ++ x ∷ []) xs d.1 unseen_more)
 
 -- none is among no names

@@ -1,7 +1,6 @@
 -- What is known after a name more.
 use Rattle.std.proofs.Common.{◌≡◌, ℕ, Bool, true, false, List, [], ◌∷◌, ◌++◌, refl, ap, ◌∙◌, sym}
-use Rattle.std.specs.Prelude.{◌||◌, map}
-use Rattle.std.specs.List.{list_any}
+use Rattle.std.specs.Prelude.{◌||◌}
 use Rattle.std.specs.Str.{bytes_eq}
 use Rattle.std.proofs.lemmas.List.{map_push}
 use Rattle.version_list.specs.declared.names.Names.{Names}
@@ -46,7 +45,7 @@ pub uploads_known : (used : List ℕ → Bool) (before after : Names) (front : L
 uploads_known used before after front row known added bytes =
     let names : upload_names (front ++ row ∷ []) ≡ upload_names front ++ row.id ∷ [] = map_push (λ u. u.id) front row in
     let more : is_among (upload_names (front ++ row ∷ [])) bytes ≡ (is_among (upload_names front) bytes || bytes_eq row.id bytes) =
-      ap (λ (l : List (List ℕ)). is_among l bytes) names ∙ is_among-push (upload_names front) row.id bytes in
+    ap (λ (l : List (List ℕ)). is_among l bytes) names ∙ is_among-push (upload_names front) row.id bytes in
     added bytes ∙ ap (λ (b : Bool). bytes_eq row.id bytes || b) (known bytes) ∙ or_last (bytes_eq row.id bytes) _
     ∙ sym (or_rest (used bytes) (is_among (upload_names front) bytes) (bytes_eq row.id bytes)) ∙ ap (λ (b : Bool). used bytes || b) (sym more)
 

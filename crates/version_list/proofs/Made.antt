@@ -1,16 +1,15 @@
 -- Each state of rows that the format takes is that of a key.
-use Rattle.std.proofs.Common.{◌≡◌, ℕ, ◌+◌, ◌*◌, ◌/◌, ◌%◌, ◌^◌, ◌<◌, ◌≤◌, Bool, true, false, cond, eqb, List, [], ◌∷◌, ◌++◌, length, take, drop, Option, Some, None, refl, sym, ap, subst, ◌∙◌, arith}
-use Rattle.std.specs.Prelude.{◌&&◌, ◌||◌, not, map}
+use Rattle.std.proofs.Common.{◌≡◌, ℕ, ◌/◌, ◌%◌, ◌^◌, ◌<◌, Bool, true, false, cond, eqb, List, [], ◌∷◌, ◌++◌, length, take, drop, Option, Some, None, refl, sym, ap, ◌∙◌, arith}
+use Rattle.std.specs.Prelude.{◌||◌, map}
 use Rattle.std.specs.Int.{w64, to_be_bytes, from_be_bytes}
 use Rattle.std.proofs.lemmas.List.{length-take, length-drop, take-append-drop}
 use Rattle.std.proofs.lemmas.Nat.{be_bytes_8}
 use Rattle.field_reader.specs.Spelling.{IsBytes}
 use Rattle.field_reader.proofs.Parts.{IsBytes-take, IsBytes-drop}
 use Rattle.field_reader.proofs.Series.{AllAfter}
-use Rattle.stamp_id.specs.Layout.{high_word_of, low_word_of, bytes_of, high_word, low_word, AreIdWords}
+use Rattle.stamp_id.specs.Layout.{high_word_of, low_word_of, high_word, low_word, AreIdWords}
 use Rattle.stamp_id.specs.VersionId.{id_bytes}
 use Rattle.stamp_id.specs.declared.stamp.Ballot.{Ballot}
-use Rattle.stamp_id.specs.declared.stamp.ChangeId.{ChangeId}
 use Rattle.stamp_id.specs.declared.version.VersionId.{VersionId}
 use Rattle.call_types.specs.declared.names.VersionName.{VersionName}
 use Rattle.call_types.specs.declared.names.VersionName.TheVariants.{Null, Id}
@@ -19,10 +18,9 @@ use Rattle.call_types.specs.declared.version.Upload.{Upload}
 use Rattle.call_types.specs.declared.version.What.{What}
 use Rattle.call_types.specs.declared.version.What.TheVariants.{Marker, Object}
 use Rattle.version_list.specs.declared.state.KeyState.{KeyState}
-use Rattle.version_list.specs.Rows.{ObjectRow, VersionRow, UploadRow, StateRows, no_id, name_field, upload_field, object_row, version_row, upload_row, rows_of}
+use Rattle.version_list.specs.Rows.{ObjectRow, VersionRow, UploadRow, StateRows, name_field, upload_field, object_row, version_row, upload_row, rows_of}
 use Rattle.version_list.specs.Layout.{is_id, is_no_id, is_among, upload_rule, version_names}
 use Rattle.version_list.proofs.IdTests.{both_true, is_id-true, no_id-from}
-use Rattle.version_list.proofs.ObjectText.{IsObjectRow}
 use Rattle.version_list.proofs.RowTexts.{IsObjectOption, IsVersionRow, IsUploadRow}
 use Rattle.version_list.proofs.StateText.{IsVersionAfter, IsUploadAfter, AreRows}
 
@@ -49,9 +47,11 @@ id_of bytes sized fits e =
     let back_fits = IsBytes-drop 8 bytes fits in
     let w = of_words (high_word bytes) (low_word bytes) (word_below (take 8 bytes) front_fits) (word_below (drop 8 bytes) back_fits) (is_id-true bytes e) in
     let front : to_be_bytes w64 (high_word bytes) ≡ take 8 bytes = be_bytes_8 (take 8 bytes) (high_word bytes) (omega (arith, length-take 8 bytes)) front_fits refl in
-    let back : to_be_bytes w64 (low_word bytes) ≡ drop 8 bytes = be_bytes_8 (drop 8 bytes) (low_word bytes) (omega (arith, length-drop 8 bytes)) back_fits refl in
-    (w.0, ap (λ (n : ℕ). to_be_bytes w64 n ++ to_be_bytes w64 (low_word_of w.0.change.0.seq)) w.1 ∙ ap (λ (n : ℕ). to_be_bytes w64 (high_word bytes) ++ to_be_bytes w64 n) w.2
-      ∙ ap (λ (x : List ℕ). x ++ to_be_bytes w64 (low_word bytes)) front ∙ ap (λ (x : List ℕ). take 8 bytes ++ x) back ∙ take-append-drop 8 bytes)
+    let back : to_be_bytes w64 (low_word bytes) ≡ drop 8 bytes = be_bytes_8 (drop 8 bytes) (low_word bytes) (omega (arith, length-drop 8 bytes)) back_fits refl in (
+      w.0,
+      ap (λ (n : ℕ). to_be_bytes w64 n ++ to_be_bytes w64 (low_word_of w.0.change.0.seq)) w.1 ∙ ap (λ (n : ℕ). to_be_bytes w64 (high_word bytes) ++ to_be_bytes w64 n) w.2
+          ∙ ap (λ (x : List ℕ). x ++ to_be_bytes w64 (low_word bytes)) front ∙ ap (λ (x : List ℕ). take 8 bytes ++ x) back ∙ take-append-drop 8 bytes,
+    )
 
 name_of : (bytes : List ℕ) → length bytes ≡ 16 → IsBytes bytes → (is_no_id bytes || is_id bytes) ≡ true → (name : VersionName) × (name_field name ≡ bytes)
 name_of bytes sized fits e =

@@ -1,8 +1,8 @@
 -- The texts that spell an object.
-use Rattle.std.proofs.Common.{◌≡◌, ℕ, ◌+◌, ◌^◌, ◌<◌, ◌≤◌, Bool, true, false, List, [], ◌∷◌, ◌++◌, length, Option, Some, None, refl, sym, ap, subst, ◌∙◌, arith}
-use Rattle.std.specs.Int.{w8, w16, w32, w64}
+use Rattle.std.proofs.Common.{◌≡◌, ℕ, ◌^◌, ◌<◌, ◌≤◌, true, List, [], length, Option, Some, refl, subst}
+use Rattle.std.specs.Int.{w16, w64}
 use Rattle.field_reader.specs.Format.{Format, ◌>>=◌, done, field, number, short_text, with_rule}
-use Rattle.field_reader.specs.Spelling.{IsBytes, number_bytes, short_text_bytes, joined}
+use Rattle.field_reader.specs.Spelling.{IsBytes, number_bytes, short_text_bytes}
 use Rattle.field_reader.proofs.Parts.{IsSpelled, Then, then_spelled, then_joined, Done, done_spelled, Ruled, rule_spelled, told_spelled, IsBytes-front, IsBytes-back}
 use Rattle.field_reader.proofs.Numbers.{Plain, field_spelled, Numbered, u16_spelled, u64_spelled, Short, short_text_spelled}
 use Rattle.version_list.specs.Rows.{ObjectRow}
@@ -132,19 +132,47 @@ out_of o text t =
     let r = t.object in
     let k = t.keeps in
     record {
-      first = r.data_id; front = r.data_id; back = _; is_first = record { spells = record { is = refl; sized = k.data_sized }; keeps = k.data_is_id }; whole = t.is;
+      first = r.data_id;
+      front = r.data_id;
+      back = _;
+      is_first = record { spells = record { is = refl; sized = k.data_sized }; keeps = k.data_is_id };
+      whole = t.is;
       is_rest = record {
-        first = r.print; front = r.print; back = _; is_first = record { is = refl; sized = k.print_sized }; whole = refl;
+        first = r.print;
+        front = r.print;
+        back = _;
+        is_first = record { is = refl; sized = k.print_sized };
+        whole = refl;
         is_rest = record {
-          first = r.size; front = number_bytes w64 r.size; back = _; is_first = record { is = refl; below = k.size_fits }; whole = refl;
+          first = r.size;
+          front = number_bytes w64 r.size;
+          back = _;
+          is_first = record { is = refl; below = k.size_fits };
+          whole = refl;
           is_rest = record {
-            first = r.md5; front = r.md5; back = _; is_first = record { is = refl; sized = k.md5_sized }; whole = refl;
+            first = r.md5;
+            front = r.md5;
+            back = _;
+            is_first = record { is = refl; sized = k.md5_sized };
+            whole = refl;
             is_rest = record {
-              first = r.parts; front = number_bytes w16 r.parts; back = _; is_first = record { is = refl; below = k.parts_fit }; whole = refl;
+              first = r.parts;
+              front = number_bytes w16 r.parts;
+              back = _;
+              is_first = record { is = refl; below = k.parts_fit };
+              whole = refl;
               is_rest = record {
-                first = r.upload; front = r.upload; back = _; is_first = record { spells = record { is = refl; sized = k.upload_sized }; keeps = k.upload_kept }; whole = refl;
+                first = r.upload;
+                front = r.upload;
+                back = _;
+                is_first = record { spells = record { is = refl; sized = k.upload_sized }; keeps = k.upload_kept };
+                whole = refl;
                 is_rest = record {
-                  first = r.kind; front = short_text_bytes r.kind; back = []; is_first = record { is = refl; sized = k.kind_short }; whole = refl;
+                  first = r.kind;
+                  front = short_text_bytes r.kind;
+                  back = [];
+                  is_first = record { is = refl; sized = k.kind_short };
+                  whole = refl;
                   is_rest = record { is = t.is_some; nothing = refl };
                 };
               };

@@ -1,12 +1,12 @@
 -- The texts that spell a version and an upload.
-use Rattle.std.proofs.Common.{◌≡◌, ℕ, ◌+◌, ◌^◌, ◌<◌, ◌≤◌, Bool, true, false, cond, eqb, ltb, List, [], ◌∷◌, ◌++◌, length, Option, Some, None, refl, sym, ap, subst, ◌∙◌, arith}
+use Rattle.std.proofs.Common.{◌≡◌, ℕ, ◌^◌, ◌<◌, ◌≤◌, Bool, true, false, List, [], length, Option, Some, None, refl, sym, ap, subst, ◌∙◌, arith}
 use Rattle.std.specs.Prelude.{◌&&◌, ◌||◌, not, ◌==◌}
 use Rattle.std.specs.Bool.{MatchBool}
-use Rattle.std.specs.Int.{w8, w32, w64}
+use Rattle.std.specs.Int.{w8, w64}
 use Rattle.std.proofs.lemmas.Bool.{eqb-true, ltb-true}
 use Rattle.std.proofs.lemmas.Bool.Decides.{nat_tests}
 use Rattle.field_reader.specs.Format.{Format, ◌>>=◌, done, field, number, short_text, with_rule}
-use Rattle.field_reader.specs.Spelling.{IsBytes, number_bytes, short_text_bytes, joined}
+use Rattle.field_reader.specs.Spelling.{IsBytes, number_bytes, short_text_bytes}
 use Rattle.field_reader.proofs.Parts.{IsSpelled, Then, then_spelled, then_joined, Done, done_spelled, Ruled, rule_spelled, told_spelled, choice_spelled, IsBytes-front}
 use Rattle.field_reader.proofs.Numbers.{Plain, field_spelled, Numbered, u8_spelled, u64_spelled, Short, short_text_spelled}
 use Rattle.field_reader.proofs.Series.{Kept}
@@ -138,13 +138,29 @@ moment_text n small =
 
 out_of : (is_used : List ℕ → Bool) (v : VersionRow) (text : List ℕ) → Kept (IsVersionRow is_used) version_bytes v text → t1 is_used v text
 out_of is_used v text k = record {
-  first = v.id; front = v.id; back = _; is_first = record { spells = record { is = refl; sized = k.keeps.id_sized }; keeps = k.keeps.id_kept }; whole = k.is;
+  first = v.id;
+  front = v.id;
+  back = _;
+  is_first = record { spells = record { is = refl; sized = k.keeps.id_sized }; keeps = k.keeps.id_kept };
+  whole = k.is;
   is_rest = record {
-    first = class_of v.object; front = number_bytes w8 (class_of v.object); back = _; is_first = class_kept v.object; whole = refl;
+    first = class_of v.object;
+    front = number_bytes w8 (class_of v.object);
+    back = _;
+    is_first = class_kept v.object;
+    whole = refl;
     is_rest = record {
-      first = v.modified; front = number_bytes w64 v.modified; back = _; is_first = moment_text v.modified k.keeps.modified_kept; whole = refl;
+      first = v.modified;
+      front = number_bytes w64 v.modified;
+      back = _;
+      is_first = moment_text v.modified k.keeps.modified_kept;
+      whole = refl;
       is_rest = record {
-        first = v.object; front = object_bytes v.object; back = []; is_first = unclassed v.object k.keeps.object; whole = refl;
+        first = v.object;
+        front = object_bytes v.object;
+        back = [];
+        is_first = unclassed v.object k.keeps.object;
+        whole = refl;
         is_rest = record { is = refl; nothing = refl };
       };
     };
@@ -216,11 +232,23 @@ upload_into is_used u text fits a =
 
 upload_out_of : (is_used : List ℕ → Bool) (u : UploadRow) (text : List ℕ) → Kept (IsUploadRow is_used) upload_bytes u text → u1 is_used u text
 upload_out_of is_used u text k = record {
-  first = u.id; front = u.id; back = _; is_first = record { spells = record { is = refl; sized = k.keeps.id_sized }; keeps = k.keeps.id_kept }; whole = k.is;
+  first = u.id;
+  front = u.id;
+  back = _;
+  is_first = record { spells = record { is = refl; sized = k.keeps.id_sized }; keeps = k.keeps.id_kept };
+  whole = k.is;
   is_rest = record {
-    first = u.opened; front = number_bytes w64 u.opened; back = _; is_first = moment_text u.opened k.keeps.opened_kept; whole = refl;
+    first = u.opened;
+    front = number_bytes w64 u.opened;
+    back = _;
+    is_first = moment_text u.opened k.keeps.opened_kept;
+    whole = refl;
     is_rest = record {
-      first = u.kind; front = short_text_bytes u.kind; back = []; is_first = record { is = refl; sized = k.keeps.kind_short }; whole = refl;
+      first = u.kind;
+      front = short_text_bytes u.kind;
+      back = [];
+      is_first = record { is = refl; sized = k.keeps.kind_short };
+      whole = refl;
       is_rest = record { is = refl; nothing = refl };
     };
   };

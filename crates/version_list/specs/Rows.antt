@@ -52,7 +52,13 @@ upload_field (Some id) = id_bytes id
 abbrev pub object_row : What → Option ObjectRow
 object_row Marker = None
 object_row (Object data_id print size md5 parts upload kind) = Some (record {
-  data_id = id_bytes data_id; print = print; size = size; md5 = md5; parts = parts; upload = upload_field upload; kind = kind
+  data_id = id_bytes data_id;
+  print = print;
+  size = size;
+  md5 = md5;
+  parts = parts;
+  upload = upload_field upload;
+  kind = kind;
 })
 
 abbrev pub version_row : Version → VersionRow

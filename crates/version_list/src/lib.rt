@@ -5,8 +5,6 @@
 //! place of its first fault.
 #![tactic(auto)]
 
-
-
 mod ids;
 mod names;
 mod reading;
@@ -16,5 +14,7 @@ mod writing;
 
 pub use reading::{read, state_laws};
 pub use state::{KeyState, MOMENT_LIMIT, MOST_KIND_BYTES, MOST_UPLOADS, MOST_VERSIONS};
-
 pub use writing::write;
+
+#[cfg(test)]
+mod tests;

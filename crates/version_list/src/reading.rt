@@ -84,11 +84,7 @@ fn take_what(alloc: Global, fields: &mut Fields, class: u8) -> Result<What, Read
 
 /// Takes a version, whose name must not be known yet.
 #[tactic(auto, unfolding(crate::specs::Layout::version))]
-fn take_version(
-    alloc: Global,
-    fields: &mut Fields,
-    names: &mut Names,
-) -> Result<Version, ReadFault>
+fn take_version(alloc: Global, fields: &mut Fields, names: &mut Names) -> Result<Version, ReadFault>
     ensures gives { Gives version_row result fields.new (version (is_known names.old) fields.old) }
     ensures known { IfOk result (λ v. (bytes : List ℕ) → is_known names.new bytes ≡ (bytes_eq (version_row v).id bytes || is_known names.old bytes)) }
 {
@@ -101,11 +97,7 @@ fn take_version(
 
 /// Takes an upload, whose id must not be known yet.
 #[tactic(auto, unfolding(crate::specs::Layout::upload))]
-fn take_upload(
-    alloc: Global,
-    fields: &mut Fields,
-    names: &mut Names,
-) -> Result<Upload, ReadFault>
+fn take_upload(alloc: Global, fields: &mut Fields, names: &mut Names) -> Result<Upload, ReadFault>
     ensures gives { Gives upload_row result fields.new (upload (is_known names.old) fields.old) }
     ensures known { IfOk result (λ u. (bytes : List ℕ) → is_known names.new bytes ≡ (bytes_eq (upload_row u).id bytes || is_known names.old bytes)) }
 {
@@ -167,7 +159,10 @@ fn take_upload_count(fields: &mut Fields, versions: u32) -> Result<u32, ReadFaul
 {
     let start = fields.at();
     let count = fields.take_u32()?;
-    refuse_unless(count as usize <= MOST_UPLOADS && (versions > 0 || count > 0), start)?;
+    refuse_unless(
+        count as usize <= MOST_UPLOADS && (versions > 0 || count > 0),
+        start,
+    )?;
     Ok(count)
 }
 
@@ -236,5 +231,4 @@ pub fn state_laws()
     ensures spelled { SpellingsHaveNoFault }
     ensures faultless { FaultlessIsSpelled }
     ensures injective { SpellingIsInjective }
-{
-}
+{}

@@ -1,4 +1,4 @@
-use Rattle.std.proofs.Common.{◌≡◌, ◌∷◌, [], ◌++◌, ℕ, List, Bool, Err, refl, ap, subst, sym, ◌∙◌}
+use Rattle.std.proofs.Common.{◌≡◌, ◌∷◌, [], ◌++◌, ℕ, List, Bool, Err, ap, subst}
 use Rattle.std.specs.Prelude.{map, ◌||◌}
 use Rattle.std.specs.Global.{Vec}
 use Rattle.std.proofs.Math.Path.{fun_ext}
@@ -36,7 +36,7 @@ returns-in_err-upload c =
     let test : is_known c.loop.names ≡ (λ id. used id || is_among (upload_names front) id) = fun_ext c.loop.invariant.known in
     let one = subst (λ (test : List ℕ → Bool). Gives upload_row (Err c.in_err-upload.field-0.0) after (upload test c.loop.fields)) test c.in_err-upload.ensures.gives in
     rw (p.1, p.2) (stops upload_row (λ (us : Vec Upload). map upload_row us.items) c.in_err-upload.field-0.0 after after (part used) front
-      c.args.count c.loop.counter c.loop.fields (uploads used c.args.count c.args.fields.now) c.loop-test.true one c.loop.invariant.read)
+    c.args.count c.loop.counter c.loop.fields (uploads used c.args.count c.args.fields.now) c.loop-test.true one c.loop.invariant.read)
 
 pub loop-preserved : goal.loop-preserved
 loop-preserved c =

@@ -1,4 +1,4 @@
-use Rattle.std.proofs.Common.{◌≡◌, ◌∷◌, [], ◌++◌, ℕ, List, Bool, Err, refl, ap, subst, sym, ◌∙◌}
+use Rattle.std.proofs.Common.{◌≡◌, ◌∷◌, [], ◌++◌, ℕ, List, Bool, Err, ap, subst}
 use Rattle.std.specs.Prelude.{map}
 use Rattle.std.specs.Global.{Vec}
 use Rattle.std.proofs.Math.Path.{fun_ext}
@@ -7,7 +7,7 @@ use Rattle.std.proofs.lemmas.List.{map_push}
 use Rattle.call_types.specs.declared.version.Version.{Version}
 use Rattle.field_reader.specs.Reading.{Gives}
 use Rattle.field_reader.proofs.Series.{begins, goes_on, stops, is_done}
-use Rattle.version_list.specs.Rows.{VersionRow, version_row}
+use Rattle.version_list.specs.Rows.{version_row}
 use Rattle.version_list.specs.Layout.{version, versions, version_names, is_among}
 use Rattle.version_list.specs.Known.{is_known}
 use Rattle.version_list.proofs.Known.{versions_known, none_known}
@@ -28,7 +28,7 @@ returns-in_err-version-clause-gives c =
     let test : is_known c.loop.names ≡ is_among (version_names (map version_row c.loop.versions.items)) = fun_ext c.loop.invariant.known in
     let one = subst (λ (used : List ℕ → Bool). Gives version_row (Err c.in_err-version.field-0.0) c.take_version.new.fields (version used c.loop.fields)) test c.in_err-version.ensures.gives in
     rw (p.1, p.2) (stops version_row (λ (vs : Vec Version). map version_row vs.items) c.in_err-version.field-0.0 c.take_version.new.fields c.take_version.new.fields (λ before. version (is_among (version_names before)))
-      (map version_row c.loop.versions.items) c.args.count c.loop.counter c.loop.fields (versions c.args.count c.args.fields.now) c.loop-test.true one c.loop.invariant.read)
+    (map version_row c.loop.versions.items) c.args.count c.loop.counter c.loop.fields (versions c.args.count c.args.fields.now) c.loop-test.true one c.loop.invariant.read)
 
 pub loop-preserved : goal.loop-preserved
 loop-preserved c =
