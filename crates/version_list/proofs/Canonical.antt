@@ -1,6 +1,6 @@
 -- A state is canonical exactly where its rows are those that the format takes.
-use Rattle.std.proofs.Common.{◌≡◌, ◌≢◌, ℕ, zero, suc, ◌<◌, ◌≤◌, Bool, true, false, cond, eqb, List, [], ◌∷◌, ◌++◌, length, All, get_or, Option, Some, None, refl, sym, ap, subst, ◌∙◌, append_assoc, arith, inl, inr}
-use Rattle.std.specs.Prelude.{◌&&◌, ◌||◌, not, ◌↔◌, map, IsNone, is_none}
+use Rattle.std.proofs.Common.{◌≡◌, ℕ, ◌<◌, Bool, true, false, cond, eqb, List, [], ◌∷◌, ◌++◌, length, All, Option, Some, None, refl, sym, ap, subst, ◌∙◌, append_assoc, arith, inl, inr}
+use Rattle.std.specs.Prelude.{◌&&◌, ◌||◌, not, ◌↔◌, map, IsNone}
 use Rattle.std.specs.List.{AllByRecursion}
 use Rattle.std.proofs.lemmas.Bool.{false_from_ne_true, eqb-true, cases_lt, eq-eqb}
 use Rattle.std.proofs.lemmas.List.{append-nil, length-map, map-append, map_push, get_or_past}
@@ -16,12 +16,11 @@ use Rattle.call_types.specs.declared.version.Upload.{Upload}
 use Rattle.call_types.specs.declared.version.What.{What}
 use Rattle.call_types.specs.declared.version.What.TheVariants.{Marker, Object}
 use Rattle.version_list.specs.declared.state.KeyState.{KeyState}
-use Rattle.version_list.specs.State.{AreDistinct, names_of, IsObject, IsCanonicalWhat, IsCanonicalVersion, IsCanonicalUpload, IsCanonical}
+use Rattle.version_list.specs.State.{AreDistinct, names_of, IsCanonicalWhat, IsCanonicalVersion, IsCanonicalUpload, IsCanonical}
 use Rattle.version_list.specs.Rows.{VersionRow, UploadRow, no_id, name_field, upload_field, object_row, version_row, upload_row, rows_of}
 use Rattle.version_list.specs.Layout.{is_id, is_no_id, is_among, upload_rule, version_names, upload_names}
 use Rattle.version_list.proofs.IdTests.{both_true, is_id-yes, no_id-from}
-use Rattle.version_list.proofs.ObjectText.{IsObjectRow}
-use Rattle.version_list.proofs.RowTexts.{IsObjectOption, name_rule, IsVersionRow, IsUploadRow}
+use Rattle.version_list.proofs.RowTexts.{IsObjectOption}
 use Rattle.version_list.proofs.StateText.{IsVersionAfter, IsUploadAfter, AreRows}
 use Rattle.version_list.proofs.Distinct.{Fresh, fresh_distinct, distinct_fresh, none_seen, fresh_split, fresh_join, is_among-append, distinct_map, distinct_unmap}
 

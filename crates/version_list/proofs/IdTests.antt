@@ -1,5 +1,5 @@
 -- The tests of ids say what they test.
-use Rattle.std.proofs.Common.{◌≡◌, ◌+◌, ◌/◌, ◌%◌, ◌^◌, ◌<◌, ◌≤◌, ℕ, zero, suc, Bool, true, false, cond, eqb, ltb, List, [], ◌∷◌, length, refl, sym, ap, ◌∙◌, arith}
+use Rattle.std.proofs.Common.{◌≡◌, ℕ, zero, suc, Bool, true, false, List, [], ◌∷◌, length, refl, sym, arith}
 use Rattle.std.specs.Prelude.{◌&&◌, replicate, ◌==◌}
 use Rattle.std.specs.List.{list_all}
 use Rattle.std.specs.Bool.{OnTrue}

@@ -1,15 +1,13 @@
 -- States with the same rows are the same.
-use Rattle.std.proofs.Common.{◌≡◌, ℕ, List, [], ◌∷◌, Option, Some, None, refl, sym, ap, ◌∙◌}
+use Rattle.std.proofs.Common.{◌≡◌, List, [], ◌∷◌, Option, Some, refl, ap}
 use Rattle.std.specs.Prelude.{map}
-use Rattle.stamp_id.specs.VersionId.{id_bytes}
-use Rattle.stamp_id.specs.declared.version.VersionId.{VersionId}
 use Rattle.stamp_id.proofs.IdLemmas.{id_bytes-injective}
 use Rattle.call_types.specs.declared.version.Version.{Version}
 use Rattle.call_types.specs.declared.version.Upload.{Upload}
 use Rattle.call_types.specs.declared.version.What.{What}
 use Rattle.call_types.specs.declared.version.What.TheVariants.{Marker, Object}
 use Rattle.version_list.specs.declared.state.KeyState.{KeyState}
-use Rattle.version_list.specs.Rows.{ObjectRow, VersionRow, UploadRow, StateRows, upload_field, object_row, version_row, upload_row, rows_of}
+use Rattle.version_list.specs.Rows.{ObjectRow, VersionRow, UploadRow, StateRows, object_row, version_row, upload_row, rows_of}
 use Rattle.version_list.proofs.Canonical.{name_field-injective, upload_field-injective}
 
 abbrev some_row : ObjectRow → Option ObjectRow

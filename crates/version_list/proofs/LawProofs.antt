@@ -1,6 +1,6 @@
 -- The laws of reading and writing.
-use Rattle.std.proofs.Common.{◌≡◌, ℕ, List, Option, Some, None, Result, Ok, Err, refl, sym, ap, subst, ◌∙◌}
-use Rattle.field_reader.specs.Format.{value_of, fault_at, place_of}
+use Rattle.std.proofs.Common.{◌≡◌, ℕ, List, None, Result, Ok, Err, refl, sym, ap, subst, ◌∙◌}
+use Rattle.field_reader.specs.Format.{value_of, place_of}
 use Rattle.field_reader.specs.Spelling.{IsBytes}
 use Rattle.version_list.specs.declared.state.KeyState.{KeyState}
 use Rattle.version_list.specs.State.{IsCanonical}

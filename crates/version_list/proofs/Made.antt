@@ -1,16 +1,15 @@
 -- Each state of rows that the format takes is that of a key.
-use Rattle.std.proofs.Common.{◌≡◌, ℕ, ◌+◌, ◌*◌, ◌/◌, ◌%◌, ◌^◌, ◌<◌, ◌≤◌, Bool, true, false, cond, eqb, List, [], ◌∷◌, ◌++◌, length, take, drop, Option, Some, None, refl, sym, ap, subst, ◌∙◌, arith}
-use Rattle.std.specs.Prelude.{◌&&◌, ◌||◌, not, map}
+use Rattle.std.proofs.Common.{◌≡◌, ℕ, ◌/◌, ◌%◌, ◌^◌, ◌<◌, Bool, true, false, cond, eqb, List, [], ◌∷◌, ◌++◌, length, take, drop, Option, Some, None, refl, sym, ap, ◌∙◌, arith}
+use Rattle.std.specs.Prelude.{◌||◌, map}
 use Rattle.std.specs.Int.{w64, to_be_bytes, from_be_bytes}
 use Rattle.std.proofs.lemmas.List.{length-take, length-drop, take-append-drop}
 use Rattle.std.proofs.lemmas.Nat.{be_bytes_8}
 use Rattle.field_reader.specs.Spelling.{IsBytes}
 use Rattle.field_reader.proofs.Parts.{IsBytes-take, IsBytes-drop}
 use Rattle.field_reader.proofs.Series.{AllAfter}
-use Rattle.stamp_id.specs.Layout.{high_word_of, low_word_of, bytes_of, high_word, low_word, AreIdWords}
+use Rattle.stamp_id.specs.Layout.{high_word_of, low_word_of, high_word, low_word, AreIdWords}
 use Rattle.stamp_id.specs.VersionId.{id_bytes}
 use Rattle.stamp_id.specs.declared.stamp.Ballot.{Ballot}
-use Rattle.stamp_id.specs.declared.stamp.ChangeId.{ChangeId}
 use Rattle.stamp_id.specs.declared.version.VersionId.{VersionId}
 use Rattle.call_types.specs.declared.names.VersionName.{VersionName}
 use Rattle.call_types.specs.declared.names.VersionName.TheVariants.{Null, Id}
@@ -19,10 +18,9 @@ use Rattle.call_types.specs.declared.version.Upload.{Upload}
 use Rattle.call_types.specs.declared.version.What.{What}
 use Rattle.call_types.specs.declared.version.What.TheVariants.{Marker, Object}
 use Rattle.version_list.specs.declared.state.KeyState.{KeyState}
-use Rattle.version_list.specs.Rows.{ObjectRow, VersionRow, UploadRow, StateRows, no_id, name_field, upload_field, object_row, version_row, upload_row, rows_of}
+use Rattle.version_list.specs.Rows.{ObjectRow, VersionRow, UploadRow, StateRows, name_field, upload_field, object_row, version_row, upload_row, rows_of}
 use Rattle.version_list.specs.Layout.{is_id, is_no_id, is_among, upload_rule, version_names}
 use Rattle.version_list.proofs.IdTests.{both_true, is_id-true, no_id-from}
-use Rattle.version_list.proofs.ObjectText.{IsObjectRow}
 use Rattle.version_list.proofs.RowTexts.{IsObjectOption, IsVersionRow, IsUploadRow}
 use Rattle.version_list.proofs.StateText.{IsVersionAfter, IsUploadAfter, AreRows}
 

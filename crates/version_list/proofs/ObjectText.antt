@@ -1,8 +1,8 @@
 -- The texts that spell an object.
-use Rattle.std.proofs.Common.{◌≡◌, ℕ, ◌+◌, ◌^◌, ◌<◌, ◌≤◌, Bool, true, false, List, [], ◌∷◌, ◌++◌, length, Option, Some, None, refl, sym, ap, subst, ◌∙◌, arith}
-use Rattle.std.specs.Int.{w8, w16, w32, w64}
+use Rattle.std.proofs.Common.{◌≡◌, ℕ, ◌^◌, ◌<◌, ◌≤◌, true, List, [], length, Option, Some, refl, subst}
+use Rattle.std.specs.Int.{w16, w64}
 use Rattle.field_reader.specs.Format.{Format, ◌>>=◌, done, field, number, short_text, with_rule}
-use Rattle.field_reader.specs.Spelling.{IsBytes, number_bytes, short_text_bytes, joined}
+use Rattle.field_reader.specs.Spelling.{IsBytes, number_bytes, short_text_bytes}
 use Rattle.field_reader.proofs.Parts.{IsSpelled, Then, then_spelled, then_joined, Done, done_spelled, Ruled, rule_spelled, told_spelled, IsBytes-front, IsBytes-back}
 use Rattle.field_reader.proofs.Numbers.{Plain, field_spelled, Numbered, u16_spelled, u64_spelled, Short, short_text_spelled}
 use Rattle.version_list.specs.Rows.{ObjectRow}

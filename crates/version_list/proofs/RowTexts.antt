@@ -1,12 +1,12 @@
 -- The texts that spell a version and an upload.
-use Rattle.std.proofs.Common.{◌≡◌, ℕ, ◌+◌, ◌^◌, ◌<◌, ◌≤◌, Bool, true, false, cond, eqb, ltb, List, [], ◌∷◌, ◌++◌, length, Option, Some, None, refl, sym, ap, subst, ◌∙◌, arith}
+use Rattle.std.proofs.Common.{◌≡◌, ℕ, ◌^◌, ◌<◌, ◌≤◌, Bool, true, false, List, [], length, Option, Some, None, refl, sym, ap, subst, ◌∙◌, arith}
 use Rattle.std.specs.Prelude.{◌&&◌, ◌||◌, not, ◌==◌}
 use Rattle.std.specs.Bool.{MatchBool}
-use Rattle.std.specs.Int.{w8, w32, w64}
+use Rattle.std.specs.Int.{w8, w64}
 use Rattle.std.proofs.lemmas.Bool.{eqb-true, ltb-true}
 use Rattle.std.proofs.lemmas.Bool.Decides.{nat_tests}
 use Rattle.field_reader.specs.Format.{Format, ◌>>=◌, done, field, number, short_text, with_rule}
-use Rattle.field_reader.specs.Spelling.{IsBytes, number_bytes, short_text_bytes, joined}
+use Rattle.field_reader.specs.Spelling.{IsBytes, number_bytes, short_text_bytes}
 use Rattle.field_reader.proofs.Parts.{IsSpelled, Then, then_spelled, then_joined, Done, done_spelled, Ruled, rule_spelled, told_spelled, choice_spelled, IsBytes-front}
 use Rattle.field_reader.proofs.Numbers.{Plain, field_spelled, Numbered, u8_spelled, u64_spelled, Short, short_text_spelled}
 use Rattle.field_reader.proofs.Series.{Kept}

@@ -1,15 +1,15 @@
 -- The texts that spell a state.
-use Rattle.std.proofs.Common.{◌≡◌, ℕ, ◌+◌, ◌^◌, ◌<◌, ◌≤◌, Bool, true, false, cond, eqb, ltb, List, [], ◌∷◌, ◌++◌, length, Result, Ok, Err, refl, sym, ap, subst, ◌∙◌, arith, ◌⊎◌, inl, inr}
-use Rattle.std.specs.Prelude.{◌&&◌, ◌||◌, not, ◌==◌}
+use Rattle.std.proofs.Common.{◌≡◌, ℕ, ◌+◌, ◌^◌, ◌<◌, ◌≤◌, Bool, true, false, ltb, leb, List, [], ◌∷◌, length, Result, Ok, refl, sym, ap, subst, ◌∙◌, arith, ◌⊎◌, inl, inr}
+use Rattle.std.specs.Prelude.{◌||◌, ◌==◌}
 use Rattle.std.specs.List.{flat_map}
 use Rattle.std.specs.Int.{w32}
-use Rattle.std.proofs.lemmas.Bool.{eqb-true, ltb-true, leb-true}
+use Rattle.std.proofs.lemmas.Bool.{ltb-true, leb-true}
 use Rattle.std.proofs.lemmas.Bool.Decides.{nat_tests}
-use Rattle.field_reader.specs.Format.{Format, ◌>>=◌, done, number, with_rule, series, ends, value_of}
-use Rattle.field_reader.specs.Spelling.{IsBytes, number_bytes, joined}
+use Rattle.field_reader.specs.Format.{Format, ◌>>=◌, done, number, with_rule, ends, value_of}
+use Rattle.field_reader.specs.Spelling.{IsBytes, number_bytes}
 use Rattle.field_reader.proofs.Parts.{IsSpelled, Then, then_spelled, then_joined, Done, done_spelled, Ruled, rule_spelled, told_spelled}
 use Rattle.field_reader.proofs.Numbers.{Numbered, u32_spelled}
-use Rattle.field_reader.proofs.Series.{Kept, AllAfter, Listed, listed_spelled}
+use Rattle.field_reader.proofs.Series.{AllAfter, Listed, listed_spelled}
 use Rattle.field_reader.proofs.Whole.{whole_takes, whole_again}
 use Rattle.version_list.specs.Rows.{VersionRow, UploadRow, StateRows}
 use Rattle.version_list.specs.Layout.{is_among, version, versions, version_names, upload, uploads, upload_names, is_version_count, is_upload_count, long_state, key_state}
@@ -94,7 +94,7 @@ one_true false b e = inr e
 
 upload_count : (k n : ℕ) → is_upload_count k n ≡ true → (n ≤ 1000) × (0 < k + n)
 upload_count k n e =
-    let b = both_true _ _ e in
+    let b = both_true (leb n 1000) (ltb 0 k || ltb 0 n) e in
     let some : 0 < k + n = elim (one_true (ltb 0 k) (ltb 0 n) b.1) [
       | inl h ↦ let l : 0 < k = ltb-true _ _ h in omega arith
       | inr h ↦ let l : 0 < n = ltb-true _ _ h in omega arith

@@ -1,10 +1,10 @@
 -- The one spelling of each state. Numbers are big-endian, and a kind is a short text.
-use Rattle.std.specs.Prelude.{ℕ, List, [], ◌∷◌, ◌++◌, length, Option, Some, None}
+use Rattle.std.specs.Prelude.{ℕ, List, [], ◌∷◌, length, Option, Some, None}
 use Rattle.std.specs.List.{flat_map}
 use Rattle.std.specs.Int.{w8, w16, w32, w64}
 use Rattle.field_reader.specs.Spelling.{number_bytes, short_text_bytes, joined}
 use Rattle.version_list.specs.declared.state.KeyState.{KeyState}
-use Rattle.version_list.specs.Rows.{ObjectRow, VersionRow, UploadRow, StateRows, rows_of}
+use Rattle.version_list.specs.Rows.{ObjectRow, VersionRow, UploadRow, rows_of}
 
 -- a version's class: 0 for a marker, 1 for an object
 abbrev pub class_of : Option ObjectRow → ℕ

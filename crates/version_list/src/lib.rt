@@ -30,3 +30,6 @@ pub use reads::find;
 pub use state::{KeyState, MOMENT_LIMIT, MOST_KIND_BYTES, MOST_UPLOADS, MOST_VERSIONS};
 pub use step::apply;
 pub use writing::write;
+
+#[cfg(test)]
+mod tests;

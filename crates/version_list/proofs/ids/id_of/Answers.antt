@@ -1,4 +1,4 @@
-use Rattle.std.proofs.Common.{◌≡◌, ℕ, length, refl, rules, arith}
+use Rattle.std.proofs.Common.{◌≡◌, length, refl, rules}
 use Rattle.version_list.proofs.IdTests.{is_id-yes, is_id-no}
 use Rattle.version_list.proofs.ids.id_of.Goals as goal
 

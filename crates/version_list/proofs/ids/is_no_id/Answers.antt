@@ -1,4 +1,4 @@
-use Rattle.std.proofs.Common.{◌≡◌, length, rules, sym}
+use Rattle.std.proofs.Common.{◌≡◌, length, rules}
 use Rattle.version_list.proofs.IdTests.{on_no_id}
 use Rattle.version_list.proofs.ids.is_no_id.Goals as goal
 

@@ -1,7 +1,6 @@
-use Rattle.std.proofs.Common.{◌≡◌, ℕ, Ok, Err, sym, ap, ◌∙◌, arith}
+use Rattle.std.proofs.Common.{ap, ◌∙◌, arith}
 use Rattle.field_reader.specs.Format.{value_of}
 use Rattle.version_list.specs.Layout.{key_state}
-use Rattle.version_list.specs.Rows.{StateRows}
 use Rattle.version_list.proofs.LawProofs.{spelling_found, found_spelling, found_same}
 use Rattle.version_list.proofs.reading.read.Goals as goal
 

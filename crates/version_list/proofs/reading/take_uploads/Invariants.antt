@@ -1,4 +1,4 @@
-use Rattle.std.proofs.Common.{◌≡◌, ◌-◌, ℕ, List, []}
+use Rattle.std.proofs.Common.{◌≡◌, ◌-◌, ℕ, List}
 use Rattle.std.specs.Prelude.{map, ◌||◌}
 use Rattle.field_reader.specs.Format.{series}
 use Rattle.field_reader.proofs.Series.{with_front}

@@ -1,4 +1,4 @@
-use Rattle.std.proofs.Common.{◌≡◌, ◌∷◌, [], ◌++◌, ℕ, List, Bool, Err, refl, ap, subst, sym, ◌∙◌}
+use Rattle.std.proofs.Common.{◌≡◌, ◌∷◌, [], ◌++◌, ℕ, List, Bool, Err, ap, subst}
 use Rattle.std.specs.Prelude.{map}
 use Rattle.std.specs.Global.{Vec}
 use Rattle.std.proofs.Math.Path.{fun_ext}
@@ -7,7 +7,7 @@ use Rattle.std.proofs.lemmas.List.{map_push}
 use Rattle.call_types.specs.declared.version.Version.{Version}
 use Rattle.field_reader.specs.Reading.{Gives}
 use Rattle.field_reader.proofs.Series.{begins, goes_on, stops, is_done}
-use Rattle.version_list.specs.Rows.{VersionRow, version_row}
+use Rattle.version_list.specs.Rows.{version_row}
 use Rattle.version_list.specs.Layout.{version, versions, version_names, is_among}
 use Rattle.version_list.specs.Known.{is_known}
 use Rattle.version_list.proofs.Known.{versions_known, none_known}

@@ -1,4 +1,4 @@
-use Rattle.std.proofs.Common.{rules, arith, append_assoc}
+use Rattle.std.proofs.Common.{rules, append_assoc}
 use Rattle.std.proofs.lemmas.List.{append-nil}
 use Rattle.version_list.proofs.writing.put_object.Goals as goal
 
