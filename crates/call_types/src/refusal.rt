@@ -1,0 +1,141 @@
+//! Refusals of calls, and of content that is read.
+
+use crate::names::VersionName;
+use crate::why::Whys;
+use seal_file::Text;
+use stamp_id::VersionId;
+
+/// Why the state of a key refuses a call.
+#[derive(Clone, Copy, Debug, PartialEq, Eq)]
+pub enum KeyRefusal {
+    /// The key has no version, or its current version is this delete marker.
+    NoSuchKey {
+        /// The marker.
+        marker: Option<VersionName>,
+    },
+    /// The key has no version of that name.
+    NoSuchVersion,
+    /// The version of that name is a delete marker.
+    MarkerNamed {
+        /// The marker's name.
+        id: VersionName,
+        /// When it was made, in Unix seconds.
+        modified: u64,
+    },
+    /// The key has 10,000 versions.
+    VersionLimit,
+    /// The key has no open upload of that id.
+    NoSuchUpload,
+    /// A listed part was not found.
+    InvalidPart,
+    /// The listed parts are not in rising order.
+    PartOrder,
+    /// A part other than the last is smaller than 5,242,880 bytes.
+    PartSmall,
+    /// The key has 1,000 open uploads.
+    UploadLimit,
+}
+
+/// Why a call is refused. Each has its S3 error code; those of `BadHead`, `HeadTooLong`, `VersionLimit` and
+/// `UploadLimit` are this project's own.
+#[derive(Clone, Debug, PartialEq, Eq, Drop)]
+pub enum Refusal {
+    /// The request head is malformed.
+    BadHead,
+    /// The request head is too long.
+    HeadTooLong,
+    /// The Content-Length header is missing.
+    NoLength,
+    /// Chunked bodies are not served.
+    ChunkedBody,
+    /// The target is not a path in UTF-8.
+    InvalidURI,
+    /// This call is not served.
+    NotImplemented,
+    /// The bucket name is not valid.
+    InvalidBucketName,
+    /// The key is longer than 1,024 bytes.
+    KeyTooLong,
+    /// The value of the argument of this name is not valid.
+    InvalidArgument(Text),
+    /// The Content-MD5 is not valid.
+    InvalidDigest,
+    /// The body is longer than the limit.
+    EntityTooLarge,
+    /// The document is not well formed at this byte.
+    MalformedXML(u64),
+    /// The bucket is not there.
+    NoSuchBucket,
+    /// The bucket is there already.
+    BucketThere,
+    /// The Content-MD5 differs from the MD5 of the body.
+    BadDigest {
+        /// What the header says.
+        stated: [u8; 16],
+        /// That of the body.
+        computed: [u8; 16],
+    },
+    /// The key has no version, or its current version is this delete marker.
+    NoSuchKey {
+        /// The marker.
+        marker: Option<VersionName>,
+    },
+    /// The key has no version of that name.
+    NoSuchVersion,
+    /// The version of that name is a delete marker.
+    MarkerNamed {
+        /// The marker's name.
+        id: VersionName,
+        /// When it was made, in Unix seconds.
+        modified: u64,
+    },
+    /// The key has 10,000 versions.
+    VersionLimit,
+    /// The key has 1,000 open uploads.
+    UploadLimit,
+    /// The key has no open upload of that id.
+    NoSuchUpload,
+    /// A listed part was not found.
+    InvalidPart,
+    /// The listed parts are not in rising order.
+    PartOrder,
+    /// A part other than the last is smaller than 5,242,880 bytes.
+    PartSmall,
+    /// The range is not satisfiable in a body of this length.
+    InvalidRange(u64),
+    /// Too few drives gave a good copy of the register.
+    ReadQuorum(Whys),
+    /// Too few drives took the write.
+    WriteQuorum(Whys),
+    /// It is not decided whether a change took effect.
+    Undecided {
+        /// The drives that have the change.
+        k: u8,
+        /// The drives that are not known.
+        u: u8,
+        /// Why each drive is as it is.
+        whys: Whys,
+    },
+    /// Too few drives gave a good shard.
+    ShardQuorum(Whys),
+    /// The slot's numbers are spent.
+    SeqSpent,
+    /// The write of this id is not in flight.
+    NotInFlight(VersionId),
+    /// The audit failed: its count of faults before and after.
+    AuditFailed {
+        /// The count before.
+        before: u64,
+        /// The count after.
+        after: u64,
+    },
+}
+
+/// Why the content of a register is not read.
+#[derive(Clone, Copy, Debug, PartialEq, Eq)]
+pub enum ListRead {
+    /// The content is spelled in a form that no writer gives, at this byte.
+    NotCanonical(u64),
+    /// There was not enough memory.
+    NoMemory,
+}

@@ -1,0 +1,115 @@
+//! Why each drive of a set served a call or did not.
+
+ghost use Rattle.std.specs.Prelude.{◌≡◌, ◌<◌, ◌≤◌, Some, length, replicate, slice_get, slice_set};
+
+use seal_file::Damage;
+use stamp_id::Ballot;
+use std::marker::Model;
+
+/// A kind of file on a drive.
+#[derive(Clone, Copy, Debug, PartialEq, Eq)]
+pub enum FileKind {
+    /// The format file.
+    Format,
+    /// A register's file.
+    Register,
+    /// A manifest.
+    Manifest,
+    /// A shard file.
+    Shard,
+}
+
+/// Why a drive served a call or did not.
+#[derive(Clone, Copy, Debug, PartialEq, Eq)]
+pub enum Why {
+    /// It served.
+    Good,
+    /// A call of the drive failed: its count of faults before and after.
+    Failed {
+        /// The count before.
+        before: u64,
+        /// The count after.
+        after: u64,
+    },
+    /// Its file is damaged.
+    Damaged(Damage),
+    /// Its file is older than the one of this ballot.
+    Behind(Ballot),
+    /// It has no file of this kind.
+    Lacks(FileKind),
+}
+
+/// The most drives of a set.
+pub const MOST_DRIVES: usize = 16;
+
+/// One `Why` for each drive of a set, in order of the drives: 1 to 16 of them, kept in place. A contract sees the
+/// list of them.
+#[derive(Clone, Copy, Debug, PartialEq, Eq)]
+pub struct Whys {
+    whys: [Why; MOST_DRIVES],
+    count: u8,
+}
+
+impl Model for Whys {
+    ghost use Rattle.std.specs.Prelude.{List};
+    ghost use Rattle.call_types.specs.declared.why.Why.{Why};
+
+    ghost Value = { List Why };
+
+    ghost use Rattle.call_types.specs.Whys.{IsOneForEach, shown_whys, fields_of_whys, fields_of_whys-shown_whys};
+
+    ghost view = { shown_whys };
+
+    ghost invariant = { IsOneForEach };
+
+    ghost inverse = { fields_of_whys };
+
+    ghost inverse_ok = { fields_of_whys-shown_whys };
+}
+
+impl Whys {
+    /// `Good` for each of the set's drives.
+    pub fn all_good(drives: u8) -> Whys
+        requires least { 1 ≤ drives }
+        requires most { drives ≤ 16 }
+        ensures { result ≡ replicate drives Why.Good }
+    {
+        Whys {
+            whys: [Why::Good; MOST_DRIVES],
+            count: drives,
+        }
+    }
+
+    /// The number of drives.
+    pub fn len(&self) -> usize
+        ensures value { result ≡ length self.now }
+        ensures least { 1 ≤ result }
+        ensures most { result ≤ 16 }
+    {
+        self.count as usize
+    }
+
+    /// The `Why` of this drive.
+    pub fn get(&self, drive: usize) -> Why
+        requires { drive < length self.now }
+        ensures { slice_get self.now drive ≡ Some result }
+    {
+        self.as_slice()[drive]
+    }
+
+    /// Puts `why` in the place of this drive.
+    pub fn set(&mut self, drive: usize, why: Why)
+        requires { drive < length self.old }
+        ensures { self.new ≡ slice_set self.old drive why }
+    {
+        let whys = &mut self.whys;
+        whys[drive] = why;
+    }
+
+    /// All of them.
+    pub fn as_slice(&self) -> &[Why]
+        ensures { result.now ≡ self.now }
+    {
+        &self.whys[..self.count as usize]
+    }
+}

@@ -1,0 +1,101 @@
+-- The format of key states: the fields in their order, each with its rule.
+use Rattle.std.specs.Prelude.{ℕ, ◌/◌, ◌%◌, ◌^◌, List, [], length, map, Option, Some, None, Ok, Bool, ◌&&◌, ◌||◌, not, ◌==◌, nat_lt, nat_le, if◌then◌else◌}
+use Rattle.std.specs.List.{list_any, list_all}
+use Rattle.std.specs.Str.{bytes_eq}
+use Rattle.std.specs.Int.{w8, w16, w32, w64}
+use Rattle.stamp_id.specs.Layout.{high_word, low_word}
+use Rattle.field_reader.specs.Format.{Format, ◌>>=◌, done, field, number, short_text, with_rule, series}
+use Rattle.version_list.specs.Rows.{ObjectRow, VersionRow, UploadRow, StateRows}
+
+-- whether two words are those of an id: version 8, variant 10, a slot below 64, and a term and a sequence number from 1
+abbrev pub are_id_words : ℕ → ℕ → Bool
+are_id_words high low = high / 2 ^ 12 % 2 ^ 4 == 8 && low / 2 ^ 62 == 2 && nat_lt (high % 2 ^ 12) 64 && nat_lt 0 (high / 2 ^ 16) && nat_lt 0 (low % 2 ^ 62)
+
+-- whether 16 bytes are an id
+unfoldable pub is_id : List ℕ → Bool
+is_id bytes = are_id_words (high_word bytes) (low_word bytes)
+
+-- whether bytes are zeros, as where there is no id
+unfoldable pub is_no_id : List ℕ → Bool
+is_no_id bytes = list_all (λ byte. byte == 0) bytes
+
+-- whether bytes are one of these names
+unfoldable pub is_among : List (List ℕ) → List ℕ → Bool
+is_among names bytes = list_any (λ name. bytes_eq name bytes) names
+
+abbrev pub is_moment : ℕ → Bool
+is_moment moment = nat_lt moment 253402300800
+
+abbrev pub is_class : ℕ → Bool
+is_class class = nat_lt class 2
+
+-- an object's upload id is missing exactly where it has no parts
+abbrev pub upload_rule : ℕ → List ℕ → Bool
+upload_rule parts bytes = if parts == 0 then is_no_id bytes else is_id bytes
+
+unfoldable pub object : Format (Option ObjectRow)
+object =
+    with_rule is_id (field 16) >>= λ data_id.
+    field 32 >>= λ print.
+    number w64 >>= λ size.
+    field 16 >>= λ md5.
+    number w16 >>= λ parts.
+    with_rule (upload_rule parts) (field 16) >>= λ upload.
+    short_text >>= λ kind.
+    done (Some (record { data_id = data_id; print = print; size = size; md5 = md5; parts = parts; upload = upload; kind = kind }))
+
+-- what stands behind the moment of a version of this class
+abbrev pub object_of_class : ℕ → Format (Option ObjectRow)
+object_of_class class = if class == 0 then done None else object
+
+-- a version whose name is not used yet
+unfoldable pub version : (List ℕ → Bool) → Format VersionRow
+version is_used =
+    with_rule (λ id. (is_no_id id || is_id id) && not (is_used id)) (field 16) >>= λ id.
+    with_rule is_class (number w8) >>= λ class.
+    with_rule is_moment (number w64) >>= λ modified.
+    object_of_class class >>= λ object.
+    done (record { id = id; modified = modified; object = object })
+
+-- an upload whose id is not used yet
+unfoldable pub upload : (List ℕ → Bool) → Format UploadRow
+upload is_used =
+    with_rule (λ id. is_id id && not (is_used id)) (field 16) >>= λ id.
+    with_rule is_moment (number w64) >>= λ opened.
+    short_text >>= λ kind.
+    done (record { id = id; opened = opened; kind = kind })
+
+-- the names of versions and of uploads
+abbrev pub version_names : List VersionRow → List (List ℕ)
+version_names versions = map (λ v. v.id) versions
+
+abbrev pub upload_names : List UploadRow → List (List ℕ)
+upload_names uploads = map (λ u. u.id) uploads
+
+-- Each version has a name that none before it has.
+unfoldable pub versions : ℕ → Format (List VersionRow)
+versions count = series count (λ before. version (is_among (version_names before))) []
+
+-- Each upload has an id that is not used yet, and that no upload before it has.
+unfoldable pub uploads : (List ℕ → Bool) → ℕ → Format (List UploadRow)
+uploads is_used count = series count (λ before. upload (λ id. is_used id || is_among (upload_names before) id)) []
+
+abbrev pub is_version_count : ℕ → Bool
+is_version_count count = nat_le count 10000
+
+-- Where there is no version, the number of uploads is not 0.
+abbrev pub is_upload_count : ℕ → ℕ → Bool
+is_upload_count versions count = nat_le count 1000 && (nat_lt 0 versions || nat_lt 0 count)
+
+-- a state with a version or an upload
+unfoldable pub long_state : Format StateRows
+long_state =
+    with_rule is_version_count (number w32) >>= λ version_count.
+    versions version_count >>= λ rows.
+    with_rule (is_upload_count version_count) (number w32) >>= λ upload_count.
+    uploads (is_among (version_names rows)) upload_count >>= λ others.
+    done (record { versions = rows; uploads = others })
+
+-- the format of key states; no byte is the state with no version and no upload
+unfoldable pub key_state : Format StateRows
+key_state spot = if length spot.left == 0 then Ok (record { versions = []; uploads = [] }, spot) else long_state spot

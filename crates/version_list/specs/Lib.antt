@@ -1,0 +1,13 @@
+pub mod Answers
+pub mod Gone
+pub mod Known
+pub mod Lawful
+pub mod Laws
+pub mod Layout
+pub mod Naming
+pub mod Plain
+pub mod Reads
+pub mod Rows
+pub mod Spelling
+pub mod State
+pub mod Step

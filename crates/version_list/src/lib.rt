@@ -1,0 +1,35 @@
+//! The versions and open uploads of one key: the state that its registers hold.
+//!
+//! The crate stands on `stamp_id`, `seal_file`, `call_types` and `field_reader`. Each canonical state has one spelling
+//! as bytes: `write` gives it, and `read` accepts spellings alone and answers the state that a content spells, or the
+//! place of its first fault. `find` says which version a read of the key gives, and `apply` makes the state that a
+//! change of it leaves: they are exactly the reads and the steps of the versioned object of Amazon S3, and a step from a
+//! canonical state leaves a canonical state.
+#![tactic(auto)]
+
+mod change;
+mod edit;
+mod gone;
+mod ids;
+mod names;
+mod outcome;
+#[cfg(test)]
+mod plain;
+mod reading;
+mod reads;
+mod same;
+mod sizes;
+mod state;
+mod step;
+mod uploads;
+mod writing;
+
+pub use outcome::{ActFault, Applied};
+pub use reading::{read, state_laws};
+pub use reads::find;
+pub use state::{KeyState, MOMENT_LIMIT, MOST_KIND_BYTES, MOST_UPLOADS, MOST_VERSIONS};
+pub use step::apply;
+pub use writing::write;
+
+#[cfg(test)]
+mod tests;

@@ -1,0 +1,274 @@
+//! One step of a key.
+
+ghost use Rattle.std.specs.Prelude.{◌≡◌, ◌<◌, ◌≤◌, ◌⊎◌, true, false, IfOk, OnOk, IfSome, Some, None, IsSome, IsNone, find, length};
+ghost use Rattle.version_list.specs.Answers.{Answers};
+ghost use Rattle.version_list.specs.Lawful.{IsLawful, IsSized, AreSized};
+ghost use Rattle.version_list.specs.State.{IsCanonical, IsMoment};
+ghost use Rattle.version_list.specs.Step.{Step, AddsMarker, AddsVersion, RemovesVersion, Deletes, Does, OpensUpload, WithUpload, replaced, told};
+ghost use Rattle.version_list.specs.Naming.{has_id, is_named, is_upload, still_open};
+
+use crate::change::{add_version, close_upload, complete_upload, open_upload, remove_version};
+use crate::edit::{any_marker_named, count_kept, new_name, replaced, told};
+use crate::outcome::{ActFault, Applied};
+use crate::state::{KeyState, MOST_UPLOADS, MOST_VERSIONS};
+use crate::uploads::find_upload;
+use call_types::{Act, Etag, KeyRefusal, Mode, Pick, Reply, Upload, Version, VersionName, What};
+use seal_file::Text;
+use stamp_id::VersionId;
+use std::alloc::Global;
+
+/// Does `act` to the state of a key in a bucket of this mode, in the Unix second `now`. `id` is the id that the call
+/// drew: a version or an upload that is made has it.
+pub fn apply(
+    alloc: Global,
+    state: &KeyState,
+    mode: Mode,
+    act: &Act,
+    id: VersionId,
+    now: u64,
+) -> Result<Applied, ActFault>
+    requires canonical { IsCanonical state.now }
+    requires fresh { has_id id state.now ≡ false }
+    requires moment { IsMoment now }
+    requires lawful { IsLawful act.now }
+    ensures step { Answers (Step state.now mode act.now id now) state.now result }
+    ensures canonical { IfOk result (λ a. IfSome a.state IsCanonical) }
+{
+    do_act(alloc, state, mode, act, id, now)
+}
+
+pub fn do_act(
+    alloc: Global,
+    state: &KeyState,
+    mode: Mode,
+    act: &Act,
+    id: VersionId,
+    now: u64,
+) -> Result<Applied, ActFault>
+    ensures step { Answers (Step state.now mode act.now id now) state.now result }
+    ensures sized { OnOk result (IsSized act.now) }
+{
+    match act {
+        Act::Put {
+            data_id,
+            print,
+            length,
+            md5,
+            kind,
+        } => {
+            let kind = kind.clone()?;
+            let made = Version {
+                id: new_name(mode, id),
+                modified: now,
+                what: object(*data_id, *print, *length, *md5, 0, None, kind),
+            };
+            put(
+                alloc,
+                state,
+                mode,
+                made,
+                Etag {
+                    md5: *md5,
+                    parts: 0,
+                },
+            )
+        }
+        Act::Delete(Pick::Current) => delete_current(alloc, state, mode, id, now),
+        Act::Delete(Pick::Null) => delete_named(alloc, state, mode, VersionName::Null),
+        Act::Delete(Pick::Id(named)) => {
+            delete_named(alloc, state, mode, VersionName::Id(*named))
+        }
+        Act::Create { kind } => create(alloc, state, id, now, kind),
+        Act::Complete {
+            upload,
+            parts,
+            data_id,
+            print,
+            length,
+            md5,
+        } => {
+            let Some(opened) = find_upload(state.uploads.as_slice(), *upload) else {
+                return Err(ActFault::Refused(KeyRefusal::NoSuchUpload));
+            };
+            let kind = opened.kind.clone()?;
+            let made = Version {
+                id: new_name(mode, id),
+                modified: now,
+                what: object(*data_id, *print, *length, *md5, *parts, Some(*upload), kind),
+            };
+            let etag = Etag {
+                md5: *md5,
+                parts: *parts,
+            };
+            complete(alloc, state, mode, made, *upload, etag)
+        }
+        Act::Abort { upload } => abort(alloc, state, *upload),
+    }
+}
+
+fn object(
+    data_id: VersionId,
+    print: [u8; 32],
+    length: u64,
+    md5: [u8; 16],
+    parts: u16,
+    upload: Option<VersionId>,
+    kind: Text,
+) -> What
+    ensures made { result ≡ What.Object data_id print length md5 parts upload kind }
+    ensures sized { AreSized print length md5 parts }
+{
+    What::Object {
+        data_id,
+        print,
+        length,
+        md5,
+        parts,
+        upload,
+        kind,
+    }
+}
+
+fn delete_current(
+    alloc: Global,
+    state: &KeyState,
+    mode: Mode,
+    id: VersionId,
+    now: u64,
+) -> Result<Applied, ActFault>
+    ensures { Answers (Deletes state.now mode id now) state.now result }
+{
+    match mode {
+        Mode::Never => {
+            let outcome = remove_version(alloc, state, VersionName::Null)?;
+            Ok(outcome.answered(Reply::Deleted {
+                id: None,
+                marker: false,
+            }))
+        }
+        Mode::Enabled => add_marker(alloc, state, mode, id, now),
+        Mode::Suspended => add_marker(alloc, state, mode, id, now),
+    }
+}
+
+fn add_marker(
+    alloc: Global,
+    state: &KeyState,
+    mode: Mode,
+    id: VersionId,
+    now: u64,
+) -> Result<Applied, ActFault>
+    ensures { Answers (AddsMarker state.now mode id now) state.now result }
+{
+    let goes = replaced(mode);
+    if count_kept(state.versions.as_slice(), goes) >= MOST_VERSIONS {
+        return Err(ActFault::Refused(KeyRefusal::VersionLimit));
+    }
+    let name = new_name(mode, id);
+    let marker = Version {
+        id: name,
+        modified: now,
+        what: What::Marker,
+    };
+    let outcome = add_version(alloc, state, marker, goes)?;
+    Ok(outcome.answered(Reply::Deleted {
+        id: Some(name),
+        marker: true,
+    }))
+}
+
+fn delete_named(
+    alloc: Global,
+    state: &KeyState,
+    mode: Mode,
+    name: VersionName,
+) -> Result<Applied, ActFault>
+    ensures { Answers (RemovesVersion state.now mode name) state.now result }
+{
+    let marker = any_marker_named(state.versions.as_slice(), name);
+    let outcome = remove_version(alloc, state, name)?;
+    Ok(outcome.answered(Reply::Deleted {
+        id: told(mode, name),
+        marker,
+    }))
+}
+
+fn create(
+    alloc: Global,
+    state: &KeyState,
+    id: VersionId,
+    now: u64,
+    kind: &Text,
+) -> Result<Applied, ActFault>
+    ensures { Answers (OpensUpload state.now record { id = id; opened = now; kind = kind.now }) state.now result }
+{
+    if state.uploads.len() >= MOST_UPLOADS {
+        return Err(ActFault::Refused(KeyRefusal::UploadLimit));
+    }
+    let opened = Upload {
+        id,
+        opened: now,
+        kind: kind.clone()?,
+    };
+    let outcome = open_upload(alloc, state, opened)?;
+    Ok(outcome.answered(Reply::Opened(id)))
+}
+
+fn complete(
+    alloc: Global,
+    state: &KeyState,
+    mode: Mode,
+    made: Version,
+    upload: VersionId,
+    etag: Etag,
+) -> Result<Applied, ActFault>
+    requires found { IsSome (find (is_upload upload) state.now.uploads) }
+    requires named { IsNone (replaced mode) ⊎ (is_named (replaced mode) made ≡ true) }
+    ensures { Answers
+        (AddsVersion state.now mode made (still_open upload state.now.uploads) (Reply.Completed etag (told mode made.id)))
+        state.now result }
+{
+    let goes = replaced(mode);
+    if count_kept(state.versions.as_slice(), goes) >= MOST_VERSIONS {
+        return Err(ActFault::Refused(KeyRefusal::VersionLimit));
+    }
+    let id = told(mode, made.id);
+    let outcome = complete_upload(alloc, state, made, goes, upload)?;
+    Ok(outcome.answered(Reply::Completed { etag, id }))
+}
+
+fn put(
+    alloc: Global,
+    state: &KeyState,
+    mode: Mode,
+    made: Version,
+    etag: Etag,
+) -> Result<Applied, ActFault>
+    requires { IsNone (replaced mode) ⊎ (is_named (replaced mode) made ≡ true) }
+    ensures { Answers
+        (AddsVersion state.now mode made state.now.uploads (Reply.Stored etag (told mode made.id)))
+        state.now result }
+{
+    let goes = replaced(mode);
+    if count_kept(state.versions.as_slice(), goes) >= MOST_VERSIONS {
+        return Err(ActFault::Refused(KeyRefusal::VersionLimit));
+    }
+    let id = told(mode, made.id);
+    let outcome = add_version(alloc, state, made, goes)?;
+    Ok(outcome.answered(Reply::Stored { etag, id }))
+}
+
+fn abort(alloc: Global, state: &KeyState, upload: VersionId) -> Result<Applied, ActFault>
+    ensures { Answers
+        (WithUpload state.now upload (λ opened. Does Reply.Plain state.now.versions (still_open upload state.now.uploads)))
+        state.now result }
+{
+    if find_upload(state.uploads.as_slice(), upload).is_none() {
+        return Err(ActFault::Refused(KeyRefusal::NoSuchUpload));
+    }
+    let outcome = close_upload(alloc, state, upload)?;
+    Ok(outcome.answered(Reply::Plain))
+}
+
+#[cfg(test)]
+mod tests;

@@ -1,0 +1,233 @@
+//! Tests of what no clause says: that calls succeed, and that the tables are those of S3. Each act is done by the step
+//! and by the plain program of the tables.
+
+ghost use Rattle.std.specs.Prelude.{◌<◌, ◌≤◌, ◌^◌};
+
+use super::do_act;
+use crate::outcome::{ActFault, Applied};
+use crate::plain;
+use crate::reads::find;
+use crate::state::KeyState;
+use call_types::{
+    Act, Brief, Etag, KeyRefusal, Mode, Pick, Reply, Uploads, Version, VersionName, Versions, What,
+};
+use seal_file::Text;
+use stamp_id::{Ballot, ChangeId, VersionId};
+use std::alloc::Global;
+use std::test::Fail;
+
+const NOW: u64 = 784_111_777;
+
+fn id(seq: u64) -> VersionId {
+    let seq = seq % 1_000_000 + 1;
+    VersionId::from_parts(ChangeId(Ballot { term: 1, seq }), 28)
+}
+
+fn nothing(alloc: Global) -> KeyState {
+    KeyState {
+        versions: Versions::new(alloc),
+        uploads: Uploads::new(alloc),
+    }
+}
+
+fn put(alloc: Global, seq: u64) -> Result<Act, Fail> {
+    Ok(Act::Put {
+        data_id: id(seq),
+        print: [7; 32],
+        length: 5,
+        md5: [9; 16],
+        kind: Text::from_slice(alloc, b"text/plain")?,
+    })
+}
+
+fn complete(seq: u64) -> Act {
+    Act::Complete {
+        upload: id(seq),
+        parts: 2,
+        data_id: id(seq + 500_000),
+        print: [8; 32],
+        length: 9,
+        md5: [6; 16],
+    }
+}
+
+fn after(state: KeyState, applied: Applied) -> KeyState {
+    match applied.state {
+        Some(new) => new,
+        None => state,
+    }
+}
+
+fn is_same_change(a: &Option<KeyState>, b: &Option<KeyState>) -> bool {
+    match (a, b) {
+        (None, None) => true,
+        (Some(a), Some(b)) => plain::is_same_state(a, b),
+        _ => false,
+    }
+}
+
+fn is_same_answer(a: &Result<Applied, ActFault>, b: &Result<Applied, ActFault>) -> bool {
+    match (a, b) {
+        (Ok(a), Ok(b)) => {
+            a.done == b.done && a.gone == b.gone && is_same_change(&a.state, &b.state)
+        }
+        (Err(a), Err(b)) => a == b,
+        _ => false,
+    }
+}
+
+fn acts(alloc: Global) -> Result<Vec<Act>, Fail> {
+    let mut acts = Vec::new(alloc);
+    acts.push(Act::Delete(Pick::Current))?;
+    acts.push(put(alloc, 1)?)?;
+    acts.push(put(alloc, 1)?)?;
+    acts.push(put(alloc, 2)?)?;
+    acts.push(Act::Delete(Pick::Current))?;
+    acts.push(Act::Delete(Pick::Current))?;
+    acts.push(Act::Delete(Pick::Id(id(1))))?;
+    acts.push(Act::Delete(Pick::Id(id(77))))?;
+    acts.push(Act::Delete(Pick::Null))?;
+    acts.push(Act::Create {
+        kind: Text::from_slice(alloc, b"image/png")?,
+    })?;
+    acts.push(complete(77))?;
+    acts.push(complete(9))?;
+    acts.push(Act::Abort { upload: id(9) })?;
+    acts.push(Act::Create {
+        kind: Text::from_slice(alloc, b"image/png")?,
+    })?;
+    acts.push(Act::Abort { upload: id(13) })?;
+    Ok(acts)
+}
+
+#[test]
+fn the_tables_answer_alike(rt: HostRuntime) -> Result<(), Fail> {
+    let acts = acts(rt.alloc())?;
+    for mode in [Mode::Never, Mode::Enabled, Mode::Suspended] {
+        let mut state = nothing(rt.alloc());
+        for (k, act) in acts.iter().enumerate() {
+            let step = do_act(rt.alloc(), &state, mode, act, id(k as u64), NOW);
+            let plain = plain::apply(rt.alloc(), &state, mode, act, id(k as u64), NOW);
+            assert!(rt; is_same_answer(&step, &plain), "{mode:?} {k}");
+            if let Ok(applied) = step {
+                state = after(state, applied);
+            }
+        }
+    }
+    Ok(())
+}
+
+#[test]
+fn a_marker_hides_the_versions_until_it_goes(rt: HostRuntime) -> Result<(), Fail> {
+    let state = nothing(rt.alloc());
+    assert_eq!(rt;
+        find(&state, &Pick::Current),
+        Err(KeyRefusal::NoSuchKey { marker: None })
+    );
+    let made = do_act(
+        rt.alloc(),
+        &state,
+        Mode::Enabled,
+        &put(rt.alloc(), 1)?,
+        id(1),
+        NOW,
+    );
+    let made = made.ok().ok_or("put")?;
+    assert_eq!(rt;
+        made.done,
+        Brief::Answer(Reply::Stored {
+            etag: Etag {
+                md5: [9; 16],
+                parts: 0
+            },
+            id: Some(VersionName::Id(id(1))),
+        })
+    );
+    let state = after(state, made);
+    let act = Act::Delete(Pick::Current);
+    let made = do_act(rt.alloc(), &state, Mode::Enabled, &act, id(2), NOW);
+    let state = after(state, made.ok().ok_or("delete")?);
+    let marker = VersionName::Id(id(2));
+    assert_eq!(rt;
+        find(&state, &Pick::Current),
+        Err(KeyRefusal::NoSuchKey {
+            marker: Some(marker)
+        })
+    );
+    assert_eq!(rt;
+        find(&state, &Pick::Id(id(2))),
+        Err(KeyRefusal::MarkerNamed {
+            id: marker,
+            modified: NOW
+        })
+    );
+    assert_eq!(rt; find(&state, &Pick::Id(id(1))), Ok(1));
+    assert_eq!(rt; find(&state, &Pick::Null), Err(KeyRefusal::NoSuchVersion));
+    let act = Act::Delete(Pick::Id(id(2)));
+    let made = do_act(rt.alloc(), &state, Mode::Enabled, &act, id(3), NOW);
+    let made = made.ok().ok_or("delete of the marker")?;
+    assert_eq!(rt;
+        made.done,
+        Brief::Answer(Reply::Deleted {
+            id: Some(marker),
+            marker: true
+        })
+    );
+    assert!(rt; made.gone.is_empty());
+    let state = after(state, made);
+    assert_eq!(rt; find(&state, &Pick::Current), Ok(0));
+    Ok(())
+}
+
+#[test]
+fn one_marker_stands_where_versioning_is_suspended(rt: HostRuntime) -> Result<(), Fail> {
+    let mut state = nothing(rt.alloc());
+    for act in [
+        put(rt.alloc(), 1)?,
+        put(rt.alloc(), 2)?,
+        Act::Delete(Pick::Current),
+    ] {
+        let made = do_act(rt.alloc(), &state, Mode::Suspended, &act, id(5), NOW);
+        state = after(state, made.ok().ok_or("done")?);
+    }
+    assert_eq!(rt;
+        state.versions.as_slice(),
+        [Version {
+            id: VersionName::Null,
+            modified: NOW,
+            what: What::Marker,
+        }]
+        .as_slice()
+    );
+    Ok(())
+}
+
+#[test]
+fn a_key_has_at_most_10000_versions(rt: HostRuntime) -> Result<(), Fail> {
+    let mut list = Vec::new(rt.alloc());
+    for seq in 0..10_000u64 {
+        list.push(Version {
+            id: if seq == 40 {
+                VersionName::Null
+            } else {
+                VersionName::Id(id(seq))
+            },
+            modified: NOW,
+            what: What::Marker,
+        })?;
+    }
+    let state = KeyState {
+        versions: Versions::from_vec(list),
+        uploads: Uploads::new(rt.alloc()),
+    };
+    let act = put(rt.alloc(), 1)?;
+    let full = do_act(rt.alloc(), &state, Mode::Enabled, &act, id(10_001), NOW);
+    assert_eq!(rt;
+        full.err(),
+        Some(ActFault::Refused(KeyRefusal::VersionLimit))
+    );
+    let made = do_act(rt.alloc(), &state, Mode::Never, &act, id(10_001), NOW);
+    let state = after(state, made.ok().ok_or("done")?);
+    assert_eq!(rt; state.versions.len(), 10_000);
+    Ok(())
+}

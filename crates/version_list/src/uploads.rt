@@ -1,0 +1,44 @@
+//! Changes of a list of open uploads.
+
+ghost use Rattle.std.specs.Prelude.{◌≡◌, ◌<◌, ◌^◌, [], ◌∷◌, ◌++◌, length, find, IfOk};
+ghost use Rattle.std.specs.Option.{option_copied};
+ghost use Rattle.version_list.specs.Naming.{is_upload, still_open};
+
+use call_types::{Upload, Uploads};
+use stamp_id::{NoMemory, VersionId};
+use std::alloc::Global;
+
+/// The first upload of this id.
+pub fn find_upload(uploads: &[Upload], id: VersionId) -> Option<&Upload>
+    ensures { option_copied result ≡ find (is_upload id) uploads.now }
+{
+    uploads.iter().find(|upload| upload.id == id)
+}
+
+/// Copies of the uploads that stay open where that of this id is closed.
+pub fn without_upload(alloc: Global, uploads: &[Upload], id: VersionId) -> Result<Uploads, NoMemory>
+    ensures { IfOk result (λ list. list ≡ still_open id uploads.now) }
+{
+    let mut list = Vec::with_capacity(alloc, uploads.len())?;
+    for upload in uploads {
+        if upload.id != id {
+            let copy = upload.clone()?;
+            list.push(copy)?;
+        }
+    }
+    Ok(Uploads::from_vec(list))
+}
+
+/// Copies of the uploads, and this one at the end.
+pub fn with_upload(alloc: Global, uploads: &[Upload], opened: Upload) -> Result<Uploads, NoMemory>
+    requires { length uploads.now < 2 ^ 63 }
+    ensures { IfOk result (λ list. list ≡ uploads.now ++ opened ∷ []) }
+{
+    let mut list = Vec::with_capacity(alloc, uploads.len() + 1)?;
+    for upload in uploads {
+        let copy = upload.clone()?;
+        list.push(copy)?;
+    }
+    list.push(opened)?;
+    Ok(Uploads::from_vec(list))
+}
