@@ -1,0 +1,11 @@
+pub mod BlankLines
+pub mod ConnectionLemmas
+pub mod DriveLemmas
+pub mod Filling
+pub mod HeadLemmas
+pub mod NameLemmas
+pub mod ReplyLemmas
+pub mod RequestLemmas
+pub mod SessionLemmas
+pub mod TurnLemmas
+pub mod WordLemmas

@@ -1,0 +1,118 @@
+-- Turns and connections, put together.
+use Rattle.std.proofs.Common.{◌≡◌, inl, inr, ℕ, ◌<◌, ◌≤◌, Bool, List, [], ◌∷◌, ◌++◌, length, take, Option, Some, None, refl, sym, ap, ◌∙◌, subst, arith, append_assoc, append-nil}
+use Rattle.std.specs.Io.KnownBytes.{prepend_known, append_known}
+use Rattle.io_base.specs.Count.{CountRose}
+use Rattle.drive_base.specs.Faults.{Rose}
+use Rattle.ostore.specs.declared.connection.ConnectionEnd.{ConnectionEnd}
+use Rattle.ostore.specs.declared.connection.ConnectionEnd.TheVariants.{Over, Closed, InputCut, ReadFault, WriteFault, NoMemory}
+use Rattle.ostore.specs.Objects.{answer_text}
+use Rattle.ostore.specs.Drives.{NoneFell}
+use Rattle.ostore.specs.Session.{Exchange, Moment, Run, bytes_of, texts_of, Wires, Moved, refusal, EndsSo}
+
+-- ---- counts
+
+pub rose_later : (a b c : ℕ) → a ≤ b → Rose b c → Rose a c
+rose_later a b c low rose = (omega arith, elim rose.1 [ inl up ↦ inl (omega arith) | inr last ↦ inr last ])
+
+pub count_rose_later : (a b c : ℕ) → a ≤ b → CountRose b c → CountRose a c
+count_rose_later a b c low (inl up) = inl (omega arith)
+count_rose_later a b c low (inr last) = inr last
+
+pub count_rose_more : (a b c : ℕ) → b ≤ c → CountRose a b → CountRose a c
+count_rose_more a b c low (inl up) = inl (omega arith)
+count_rose_more a b c low (inr last) = inr (omega arith)
+
+pub none_fell_same : (counts : List ℕ) → NoneFell counts counts
+none_fell_same counts = record { drives = refl; each = λ k d lt. omega arith }
+
+pub none_fell_later : (a b c : List ℕ) → NoneFell a b → NoneFell b c → NoneFell a c
+none_fell_later a b c first second = record {
+  drives = second.drives ∙ first.drives;
+  each = λ k d lt. let low = first.each k d lt in
+      let within : k < length b = subst (λ n. k < n) (sym first.drives) lt in
+      let high = second.each k d within in omega arith;
+}
+
+-- ---- runs
+
+pub run_append : (tells : List Bool) (first second : List Exchange) (a b c : Moment) → Run tells a first b → Run tells b second c → Run tells a (first ++ second) c
+run_append tells [] second a b c same run = subst (λ m. Run tells m second c) (sym same) run
+run_append tells (exchange ∷ exchanges) second a b c (mid, step, run) more = (mid, step, run_append tells exchanges second mid b c run more)
+
+pub bytes_of-append : (first second : List Exchange) → bytes_of (first ++ second) ≡ bytes_of first ++ bytes_of second
+bytes_of-append [] second = refl
+bytes_of-append (exchange ∷ exchanges) second =
+    ap (λ l. exchange.bytes ++ l) (bytes_of-append exchanges second) ∙ sym (append_assoc exchange.bytes (bytes_of exchanges) (bytes_of second))
+
+pub texts_of-append : (first second : List Exchange) → texts_of (first ++ second) ≡ texts_of first ++ texts_of second
+texts_of-append [] second = refl
+texts_of-append (exchange ∷ exchanges) second =
+    ap (λ l. answer_text exchange.answer ++ l) (texts_of-append exchanges second) ∙ sym (append_assoc (answer_text exchange.answer) (texts_of exchanges) (texts_of second))
+
+-- ---- bytes from the source and to the sink
+
+prepend_both : (first second : List ℕ) (left : Option (List ℕ)) → prepend_known first (prepend_known second left) ≡ prepend_known (first ++ second) left
+prepend_both first second None = refl
+prepend_both first second (Some left) = ap Some (sym (append_assoc first second left))
+
+append_both : (given : Option (List ℕ)) (first second : List ℕ) → append_known (append_known given first) second ≡ append_known given (first ++ second)
+append_both None first second = refl
+append_both (Some given) first second = ap Some (append_assoc given first second)
+
+pub moved_later : (taken more given others : List ℕ) (a b c : Wires) → Moved taken given a b → Moved more others b c → Moved (taken ++ more) (given ++ others) a c
+moved_later taken more given others a b c first second = record {
+  took = first.took ∙ ap (prepend_known taken) second.took ∙ prepend_both taken more c.left;
+  gave = second.gave ∙ ap (λ g. append_known g others) first.gave ∙ append_both a.given given others;
+  reads = omega (arith, first.reads, second.reads);
+  writes = omega (arith, first.writes, second.writes);
+}
+
+pub nothing_taken : (left : Option (List ℕ)) → left ≡ prepend_known [] left
+nothing_taken None = refl
+nothing_taken (Some left) = refl
+
+pub nothing_given : (given : Option (List ℕ)) → given ≡ append_known given []
+nothing_given None = refl
+nothing_given (Some given) = ap Some (sym (append-nil given))
+
+-- ---- endings
+
+pub ends_later : (end : ConnectionEnd) (exchanges : List Exchange) (tail out : List ℕ) (a b c : Wires)
+    → a.read_faults ≤ b.read_faults → a.write_faults ≤ b.write_faults → EndsSo end exchanges tail out b c → EndsSo end exchanges tail out a c
+ends_later Over exchanges tail out a b c reads writes ends = ends
+ends_later InputCut exchanges tail out a b c reads writes ends = ends
+ends_later ReadFault exchanges tail out a b c reads writes ends = (ends.0, count_rose_later _ _ _ reads ends.1, ends.2)
+ends_later WriteFault exchanges tail out a b c reads writes ends = (count_rose_later _ _ _ writes ends.0, ends.1)
+ends_later NoMemory exchanges tail out a b c reads writes ends = ends
+ends_later Closed exchanges tail out a b c reads writes ends = ends
+
+-- the same ending after more exchanges
+pub ends_after : (end : ConnectionEnd) (earlier exchanges : List Exchange) (tail out : List ℕ) (a b : Wires)
+    → EndsSo end exchanges tail out a b → EndsSo end (earlier ++ exchanges) tail (texts_of earlier ++ out) a b
+ends_after Over earlier exchanges tail out a b ends = (ends.0, ends.1, ap (λ l. texts_of earlier ++ l) ends.2 ∙ sym (texts_of-append earlier exchanges))
+ends_after InputCut earlier exchanges tail out a b ends = (ends.0, ends.1, ends.2, ap (λ l. texts_of earlier ++ l) ends.3 ∙ sym (texts_of-append earlier exchanges))
+ends_after ReadFault earlier exchanges tail out a b ends = (ends.0, ends.1, ap (λ l. texts_of earlier ++ l) ends.2 ∙ sym (texts_of-append earlier exchanges))
+ends_after NoMemory earlier exchanges tail out a b ends = (ends.0, ap (λ l. texts_of earlier ++ l) ends.1 ∙ sym (texts_of-append earlier exchanges))
+ends_after Closed earlier exchanges tail out a b ends =
+    (ends.0, ap (λ l. texts_of earlier ++ l) ends.1 ∙ sym (append_assoc (texts_of earlier) (texts_of exchanges) refusal) ∙ ap (λ l. l ++ refusal) (sym (texts_of-append earlier exchanges)))
+ends_after WriteFault earlier exchanges tail out a b (rose, inl cut) = (
+  rose,
+  inl (record {
+    earlier = earlier ++ cut.earlier;
+    last = cut.last;
+    n = cut.n;
+    are = ap (λ l. earlier ++ l) cut.are ∙ sym (append_assoc earlier cut.earlier (cut.last ∷ []));
+    nothing = cut.nothing;
+    given = ap (λ l. texts_of earlier ++ l) cut.given ∙ sym (append_assoc (texts_of earlier) (texts_of cut.earlier) (take cut.n (answer_text cut.last.answer)))
+        ∙ ap (λ l. l ++ take cut.n (answer_text cut.last.answer)) (sym (texts_of-append earlier cut.earlier));
+  }),
+)
+ends_after WriteFault earlier exchanges tail out a b (rose, inr cut) = (
+  rose,
+  inr (record {
+    n = cut.n;
+    refused = cut.refused;
+    given = ap (λ l. texts_of earlier ++ l) cut.given ∙ sym (append_assoc (texts_of earlier) (texts_of exchanges) (take cut.n refusal))
+        ∙ ap (λ l. l ++ take cut.n refusal) (sym (texts_of-append earlier exchanges));
+  }),
+)

@@ -1,0 +1,89 @@
+-- What the four drives of the first path hold and count.
+use Rattle.std.specs.Prelude.{◌≡◌, ◌⊎◌, ◌<◌, ◌≤◌, ℕ, Bool, IsTrue, List, ◌++◌, length, codes, slice_index_or, bytes_eq, false, Option, Some, None, All, ⊤}
+use Rattle.std.specs.Option.{option_map}
+use Rattle.std.specs.Int.{w64, to_be_bytes}
+use Rattle.hex.specs.Hex.{encode_lower}
+use Rattle.drive_base.specs.Faults.{Rose}
+use Rattle.drive_base.specs.Files.{Files, with_name}
+use Rattle.ostore.specs.declared.files.Content.{Content}
+use Rattle.ostore.specs.declared.files.Content.TheVariants.{Whole, Missing, Refused, NoMemory}
+use Rattle.ostore.specs.Objects.{Objects}
+
+-- the name under which a key's body is kept
+abbrev pub name_of : List ℕ → List ℕ
+name_of key = codes "k/pic/" ++ key
+
+-- the loose name of a write: the term 1 and the write's number
+abbrev pub loose_name_of : ℕ → List ℕ
+loose_name_of number = codes "w000000000001" ++ encode_lower (to_be_bytes w64 number)
+
+-- each of the drives tells what it holds
+abbrev pub AllTell : List Bool → Type 0
+AllTell tells = All IsTrue tells
+
+-- a relation between each drive before and the same drive after
+abbrev pub AtEach : {D : Type 0} → (D → D → Type 0) → List D → List D → Type 0
+AtEach {D} R old new = (k : ℕ) (d : D) → k < length old → R (slice_index_or old k d) (slice_index_or new k d)
+
+-- the relation holds at some drive
+abbrev pub SomeDrive : {D : Type 0} → (D → D → Type 0) → List D → List D → Type 0
+SomeDrive {D} R old new = (k : ℕ) × (k < length old) × ((d : D) → R (slice_index_or old k d) (slice_index_or new k d))
+
+-- the file is in place under the name, and no loose file but that of this write is changed
+pub record Written (loose name body : List ℕ) (old new : Files) : Type 0 where
+  pub kept : new.kept ≡ with_name old.kept name (Some body)
+  pub shown : new.shown ≡ with_name old.shown name (Some body)
+  pub others : (other : List ℕ) → bytes_eq loose other ≡ false → new.loose other ≡ old.loose other
+
+-- the named files are as they were, and no loose file but that of this write is changed
+pub record Unwritten (loose : List ℕ) (old new : Files) : Type 0 where
+  pub kept : new.kept ≡ old.kept
+  pub shown : new.shown ≡ old.shown
+  pub others : (other : List ℕ) → bytes_eq loose other ≡ false → new.loose other ≡ old.loose other
+
+-- a write that failed left the named files as they were, or put the file in place
+abbrev pub MayBeWritten : List ℕ → List ℕ → List ℕ → Files → Files → Type 0
+MayBeWritten loose name body old new = Unwritten loose old new ⊎ Written loose name body old new
+
+-- no count fell
+pub record NoneFell (old new : List ℕ) : Type 0 where
+  pub drives : length new ≡ length old
+  pub each : AtEach (λ before after. before ≤ after) old new
+
+-- the count of some drive rose, or stands at its last value
+abbrev pub SomeRose : List ℕ → List ℕ → Type 0
+SomeRose old new = (k : ℕ) × (k < length old) × Rose (slice_index_or old k 0) (slice_index_or new k 0)
+
+-- the cause of one drive's refusal: its count rose, or it doesn't tell what it holds
+abbrev pub DriveCause : Bool → ℕ → ℕ → Type 0
+DriveCause tells old new = Rose old new ⊎ (IsTrue tells → ⊥)
+
+-- a refusal's cause: the count of some drive rose, or not every drive tells what it holds
+abbrev pub DrivesCause : List Bool → List ℕ → List ℕ → Type 0
+DrivesCause tells old new = SomeRose old new ⊎ (AllTell tells → ⊥)
+
+module _ {D : Type 0} (files : D → Files) where
+  -- drive 0 keeps the map, and every drive keeps each acknowledged body
+  pub record Keeps (objects : Objects) (drives : List D) : Type 0 where
+    pub first : (d : D) (key : List ℕ) → (files (slice_index_or drives 0 d)).kept (name_of key) ≡ objects.bodies key
+    pub every : (key body : List ℕ) → objects.acknowledged key ≡ Some body → All (λ d. (files d).kept (name_of key) ≡ Some body) drives
+
+  -- what serving goes on from: the drives keep the map, a read gives what is kept, and the loose names from a number on are unused
+  pub record Ready (number : ℕ) (objects : Objects) (drives : List D) : Type 0 where
+    pub keeps : Keeps objects drives
+    pub shows : All (λ d. (files d).shown ≡ (files d).kept) drives
+    pub unused : (k : ℕ) → number ≤ k → k < 1000000 → All (λ d. (files d).loose (loose_name_of k) ≡ None) drives
+
+-- the bytes read of a file whose drive said this length: all that is shown, or a refusal with its cause
+abbrev pub ReadsWhole : Bool → Option (List ℕ) → ℕ → Content → ℕ → ℕ → Type 0
+ReadsWhole tells shown n (Whole body) old new = (IsTrue tells → option_map length shown ≡ Some n → shown ≡ Some body.items) × (new ≡ old)
+ReadsWhole tells shown n Missing old new = ⊥
+ReadsWhole tells shown n Refused old new = Rose old new ⊎ (IsTrue tells → option_map length shown ≡ Some n → ⊥)
+ReadsWhole tells shown n NoMemory old new = ⊤
+
+-- what drive 0 shows under the name while no drive fails (`calm`), or a refusal with its cause
+abbrev pub ReadsFirst : Bool → Option (List ℕ) → Content → Type 0 → Type 0 → Type 0
+ReadsFirst tells shown (Whole body) calm cause = (IsTrue tells → shown ≡ Some body.items) × calm
+ReadsFirst tells shown Missing calm cause = (IsTrue tells → shown ≡ None) × calm
+ReadsFirst tells shown Refused calm cause = cause
+ReadsFirst tells shown NoMemory calm cause = ⊤

@@ -1,0 +1,229 @@
+-- A connection: the requests that were read, the replies that were given, and how it ended.
+use Rattle.std.specs.Prelude.{map, Bool, ◌≡◌, ◌⊎◌, ◌+◌, ◌<◌, ◌≤◌, ℕ, List, [], ◌∷◌, ◌++◌, length, take, codes, Option}
+use Rattle.std.specs.Io.KnownBytes.{prepend_known, append_known, IsAtEnd}
+use Rattle.drive_base.specs.Files.{Files}
+use Rattle.io_base.specs.Count.{CountRose}
+use Rattle.ostore.specs.declared.connection.Turn.{Turn}
+use Rattle.ostore.specs.declared.connection.Turn.TheVariants.{Answered, Ended}
+use Rattle.ostore.specs.declared.connection.ConnectionEnd.{ConnectionEnd}
+use Rattle.ostore.specs.declared.connection.ConnectionEnd.TheVariants.{Over, Closed, InputCut, ReadFault, WriteFault, NoMemory}
+use Rattle.ostore.specs.Heads.{HasNoBlankLine, SpellsPut, IsRefusedHead}
+use Rattle.ostore.specs.Replies.{message}
+use Rattle.ostore.specs.Objects.{Request, Answer, unavailable, stored, found, missing, Asks, answer_text, Objects, Serves, Fits}
+use Rattle.ostore.specs.Drives.{AllTell, NoneFell, DrivesCause, Ready, Keeps}
+
+-- a request with its bytes as they came, and its answer
+pub record Exchange : Type 0 where
+  pub request : Request
+  pub bytes : List ℕ
+  pub answer : Answer
+
+-- the map and the drives' counts between two requests
+pub record Moment : Type 0 where
+  pub objects : Objects
+  pub counts : List ℕ
+
+-- an answer other than 503 comes only where no drive's count rose, and 503 only where one did or a drive doesn't tell what it holds
+abbrev pub HasCause : List Bool → Answer → List ℕ → List ℕ → Type 0
+HasCause tells stored old new = new ≡ old
+HasCause tells (found body) old new = new ≡ old
+HasCause tells missing old new = new ≡ old
+HasCause tells unavailable old new = DrivesCause tells old new
+
+-- one exchange: the bytes are the request's, and the answer is the map's, or 503 with its cause
+pub record Step (tells : List Bool) (old : Moment) (exchange : Exchange) (new : Moment) : Type 0 where
+  pub asks : Asks exchange.request exchange.bytes
+  pub fits : Fits exchange.request exchange.answer
+  pub serves : AllTell tells → Serves old.objects exchange.request exchange.answer new.objects
+  pub cause : HasCause tells exchange.answer old.counts new.counts
+  pub counts : NoneFell old.counts new.counts
+
+-- nothing is served: the map stays, and no count falls
+pub record Rests (old new : Moment) : Type 0 where
+  pub objects : new.objects ≡ old.objects
+  pub counts : NoneFell old.counts new.counts
+
+-- exchanges, one after another
+abbrev pub Run : List Bool → Moment → List Exchange → Moment → Type 0
+Run tells old [] new = old ≡ new
+Run tells old (exchange ∷ exchanges) new = (mid : Moment) × Step tells old exchange mid × Run tells mid exchanges new
+
+-- the bytes of the requests
+abbrev pub bytes_of : List Exchange → List ℕ
+bytes_of [] = []
+bytes_of (exchange ∷ exchanges) = exchange.bytes ++ bytes_of exchanges
+
+-- the texts of the answers
+abbrev pub texts_of : List Exchange → List ℕ
+texts_of [] = []
+texts_of (exchange ∷ exchanges) = answer_text exchange.answer ++ texts_of exchanges
+
+-- some of a head, perhaps nothing, and no end of it
+abbrev pub IsInHead : List ℕ → Type 0
+IsInHead bytes = HasNoBlankLine bytes × (length bytes < 1024)
+
+-- the head of a PUT and not all of its body
+pub record IsInBody (bytes : List ℕ) : Type 0 where
+  pub key : List ℕ
+  pub n : ℕ
+  pub head : List ℕ
+  pub part : List ℕ
+  pub spells : SpellsPut key n head
+  pub is : bytes ≡ head ++ part
+  pub lacks : length part < n
+
+-- a request that isn't all there
+abbrev pub IsBegun : List ℕ → Type 0
+IsBegun bytes = IsInHead bytes ⊎ IsInBody bytes
+
+-- what of a request was read when memory ran out: a part of it, or all of it
+abbrev pub IsUnserved : List ℕ → Type 0
+IsUnserved bytes = IsBegun bytes ⊎ ((request : Request) × Asks request bytes)
+
+-- what the source and the sink show
+pub record Wires : Type 0 where
+  pub left : Option (List ℕ)
+  pub given : Option (List ℕ)
+  pub read_faults : ℕ
+  pub write_faults : ℕ
+
+abbrev pub wires : Option (List ℕ) → Option (List ℕ) → ℕ → ℕ → Wires
+wires left given read_faults write_faults = record { left = left; given = given; read_faults = read_faults; write_faults = write_faults }
+
+-- bytes went from the source, other bytes to the sink, and no count fell
+pub record Moved (taken given : List ℕ) (old new : Wires) : Type 0 where
+  pub took : old.left ≡ prepend_known taken new.left
+  pub gave : new.given ≡ append_known old.given given
+  pub reads : old.read_faults ≤ new.read_faults
+  pub writes : old.write_faults ≤ new.write_faults
+
+-- the text of the refusal of a head
+abbrev pub refusal : List ℕ
+refusal = message (codes "400 Bad Request") []
+
+-- the last answer was cut short
+pub record IsCutAnswer (exchanges : List Exchange) (tail out : List ℕ) : Type 0 where
+  pub earlier : List Exchange
+  pub last : Exchange
+  pub n : ℕ
+  pub are : exchanges ≡ earlier ++ last ∷ []
+  pub nothing : tail ≡ []
+  pub given : out ≡ texts_of earlier ++ take n (answer_text last.answer)
+
+-- the refusal of a head was cut short
+pub record IsCutRefusal (exchanges : List Exchange) (tail out : List ℕ) : Type 0 where
+  pub n : ℕ
+  pub refused : IsRefusedHead tail
+  pub given : out ≡ texts_of exchanges ++ take n refusal
+
+-- how a connection ends, after these exchanges: `tail` are the bytes read after them, `out` all that was given
+abbrev pub EndsSo : ConnectionEnd → List Exchange → List ℕ → List ℕ → Wires → Wires → Type 0
+EndsSo Over exchanges tail out old new = (tail ≡ []) × IsAtEnd new.left × (out ≡ texts_of exchanges)
+EndsSo InputCut exchanges tail out old new = (0 < length tail) × IsBegun tail × IsAtEnd new.left × (out ≡ texts_of exchanges)
+EndsSo ReadFault exchanges tail out old new = IsBegun tail × CountRose old.read_faults new.read_faults × (out ≡ texts_of exchanges)
+EndsSo WriteFault exchanges tail out old new = CountRose old.write_faults new.write_faults × (IsCutAnswer exchanges tail out ⊎ IsCutRefusal exchanges tail out)
+EndsSo NoMemory exchanges tail out old new = IsUnserved tail × (out ≡ texts_of exchanges)
+EndsSo Closed exchanges tail out old new = IsRefusedHead tail × (out ≡ texts_of exchanges ++ refusal)
+
+-- the server closed after as many requests as it serves on one connection
+pub record IsAtLimit (end : ConnectionEnd) (exchanges : List Exchange) (tail out : List ℕ) : Type 0 where
+  pub closed : end ≡ Closed
+  pub all : length exchanges ≡ 1000000
+  pub nothing : tail ≡ []
+  pub given : out ≡ texts_of exchanges
+
+-- a whole connection; a request that it ends in leaves the map
+pub record Session (tells : List Bool) (old : Moment) (before : Wires) (end : ConnectionEnd) (new : Moment) (after : Wires) : Type 0 where
+  pub exchanges : List Exchange
+  pub stop : Moment
+  pub tail : List ℕ
+  pub out : List ℕ
+  pub run : Run tells old exchanges stop
+  pub rests : Rests stop new
+  pub moved : Moved (bytes_of exchanges ++ tail) out before after
+  pub ends : EndsSo end exchanges tail out before after ⊎ IsAtLimit end exchanges tail out
+  pub few : length exchanges ≤ 1000000
+
+-- what one request leads to: an answer, or the end of the connection
+-- `front` are the bytes of the request that were read before
+pub record TurnAnswers (tells : List Bool) (front : List ℕ) (old : Moment) (before : Wires) (new : Moment) (after : Wires) : Type 0 where
+  pub exchange : Exchange
+  pub step : Step tells old exchange new
+  pub part : List ℕ
+  pub is : exchange.bytes ≡ front ++ part
+  pub moved : Moved part (answer_text exchange.answer) before after
+
+pub record TurnEnds (tells : List Bool) (front : List ℕ) (old : Moment) (before : Wires) (end : ConnectionEnd) (new : Moment) (after : Wires) : Type 0 where
+  pub exchanges : List Exchange
+  pub tail : List ℕ
+  pub part : List ℕ
+  pub out : List ℕ
+  pub stop : Moment
+  pub run : Run tells old exchanges stop
+  pub rests : Rests stop new
+  pub is : bytes_of exchanges ++ tail ≡ front ++ part
+  pub moved : Moved part out before after
+  pub ends : EndsSo end exchanges tail out before after
+  pub few : length exchanges ≤ 1
+
+abbrev pub Turns : List Bool → List ℕ → Moment → Wires → Turn → Moment → Wires → Type 0
+Turns tells front old before Answered new after = TurnAnswers tells front old before new after
+Turns tells front old before (Ended end) new after = TurnEnds tells front old before end new after
+
+-- a reply with this text was given, or was cut short
+abbrev pub Gives : List ℕ → Turn → Option (List ℕ) → Option (List ℕ) → ℕ → ℕ → Type 0
+Gives text Answered old_given new_given old new = (new_given ≡ append_known old_given text) × (old ≤ new)
+Gives text (Ended WriteFault) old_given new_given old new = ((n : ℕ) × (new_given ≡ append_known old_given (take n text))) × CountRose old new × (old ≤ new)
+Gives text (Ended Over) old_given new_given old new = ⊥
+Gives text (Ended Closed) old_given new_given old new = ⊥
+Gives text (Ended InputCut) old_given new_given old new = ⊥
+Gives text (Ended ReadFault) old_given new_given old new = ⊥
+Gives text (Ended NoMemory) old_given new_given old new = ⊥
+
+-- the same, or no memory was found for the text, and nothing was given
+abbrev pub GivesOrStarves : List ℕ → Turn → Option (List ℕ) → Option (List ℕ) → ℕ → ℕ → Type 0
+GivesOrStarves text Answered old_given new_given old new = Gives text Answered old_given new_given old new
+GivesOrStarves text (Ended NoMemory) old_given new_given old new = (new_given ≡ old_given) × (new ≡ old)
+GivesOrStarves text (Ended WriteFault) old_given new_given old new = Gives text (Ended WriteFault) old_given new_given old new
+GivesOrStarves text (Ended Over) old_given new_given old new = ⊥
+GivesOrStarves text (Ended Closed) old_given new_given old new = ⊥
+GivesOrStarves text (Ended InputCut) old_given new_given old new = ⊥
+GivesOrStarves text (Ended ReadFault) old_given new_given old new = ⊥
+
+-- the refusal of a head was given and the connection closed, or it was cut short
+abbrev pub Refuses : Turn → Option (List ℕ) → Option (List ℕ) → ℕ → ℕ → Type 0
+Refuses Answered old_given new_given old new = ⊥
+Refuses (Ended Closed) old_given new_given old new = (new_given ≡ append_known old_given refusal) × (old ≤ new)
+Refuses (Ended WriteFault) old_given new_given old new = ((n : ℕ) × (new_given ≡ append_known old_given (take n refusal))) × CountRose old new × (old ≤ new)
+Refuses (Ended Over) old_given new_given old new = ⊥
+Refuses (Ended InputCut) old_given new_given old new = ⊥
+Refuses (Ended ReadFault) old_given new_given old new = ⊥
+Refuses (Ended NoMemory) old_given new_given old new = ⊥
+
+module _ {D : Type 0} (tell : D → Bool) (files : D → Files) (count : D → ℕ) where
+  -- what the drives tell of a moment
+  abbrev pub moment : Objects → List D → Moment
+  moment objects drives = record { objects = objects; counts = map count drives }
+
+  -- one turn over the drives, which go on keeping the map
+  pub record TurnOver (number : ℕ) (front : List ℕ) (objects : Objects) (old : List D) (before : Wires) (turn : Turn) (new : List D) (after : Wires) : Type 0 where
+    pub objects_after : Objects
+    pub ready : AllTell (map tell old) → Ready files (number + 1) objects_after new
+    pub turns : Turns (map tell old) front (moment objects old) before turn (moment objects_after new) after
+
+  -- a connection over the drives, which in the end keep the map
+  pub record Served (objects : Objects) (old : List D) (before : Wires) (end : ConnectionEnd) (new : List D) (after : Wires) : Type 0 where
+    pub objects_after : Objects
+    pub keeps : AllTell (map tell old) → Keeps files objects_after new
+    pub session : Session (map tell old) (moment objects old) before end (moment objects_after new) after
+
+  -- the requests that were answered so far, as many as this number
+  pub record SoFar (number : ℕ) (objects : Objects) (old : List D) (before : Wires) (new : List D) (after : Wires) : Type 0 where
+    pub objects_after : Objects
+    pub exchanges : List Exchange
+    pub ready : AllTell (map tell old) → Ready files number objects_after new
+    pub tells : map tell new ≡ map tell old
+    pub drives : length new ≡ length old
+    pub run : Run (map tell old) (moment objects old) exchanges (moment objects_after new)
+    pub moved : Moved (bytes_of exchanges) (texts_of exchanges) before after
+    pub many : length exchanges ≡ number

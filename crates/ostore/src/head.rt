@@ -1,0 +1,274 @@
+//! The heads of requests.
+
+ghost use Rattle.std.specs.Prelude.{◌≡◌, ◌≢◌, ◌≤◌, ℕ, ◌++◌, List, length, codes, IfSome, IfNone};
+ghost use Rattle.std.specs.Char.{is_ascii_alphanumeric, is_ascii_digit};
+ghost use Rattle.std.specs.List.{AllPass, prefix_len};
+ghost use Rattle.ostore.specs.Heads.{Spells, SpellsNothing, SpellsPut, SpellsGet, GivesLength, IsKey, decimal_value, blank_line};
+
+/// The most bytes of a head.
+pub const MOST_HEAD: usize = 1024;
+
+/// The most bytes of a body.
+pub const MOST_BODY: u32 = 65_536;
+
+/// What a head asks for. A key has 1 to 255 ASCII letters and digits.
+#[derive(Clone, Copy, Debug, PartialEq, Eq)]
+pub enum Head<'a> {
+    /// `PUT /pic/KEY HTTP/1.1` with a `Content-Length`, the number of body bytes that follow.
+    Put { key: &'a [u8], length: u32 },
+    /// `GET /pic/KEY HTTP/1.1`.
+    Get { key: &'a [u8] },
+}
+
+/// Reads a head that has ended. None where it is no request's.
+pub fn parse_head(bytes: &[u8]) -> Option<Head<'_>>
+    ensures spelled { IfSome result (λ head. Spells head bytes.now) }
+    ensures refused { IfNone result (SpellsNothing bytes.now) }
+{
+    if let Some((key, length)) = parse_put(bytes) {
+        return Some(Head::Put { key, length });
+    }
+    if let Some(key) = parse_get(bytes) {
+        return Some(Head::Get { key });
+    }
+    None
+}
+
+/// The key and the length of the body, if this is the head of a PUT.
+fn parse_put(bytes: &[u8]) -> Option<(&[u8], u32)>
+    ensures spelled { IfSome result (λ put. SpellsPut put.0.now put.1 bytes.now) }
+    ensures refused { IfNone result ((key : List ℕ) (n : ℕ) → SpellsPut key n bytes.now → ⊥) }
+{
+    let (key, rest) = split_key(bytes, b"PUT /pic/")?;
+    let length = parse_length_line(rest)?;
+    Some((key, length))
+}
+
+/// The key, if this is the head of a GET.
+fn parse_get(bytes: &[u8]) -> Option<&[u8]>
+    ensures spelled { IfSome result (λ key. SpellsGet key.now bytes.now) }
+    ensures refused { IfNone result ((key : List ℕ) → SpellsGet key bytes.now → ⊥) }
+{
+    let (key, rest) = split_key(bytes, b"GET /pic/")?;
+    if rest == b" HTTP/1.1\r\n\r\n".as_slice() {
+        Some(key)
+    } else {
+        None
+    }
+}
+
+/// The length of the body, from what follows the key in the head of a PUT.
+fn parse_length_line(bytes: &[u8]) -> Option<u32>
+    ensures given { IfSome result (λ n. (digits : List ℕ) × GivesLength digits n × (bytes.now ≡ codes " HTTP/1.1\r\nContent-Length: " ++ digits ++ blank_line)) }
+    ensures refused { IfNone result ((digits : List ℕ) (n : ℕ) → GivesLength digits n → bytes.now ≢ codes " HTTP/1.1\r\nContent-Length: " ++ digits ++ blank_line) }
+{
+    let line = bytes.strip_prefix(b" HTTP/1.1\r\nContent-Length: ")?;
+    let digits = line.strip_suffix(b"\r\n\r\n")?;
+    parse_length(digits)
+}
+
+/// The key behind this front, and what follows it, which begins with no letter or digit. None where
+/// the text is not so.
+fn split_key<'a>(bytes: &'a [u8], front: &[u8]) -> Option<(&'a [u8], &'a [u8])>
+    ensures is_key { IfSome result (λ parts. IsKey parts.0.now) }
+    ensures longest { IfSome result (λ parts. prefix_len is_ascii_alphanumeric parts.1.now ≡ 0) }
+    ensures whole { IfSome result (λ parts. bytes.now ≡ front.now ++ parts.0.now ++ parts.1.now) }
+    ensures refused { IfNone result ((key rest : List ℕ) → IsKey key → prefix_len is_ascii_alphanumeric rest ≡ 0 → bytes.now ≢ front.now ++ key ++ rest) }
+{
+    let target = bytes.strip_prefix(front)?;
+    let (key, rest) = split_run(target);
+    if key.is_empty() || key.len() > 255 {
+        return None;
+    }
+    Some((key, rest))
+}
+
+/// The longest run of letters and digits at the front, and what follows it.
+fn split_run(bytes: &[u8]) -> (&[u8], &[u8])
+    ensures whole { bytes.now ≡ result.0.now ++ result.1.now }
+    ensures passes { AllPass is_ascii_alphanumeric result.0.now }
+    ensures longest { prefix_len is_ascii_alphanumeric result.1.now ≡ 0 }
+{
+    let run = bytes
+        .iter()
+        .take_while(|byte| byte.is_ascii_alphanumeric())
+        .count();
+    bytes.split_at(run)
+}
+
+/// The length that these digits give. None where they aren't 1 to 5 decimal digits, or give more
+/// than `MOST_BODY`.
+fn parse_length(digits: &[u8]) -> Option<u32>
+    ensures given { IfSome result (λ n. GivesLength digits.now n) }
+    ensures refused { IfNone result ((n : ℕ) → GivesLength digits.now n → ⊥) }
+{
+    if digits.is_empty() || digits.len() > 5 {
+        return None;
+    }
+    if !digits.iter().all(|digit| digit.is_ascii_digit()) {
+        return None;
+    }
+    let length = value_of(digits);
+    if length <= MOST_BODY {
+        Some(length)
+    } else {
+        None
+    }
+}
+
+/// The number that at most five decimal digits stand for.
+fn value_of(digits: &[u8]) -> u32
+    requires short { length digits.now ≤ 5 }
+    requires plain { AllPass is_ascii_digit digits.now }
+    ensures { result ≡ decimal_value digits.now }
+{
+    let mut value = 0;
+    for digit in digits {
+        value = value * 10 + u32::from(*digit - b'0');
+    }
+    value
+}
+
+#[cfg(test)]
+mod tests {
+    use super::*;
+    use std::alloc::{AllocError, Global};
+    use std::test::Fail;
+
+    const PUT: &[u8] = b"PUT /pic/cat HTTP/1.1\r\nContent-Length: 12\r\n\r\n";
+
+    const GET: &[u8] = b"GET /pic/cat HTTP/1.1\r\n\r\n";
+
+    /// A head with a key of this many letters.
+    fn with_long_key(alloc: Global, key: usize) -> Result<Vec<u8>, AllocError> {
+        let mut head = b"GET /pic/".to_vec(alloc)?;
+        head.extend_from_slice(&vec![in alloc; b'k'; key]?)?;
+        head.extend_from_slice(b" HTTP/1.1\r\n\r\n")?;
+        Ok(head)
+    }
+
+    #[test]
+    fn good_heads_are_read(rt: HostRuntime) {
+        let cat = b"cat".as_slice();
+        assert_eq!(rt;
+            parse_head(PUT),
+            Some(Head::Put {
+                key: cat,
+                length: 12
+            })
+        );
+        assert_eq!(rt; parse_head(GET), Some(Head::Get { key: cat }));
+        let lengths: [(&[u8], u32); 5] = [
+            (b"PUT /pic/aZ09 HTTP/1.1\r\nContent-Length: 0\r\n\r\n", 0),
+            (
+                b"PUT /pic/aZ09 HTTP/1.1\r\nContent-Length: 00005\r\n\r\n",
+                5,
+            ),
+            (
+                b"PUT /pic/aZ09 HTTP/1.1\r\nContent-Length: 9876\r\n\r\n",
+                9876,
+            ),
+            (
+                b"PUT /pic/aZ09 HTTP/1.1\r\nContent-Length: 65535\r\n\r\n",
+                65535,
+            ),
+            (
+                b"PUT /pic/aZ09 HTTP/1.1\r\nContent-Length: 65536\r\n\r\n",
+                65536,
+            ),
+        ];
+        for (head, length) in lengths {
+            let key = b"aZ09".as_slice();
+            assert_eq!(rt; parse_head(head), Some(Head::Put { key, length }));
+        }
+    }
+
+    #[test]
+    fn other_heads_are_refused(rt: HostRuntime) {
+        let heads: [&[u8]; 16] = [
+            b"",
+            b"\r\n\r\n",
+            b"PUT /pic/cat HTTP/1.1\r\n\r\n",
+            b"GET /pic/cat HTTP/1.1\r\nContent-Length: 0\r\n\r\n",
+            b"GET /pic/cat HTTP/1.0\r\n\r\n",
+            b"get /pic/cat HTTP/1.1\r\n\r\n",
+            b"HEAD /pic/cat HTTP/1.1\r\n\r\n",
+            b"DELETE /pic/cat HTTP/1.1\r\n\r\n",
+            b"POST /pic/cat HTTP/1.1\r\nContent-Length: 3\r\n\r\n",
+            b"GET /pic/ HTTP/1.1\r\n\r\n",
+            b"GET /pic/c-t HTTP/1.1\r\n\r\n",
+            b"PUT /pic/cat HTTP/1.1\r\nContent-Length: \r\n\r\n",
+            b"PUT /pic/cat HTTP/1.1\r\nContent-Length: +5\r\n\r\n",
+            b"PUT /pic/cat HTTP/1.1\r\nContent-Length: 65537\r\n\r\n",
+            b"PUT /pic/cat HTTP/1.1\r\nContent-Length: 99999\r\n\r\n",
+            b"PUT /pic/cat HTTP/1.1\r\nContent-Length: 000005\r\n\r\n",
+        ];
+        for head in heads {
+            assert!(rt; parse_head(head).is_none());
+        }
+    }
+
+    #[test]
+    fn keys_have_at_most_255_letters(rt: HostRuntime) -> Result<(), Fail> {
+        let longest = with_long_key(rt.alloc(), 255)?;
+        assert!(rt; matches!(parse_head(&longest), Some(Head::Get { key }) if key.len() == 255));
+        let longer = with_long_key(rt.alloc(), 256)?;
+        assert!(rt; parse_head(&longer).is_none());
+        Ok(())
+    }
+
+    fn put(key: &[u8], length: u32) -> Option<Head<'_>> {
+        Some(Head::Put { key, length })
+    }
+
+    /// A byte too few is a head only where it leaves a shorter key or fewer digits.
+    #[test]
+    fn bytes_left_out(rt: HostRuntime) -> Result<(), Fail> {
+        for place in 0..PUT.len() {
+            let mut shorter = PUT.to_vec(rt.alloc())?;
+            shorter.remove(place);
+            let expected = match place {
+                9 => put(b"at", 12),
+                10 => put(b"ct", 12),
+                11 => put(b"ca", 12),
+                39 => put(b"cat", 2),
+                40 => put(b"cat", 1),
+                _ => None,
+            };
+            assert_eq!(rt; parse_head(&shorter), expected, "{place}");
+        }
+        for place in 0..GET.len() {
+            let mut shorter = GET.to_vec(rt.alloc())?;
+            shorter.remove(place);
+            assert_eq!(rt;
+                parse_head(&shorter).is_some(),
+                (9..12).contains(&place),
+                "{place}"
+            );
+        }
+        Ok(())
+    }
+
+    /// A byte too many is a head only where it makes a longer key or more digits.
+    #[test]
+    fn bytes_put_in(rt: HostRuntime) -> Result<(), Fail> {
+        for head in [PUT, GET] {
+            for place in 0..head.len() + 1 {
+                for byte in 0..=255u8 {
+                    let mut longer = head.to_vec(rt.alloc())?;
+                    longer.insert(place, byte)?;
+                    let in_key = (9..13).contains(&place) && byte.is_ascii_alphanumeric();
+                    let in_digits = head.len() > 30
+                        && (39..42).contains(&place)
+                        && byte.is_ascii_digit();
+                    assert_eq!(rt;
+                        parse_head(&longer).is_some(),
+                        in_key || in_digits,
+                        "{place} {byte}"
+                    );
+                }
+            }
+        }
+        Ok(())
+    }
+}

@@ -1,0 +1,253 @@
+//! Reads heads and bodies from a source, byte for byte as far as they go and no further.
+
+ghost use Rattle.std.specs.Prelude.{◌≡◌, ◌≤◌, Err, take, length, IfOk, IfErr, IfNone, option_to_list};
+ghost use Rattle.std.specs.Io.KnownBytes.{prepend_known, IsAtEnd};
+ghost use Rattle.io_base.specs.Count.{CountsFault};
+ghost use Rattle.ostore.specs.Reading.{HeadReads, BodyReads};
+
+use crate::head::MOST_HEAD;
+use io_base::{IoFault, Source};
+use std::alloc::Global;
+
+/// How the reading of a head ended.
+#[derive(Clone, Copy, Debug, PartialEq, Eq)]
+pub enum HeadEnd {
+    /// The head ends with its first blank line.
+    Whole,
+    /// As many bytes as a head may have came without a blank line.
+    TooLong,
+    /// The source ended first.
+    Ended,
+    /// The source failed first.
+    Failed,
+}
+
+/// Why a body wasn't read.
+#[derive(Clone, Copy, Debug, PartialEq, Eq)]
+pub enum BodyFault {
+    /// The source ended first.
+    Ended,
+    /// The source failed first.
+    Failed,
+    /// No memory was found for the body.
+    NoMemory,
+}
+
+/// How many bytes of a head were read, and how the reading ended.
+#[derive(Clone, Copy, Debug, PartialEq, Eq)]
+pub struct HeadRead {
+    pub length: usize,
+    pub end: HeadEnd,
+}
+
+/// Reads a head to the front of the buffer, one byte at a time: nothing behind it is taken.
+pub fn read_head<S: Source>(source: &mut S, buffer: &mut [u8; MOST_HEAD]) -> HeadRead
+    ensures within { result.length ≤ 1024 }
+    ensures took { S.left source.old ≡ prepend_known (take result.length buffer.new) (S.left source.new) }
+    ensures read { HeadReads result.end (take result.length buffer.new) (S.left source.new) (S.faults source.old) (S.faults source.new) }
+    ensures counts { S.faults source.old ≤ S.faults source.new }
+{
+    for length in 0..MOST_HEAD {
+        match take_byte(source) {
+            Ok(Some(byte)) => buffer[length] = byte,
+            Ok(None) => {
+                return HeadRead {
+                    length,
+                    end: HeadEnd::Ended,
+                };
+            }
+            Err(_) => {
+                return HeadRead {
+                    length,
+                    end: HeadEnd::Failed,
+                };
+            }
+        }
+        if buffer[..length + 1].ends_with(b"\r\n\r\n") {
+            return HeadRead {
+                length: length + 1,
+                end: HeadEnd::Whole,
+            };
+        }
+    }
+    HeadRead {
+        length: MOST_HEAD,
+        end: HeadEnd::TooLong,
+    }
+}
+
+/// The next byte, or None where the source has ended.
+fn take_byte<S: Source>(source: &mut S) -> Result<Option<u8>, IoFault>
+    ensures taken { IfOk result (λ next. S.left source.old ≡ prepend_known (option_to_list next) (S.left source.new)) }
+    ensures ended { IfOk result (λ next. IfNone next (IsAtEnd (S.left source.new))) }
+    ensures failed { IfErr result (λ _. S.left source.new ≡ S.left source.old) }
+    ensures counted { CountsFault result (S.faults source.old) (S.faults source.new) }
+{
+    let mut byte = [0];
+    let taken = source.take(&mut byte)?;
+    if taken == 0 {
+        Ok(None)
+    } else {
+        Ok(Some(byte[0]))
+    }
+}
+
+/// Reads a body of this many bytes, and takes none where no memory is found for it. What was taken
+/// before the source ended or failed is lost.
+pub fn read_body<S: Source>(
+    alloc: Global,
+    source: &mut S,
+    length: usize,
+) -> Result<Vec<u8>, BodyFault>
+    ensures read { BodyReads length result (S.left source.old) (S.left source.new) (S.faults source.old) (S.faults source.new) }
+    ensures counts { S.faults source.old ≤ S.faults source.new }
+{
+    let Ok(mut body) = vec![in alloc; 0; length] else {
+        return Err(BodyFault::NoMemory);
+    };
+    fill(source, &mut body)?;
+    Ok(body)
+}
+
+/// Takes bytes until the whole buffer is filled.
+fn fill<S: Source>(source: &mut S, into: &mut [u8]) -> Result<(), BodyFault>
+    ensures whole { IfOk result (λ _. S.left source.old ≡ prepend_known into.new (S.left source.new)) }
+    ensures part { IfErr result (λ fault. BodyReads {A = Unit {0}} (length into.old) (Err fault) (S.left source.old) (S.left source.new) (S.faults source.old) (S.faults source.new)) }
+    ensures counts { S.faults source.old ≤ S.faults source.new }
+{
+    let mut filled = 0;
+    while filled < into.len() {
+        let Ok(taken) = source.take(&mut into[filled..]) else {
+            return Err(BodyFault::Failed);
+        };
+        if taken == 0 {
+            return Err(BodyFault::Ended);
+        }
+        filled += taken;
+    }
+    Ok(())
+}
+
+#[cfg(test)]
+mod tests {
+    use super::*;
+    use io_base::MemSource;
+    use std::alloc::AllocError;
+    use std::test::Fail;
+
+    const HEAD: &[u8] = b"PUT /pic/cat HTTP/1.1\r\nContent-Length: 4\r\n\r\n";
+
+    fn source_of(alloc: Global, bytes: &[u8], fails: &[u64]) -> Result<MemSource, AllocError> {
+        Ok(MemSource::new(
+            Vec::from_slice(alloc, bytes)?,
+            Vec::from_slice(alloc, fails)?,
+        ))
+    }
+
+    /// A source that gives one byte in each call.
+    #[derive(Drop)]
+    struct Drops(MemSource);
+
+    impl Source for Drops {
+        ghost use Rattle.std.specs.Prelude.{None};
+
+        ghost left = { λ _. None };
+
+        ghost faults = { λ s. s.0.faults };
+
+        fn take(&mut self, into: &mut [u8]) -> Result<usize, IoFault> {
+            let mut byte = [0];
+            if into.is_empty() {
+                return Ok(0);
+            }
+            let taken = self.0.take(&mut byte)?;
+            into[0] = byte[0];
+            Ok(taken)
+        }
+
+        fn read_faults(&self) -> u64 {
+            self.0.read_faults()
+        }
+    }
+
+    #[test]
+    fn a_head_and_its_body_are_taken(rt: HostRuntime) -> Result<(), Fail> {
+        let mut bytes = HEAD.to_vec(rt.alloc())?;
+        bytes.extend_from_slice(b"MEOW\r\n\r\nGET")?;
+        let mut source = source_of(rt.alloc(), &bytes, &[])?;
+        let mut buffer = [0; MOST_HEAD];
+        let read = read_head(&mut source, &mut buffer);
+        assert_eq!(rt; read.end, HeadEnd::Whole);
+        assert_eq!(rt; &buffer[..read.length], HEAD);
+        let none = read_body(rt.alloc(), &mut source, 0)?;
+        assert!(rt; none.is_empty());
+        let body = read_body(rt.alloc(), &mut source, 4)?;
+        assert_eq!(rt; body.as_slice(), b"MEOW".as_slice());
+        let rest = read_body(rt.alloc(), &mut source, 7)?;
+        assert_eq!(rt; rest.as_slice(), b"\r\n\r\nGET".as_slice());
+        Ok(())
+    }
+
+    #[test]
+    fn a_body_comes_in_pieces(rt: HostRuntime) -> Result<(), Fail> {
+        let mut source = Drops(source_of(rt.alloc(), b"MEOWGET", &[])?);
+        let body = read_body(rt.alloc(), &mut source, 4)?;
+        assert_eq!(rt; body.as_slice(), b"MEOW".as_slice());
+        let rest = read_body(rt.alloc(), &mut source, 3)?;
+        assert_eq!(rt; rest.as_slice(), b"GET".as_slice());
+        Ok(())
+    }
+
+    #[test]
+    fn heads_end_within_1024_bytes(rt: HostRuntime) -> Result<(), Fail> {
+        let ends = [
+            (0, 0, HeadEnd::Ended),
+            (1023, 1023, HeadEnd::Ended),
+            (1024, 1024, HeadEnd::TooLong),
+            (1030, 1024, HeadEnd::TooLong),
+        ];
+        for (sent, length, end) in ends {
+            let bytes = vec![in rt.alloc(); b'k'; sent]?;
+            let mut source = source_of(rt.alloc(), &bytes, &[])?;
+            let mut buffer = [0; MOST_HEAD];
+            let read = read_head(&mut source, &mut buffer);
+            assert_eq!(rt; read, HeadRead { length, end });
+        }
+        let mut bytes = vec![in rt.alloc(); b'k'; 1020]?;
+        bytes.extend_from_slice(b"\r\n\r\n")?;
+        let mut source = source_of(rt.alloc(), &bytes, &[])?;
+        let mut buffer = [0; MOST_HEAD];
+        let read = read_head(&mut source, &mut buffer);
+        assert_eq!(rt;
+            read,
+            HeadRead {
+                length: 1024,
+                end: HeadEnd::Whole
+            }
+        );
+        Ok(())
+    }
+
+    #[test]
+    fn a_source_fails_or_ends(rt: HostRuntime) -> Result<(), Fail> {
+        let mut source = source_of(rt.alloc(), HEAD, &[5])?;
+        let mut buffer = [0; MOST_HEAD];
+        let cut = read_head(&mut source, &mut buffer);
+        assert_eq!(rt;
+            cut,
+            HeadRead {
+                length: 5,
+                end: HeadEnd::Failed
+            }
+        );
+        let after = read_head(&mut source, &mut buffer);
+        assert_eq!(rt; after.end, HeadEnd::Whole);
+        assert_eq!(rt; &buffer[..after.length], &HEAD[5..]);
+        let ended = read_body(rt.alloc(), &mut source, 4);
+        assert!(rt; matches!(ended, Err(BodyFault::Ended)));
+        let mut drops = Drops(source_of(rt.alloc(), b"MEOW", &[2])?);
+        let failed = read_body(rt.alloc(), &mut drops, 4);
+        assert!(rt; matches!(failed, Err(BodyFault::Failed)));
+        Ok(())
+    }
+}

@@ -1,0 +1,106 @@
+//! The program's `run` over streams and drives in memory: what it gives, and how it ends.
+
+mod counted;
+mod faults;
+mod heads;
+mod limits;
+mod objects;
+
+ghost use Rattle.ostore.specs.Program.{AreFresh};
+
+use crate::program::{PlainRig, run};
+use crate::rig::memory_rig;
+use drive_base::Drive;
+use drive_memory::MemDrive;
+use io_base::{MemSink, MemSource, Source};
+use std::alloc::{AllocError, Global};
+use std::test::Fail;
+
+/// The reply to a PUT that every drive took, as the program is to write it.
+const STORED: &[u8] = b"HTTP/1.1 200 OK\r\nContent-Length: 0\r\n\r\n";
+
+/// The reply to a GET of a key without a body.
+const MISSING: &[u8] = b"HTTP/1.1 404 Not Found\r\nContent-Length: 0\r\n\r\n";
+
+/// The reply to a head that is no request's.
+const BAD_REQUEST: &[u8] = b"HTTP/1.1 400 Bad Request\r\nContent-Length: 0\r\n\r\n";
+
+/// A PUT, a GET of its key and a GET of another key.
+const THREE_REQUESTS: &[u8] =
+    b"PUT /pic/a HTTP/1.1\r\nContent-Length: 5\r\n\r\nhelloGET /pic/a HTTP/1.1\r\n\r\nGET /pic/b HTTP/1.1\r\n\r\n";
+
+/// The replies to them.
+const THREE_REPLIES: &[u8] =
+    b"HTTP/1.1 200 OK\r\nContent-Length: 0\r\n\r\nHTTP/1.1 200 OK\r\nContent-Length: 5\r\n\r\nhelloHTTP/1.1 404 Not Found\r\nContent-Length: 0\r\n\r\n";
+
+/// How a run ended, with its drives and streams as it left them.
+#[derive(Drop)]
+struct Outcome<D> {
+    status: u8,
+    drives: Vec<D>,
+    source: MemSource,
+    sink: MemSink,
+}
+
+/// A source of these bytes that fails in these calls.
+fn source_of(alloc: Global, bytes: &[u8], fails: &[u64]) -> Result<MemSource, AllocError> {
+    Ok(MemSource::new(
+        Vec::from_slice(alloc, bytes)?,
+        Vec::from_slice(alloc, fails)?,
+    ))
+}
+
+/// A sink that fails in these calls.
+fn sink_of(alloc: Global, fails: &[u64]) -> Result<MemSink, AllocError> {
+    Ok(MemSink::new(Vec::from_slice(alloc, fails)?))
+}
+
+/// Runs with these words over these streams and drives.
+fn run_on<D: Drive + Drop>(
+    rt: &HostRuntime,
+    words: &[&str],
+    mut source: MemSource,
+    mut sink: MemSink,
+    rig: PlainRig<D>,
+) -> Result<Outcome<D>, Fail>
+    requires { AreFresh D.tells D.files rig.drives.items }
+{
+    let mut owned = Vec::new(rt.alloc());
+    for word in words {
+        owned.push(String::from_str(rt.alloc(), word)?)?;
+    }
+    let ended = run(rt, &owned, &mut source, &mut sink, rig);
+    Ok(Outcome {
+        status: ended.status,
+        drives: ended.drives,
+        source,
+        sink,
+    })
+}
+
+/// Runs `pipe` over this input and these drives.
+fn pipe_on<D: Drive + Drop>(
+    rt: &HostRuntime,
+    input: &[u8],
+    rig: PlainRig<D>,
+) -> Result<Outcome<D>, Fail>
+    requires { AreFresh D.tells D.files rig.drives.items }
+{
+    let source = source_of(rt.alloc(), input, &[])?;
+    let sink = sink_of(rt.alloc(), &[])?;
+    run_on(rt, &["pipe"], source, sink, rig)
+}
+
+/// Runs `pipe` over this input and four drives without a file.
+fn pipe(rt: &HostRuntime, input: &[u8]) -> Result<Outcome<MemDrive>, Fail> {
+    let rig = memory_rig(rt.alloc())?;
+    pipe_on(rt, input, rig)
+}
+
+/// The first bytes, eight at most, that a source still has.
+fn next_of(alloc: Global, mut source: MemSource) -> Result<Vec<u8>, Fail> {
+    let mut next = vec![in alloc; 0; 8]?;
+    let count = source.take(&mut next)?;
+    next.truncate(count);
+    Ok(next)
+}
