@@ -1,5 +1,5 @@
 -- When an answer serves a call.
-use Rattle.std.proofs.Common.{◌≡◌, ◌≢◌, ℕ, ◌<◌, ◌∷◌, length, inr, arith, Option, Some, None, MatchOption, IfSome, unwrap_or, List, refl, sym, ap, ◌∙◌, subst}
+use Rattle.std.proofs.Common.{◌≡◌, ◌≢◌, ℕ, ◌<◌, ◌∷◌, length, inr, arith, Option, Some, None, MatchOption, IfSome, unwrap_or, List, sym, ap, ◌∙◌, subst}
 use Rattle.call_types.specs.declared.names.Mode.{Mode}
 use Rattle.call_types.specs.declared.names.VersionName.{VersionName}
 use Rattle.call_types.specs.declared.version.Version.{Version}

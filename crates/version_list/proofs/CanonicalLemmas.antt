@@ -1,5 +1,5 @@
 -- A step leaves a canonical state.
-use Rattle.std.proofs.Common.{◌≡◌, ◌≢◌, ◌⊎◌, ℕ, ◌+◌, ◌<◌, ◌≤◌, ◌||◌, List, [], ◌∷◌, ◌++◌, length, map, filter, Bool, true, false, not, Option, Some, None, IsNone, find, refl, sym, ap, ◌∙◌, subst, arith, length-append, append_assoc}
+use Rattle.std.proofs.Common.{◌≡◌, ◌≢◌, ◌+◌, ◌<◌, ◌||◌, List, [], ◌∷◌, ◌++◌, length, map, Bool, true, false, not, Some, None, refl, sym, ap, ◌∙◌, subst, arith, length-append, append_assoc}
 use Rattle.std.proofs.lemmas.List.{map-append}
 use Rattle.std.specs.List.{AllByRecursion, list_any}
 use Rattle.stamp_id.specs.declared.version.VersionId.{VersionId}
@@ -9,13 +9,12 @@ use Rattle.call_types.specs.declared.names.VersionName.{VersionName}
 use Rattle.call_types.specs.declared.names.VersionName.TheVariants.{Null, Id}
 use Rattle.call_types.specs.declared.version.Version.{Version}
 use Rattle.call_types.specs.declared.version.Upload.{Upload}
-use Rattle.call_types.specs.declared.reply.Reply.{Reply}
 use Rattle.version_list.specs.declared.state.KeyState.{KeyState}
-use Rattle.version_list.specs.Naming.{same_id, same_name, has_name, is_named, kept, is_upload, still_open, has_id}
-use Rattle.version_list.specs.State.{AreDistinct, names_of, IsMoment, IsCanonical, IsCanonicalVersion, IsCanonicalUpload}
-use Rattle.version_list.specs.Step.{new_name, replaced, AddsVersion, Does}
-use Rattle.version_list.proofs.NamingLemmas.{same_id-refl, same_name-refl}
-use Rattle.version_list.proofs.SubLemmas.{Sub, Sub-refl, Sub-filter, Sub-map, Sub-append, length-Sub, All-Sub, AreDistinct-Sub, All-append, AreDistinct-push}
+use Rattle.version_list.specs.Naming.{same_name, has_name, is_named, kept, is_upload, has_id}
+use Rattle.version_list.specs.State.{AreDistinct, names_of, IsCanonical, IsCanonicalVersion, IsCanonicalUpload}
+use Rattle.version_list.specs.Step.{new_name, replaced}
+use Rattle.version_list.proofs.NamingLemmas.{same_name-refl}
+use Rattle.version_list.proofs.SubLemmas.{Sub, Sub-filter, Sub-map, Sub-append, length-Sub, All-Sub, AreDistinct-Sub, All-append, AreDistinct-push}
 
 -- fewer versions and uploads, all of them old ones
 pub IsCanonical-Sub :

@@ -1,6 +1,5 @@
 -- What stays of a list of versions.
-use Rattle.std.proofs.Common.{◌≡◌, ℕ, ◌+◌, ◌<◌, ◌≤◌, ◌⊎◌, inl, inr, Bool, true, false, not, Option, Some, None, IsNone, List, [], ◌∷◌, ◌++◌, length, get_or, refl, sym, ap, ◌∙◌, subst, arith, rules}
-use Rattle.std.specs.List.{list_any}
+use Rattle.std.proofs.Common.{◌≡◌, ◌≤◌, ◌⊎◌, inl, inr, Bool, true, false, Option, Some, None, IsNone, List, [], ◌∷◌, length, refl, sym, ap, subst, arith}
 use Rattle.call_types.specs.declared.names.VersionName.{VersionName}
 use Rattle.call_types.specs.declared.version.Version.{Version}
 use Rattle.version_list.specs.Naming.{is_named, kept}

@@ -1,6 +1,6 @@
 -- A step leaves a canonical state.
-use Rattle.std.proofs.Common.{◌≡◌, ◌≢◌, ◌⊎◌, inl, inr, ℕ, ◌<◌, ◌≤◌, List, [], ◌∷◌, ◌++◌, Bool, true, false, not, Option, Some, None, IsNone, MatchOption, MatchResult, Result, Ok, Err, IfOk, OnOk, IfSome, unwrap_or, find, refl, sym, ap, ◌∙◌, subst, arith, length, filter}
-use Rattle.std.specs.List.{AllByRecursion, list_any}
+use Rattle.std.proofs.Common.{◌≡◌, ◌≢◌, inl, inr, ℕ, List, [], ◌∷◌, Bool, true, false, not, Option, Some, None, IsNone, MatchOption, Result, Ok, Err, IfOk, OnOk, IfSome, unwrap_or, find, refl, sym, ap, subst, arith}
+use Rattle.std.specs.List.{AllByRecursion}
 use Rattle.stamp_id.specs.declared.version.VersionId.{VersionId}
 use Rattle.call_types.specs.declared.names.Mode.{Mode}
 use Rattle.call_types.specs.declared.names.Mode.TheVariants.{Never, Enabled, Suspended}
@@ -21,11 +21,11 @@ use Rattle.call_types.specs.declared.names.Etag.{Etag}
 use Rattle.version_list.specs.declared.state.KeyState.{KeyState}
 use Rattle.version_list.specs.declared.outcome.Applied.{Applied}
 use Rattle.version_list.specs.declared.outcome.ActFault.{ActFault}
-use Rattle.version_list.specs.Answers.{Answers, Serves, IsDone, state_after}
+use Rattle.version_list.specs.Answers.{Answers, IsDone, state_after}
 use Rattle.version_list.specs.Naming.{is_named, kept, is_upload, still_open, has_id}
 use Rattle.version_list.specs.Lawful.{IsLawful, IsSized, AreSized}
-use Rattle.version_list.specs.State.{names_of, IsMoment, IsKind, IsObject, IsCanonical, IsCanonicalVersion, IsCanonicalUpload}
-use Rattle.version_list.specs.Step.{new_name, replaced, told, AddsVersion, AddsMarker, RemovesVersion, Deletes, OpensUpload, WithUpload, Refuses, Does, Step}
+use Rattle.version_list.specs.State.{names_of, IsMoment, IsKind, IsCanonical, IsCanonicalVersion, IsCanonicalUpload}
+use Rattle.version_list.specs.Step.{new_name, replaced, told, AddsVersion, AddsMarker, Deletes, OpensUpload, WithUpload, Refuses, Does, Step}
 use Rattle.version_list.proofs.SubLemmas.{Sub, Sub-refl, Sub-filter}
 use Rattle.version_list.proofs.CanonicalLemmas.{IsCanonical-Sub, IsCanonical-front, IsCanonical-opened, new_apart, opened_apart}
 

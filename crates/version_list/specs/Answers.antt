@@ -1,7 +1,7 @@
 -- What `apply` answers of a step.
-use Rattle.std.specs.Prelude.{◌≡◌, ◌≢◌, Option, Some, None, Result, Ok, Err, MatchOption, IfSome, unwrap_or}
+use Rattle.std.specs.Prelude.{◌≡◌, ◌≢◌, Result, Ok, Err, MatchOption, IfSome, unwrap_or}
 use Rattle.call_types.specs.declared.act.Brief.{Brief}
-use Rattle.call_types.specs.declared.act.Brief.TheVariants.{Read, Gather, Change, Part, MakeBucket, SetMode, Answer}
+use Rattle.call_types.specs.declared.act.Brief.TheVariants.{Answer}
 use Rattle.call_types.specs.declared.reply.Reply.{Reply}
 use Rattle.call_types.specs.declared.reply.Reply.TheVariants as reply
 use Rattle.call_types.specs.declared.refusal.Refusal.{Refusal}

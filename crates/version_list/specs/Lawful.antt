@@ -1,7 +1,5 @@
 -- Which acts are done, and the sizes that the types of their fields give.
 use Rattle.std.specs.Prelude.{◌≡◌, ℕ, ◌<◌, ◌≤◌, ◌^◌, length, List}
-use Rattle.call_types.specs.declared.version.What.{What}
-use Rattle.call_types.specs.declared.version.What.TheVariants.{Marker, Object}
 use Rattle.call_types.specs.declared.act.Act.{Act}
 use Rattle.call_types.specs.declared.act.Act.TheVariants as act
 use Rattle.version_list.specs.State.{IsKind}

@@ -1,5 +1,5 @@
 -- What the plain program of a step gives.
-use Rattle.std.specs.Prelude.{Bool, true, false, ◌&&◌, Option, Some, None, Result, Ok, Err}
+use Rattle.std.specs.Prelude.{true, false, ◌&&◌, Some, None, Result, Ok, Err}
 use Rattle.std.specs.List.{list_any}
 use Rattle.stamp_id.specs.declared.version.VersionId.{VersionId}
 use Rattle.call_types.specs.declared.names.Mode.{Mode}

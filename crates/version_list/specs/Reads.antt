@@ -1,5 +1,5 @@
 -- What a read of a key gives (Amazon S3, GetObject and HeadObject).
-use Rattle.std.specs.Prelude.{◌≡◌, ℕ, List, [], ◌∷◌, Option, Some, None, Result, Ok, Err, MatchOption, MatchBool, slice_get, position}
+use Rattle.std.specs.Prelude.{◌≡◌, ℕ, List, [], ◌∷◌, Some, None, Result, Ok, Err, MatchOption, MatchBool, slice_get, position}
 use Rattle.call_types.specs.declared.names.Pick.{Pick}
 use Rattle.call_types.specs.declared.names.Pick.TheVariants as pick
 use Rattle.call_types.specs.declared.names.VersionName.{VersionName}

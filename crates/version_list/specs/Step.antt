@@ -1,6 +1,6 @@
 -- One step of a versioned object: what a change of a key answers, and the state that it leaves (Amazon S3, PutObject,
 -- DeleteObject and the multipart calls, in the three modes of a bucket).
-use Rattle.std.specs.Prelude.{◌≡◌, ℕ, ◌<◌, ◌≤◌, ◌⊎◌, Bool, true, false, ◌&&◌, List, [], ◌∷◌, ◌++◌, length, Option, Some, None, MatchOption, find}
+use Rattle.std.specs.Prelude.{◌≡◌, ℕ, ◌<◌, ◌≤◌, ◌⊎◌, true, false, ◌&&◌, List, [], ◌∷◌, ◌++◌, length, Option, Some, None, MatchOption, find}
 use Rattle.std.specs.List.{list_any}
 use Rattle.stamp_id.specs.declared.version.VersionId.{VersionId}
 use Rattle.call_types.specs.declared.names.Mode.{Mode}

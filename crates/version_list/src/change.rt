@@ -1,6 +1,6 @@
 //! New states of a key, made of the old one.
 
-ghost use Rattle.std.specs.Prelude.{◌≡◌, ◌⊎◌, ◌≤◌, ◌↔◌, true, ◌∷◌, [], ◌++◌, Some, IsSome, IsNone, IsTrue, IfOk, find, length};
+ghost use Rattle.std.specs.Prelude.{◌≡◌, ◌⊎◌, true, ◌∷◌, [], ◌++◌, Some, IsSome, IsNone, IfOk, find};
 ghost use Rattle.version_list.specs.Answers.{Leaves};
 ghost use Rattle.version_list.specs.Naming.{is_named, kept, is_upload, still_open};
 

@@ -1,6 +1,6 @@
 //! Changes of a list of versions.
 
-ghost use Rattle.std.specs.Prelude.{◌≡◌, ◌<◌, ◌^◌, ◌⊎◌, ◌↔◌, ◌&&◌, true, ◌∷◌, ◌++◌, Some, length, IfOk, OnOk, IsTrue, IsNone};
+ghost use Rattle.std.specs.Prelude.{◌≡◌, ◌<◌, ◌⊎◌, ◌↔◌, ◌&&◌, true, ◌∷◌, ◌++◌, Some, length, IfOk, OnOk, IsTrue, IsNone};
 ghost use Rattle.std.specs.List.{list_any};
 ghost use Rattle.version_list.specs.Naming.{has_name, is_named, is_marker, kept};
 ghost use Rattle.version_list.specs.Gone.{gone_bytes};

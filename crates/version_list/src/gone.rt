@@ -1,6 +1,6 @@
 //! The data that a key no longer has.
 
-ghost use Rattle.std.specs.Prelude.{◌≡◌, ℕ, List, [], ◌∷◌, ◌++◌, Option, IfOk, OnOk};
+ghost use Rattle.std.specs.Prelude.{◌≡◌, List, [], ◌∷◌, ◌++◌, Option, IfOk, OnOk};
 ghost use Rattle.std.specs.List.{list_any};
 ghost use Rattle.call_types.specs.declared.version.Version.{Version};
 ghost use Rattle.version_list.specs.Naming.{kept};

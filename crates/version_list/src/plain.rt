@@ -1,14 +1,14 @@
 //! The step on a key as its tables say it, without regard to speed: each new state is made whole, compared with the old
 //! one, and searched for each old data id. The tests compare it with `apply`.
 
-ghost use Rattle.std.specs.Prelude.{◌≡◌, ◌↔◌, ◌&&◌, ◌<◌, ◌≤◌, ◌∷◌, true, [], ◌++◌, Some, None, IfOk, OnOk, IsTrue, MatchOption, find, length};
+ghost use Rattle.std.specs.Prelude.{◌≡◌, ◌↔◌, ◌&&◌, ◌<◌, ◌≤◌, ◌∷◌, true, Some, None, IfOk, IsTrue, MatchOption, length};
 ghost use Rattle.std.specs.List.{list_any};
 ghost use Rattle.call_types.specs.declared.reply.Reply.{Reply};
 ghost use Rattle.version_list.specs.Answers.{Answers, IsServed};
-ghost use Rattle.version_list.specs.Gone.{has_data, gone_bytes};
-ghost use Rattle.version_list.specs.Naming.{has_name, is_marker, kept, is_upload, still_open};
+ghost use Rattle.version_list.specs.Gone.{gone_bytes};
+ghost use Rattle.version_list.specs.Naming.{has_name, is_marker, kept, still_open};
 ghost use Rattle.version_list.specs.Plain.{Gives, reply_due};
-ghost use Rattle.version_list.specs.Step.{Step, AddsVersion, AddsMarker, RemovesVersion, Deletes, Does, OpensUpload, WithUpload, new_name as name_of, replaced, told};
+ghost use Rattle.version_list.specs.Step.{Step, AddsVersion, Does, OpensUpload, WithUpload, new_name as name_of, replaced, told};
 
 use crate::change::copied_versions;
 use crate::edit::any_marker_named;

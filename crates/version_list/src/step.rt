@@ -1,6 +1,6 @@
 //! One step of a key.
 
-ghost use Rattle.std.specs.Prelude.{◌≡◌, ◌<◌, ◌≤◌, ◌⊎◌, true, false, IfOk, OnOk, IfSome, Some, None, IsSome, IsNone, find, length};
+ghost use Rattle.std.specs.Prelude.{◌≡◌, ◌<◌, ◌⊎◌, true, false, IfOk, OnOk, IfSome, Some, None, IsSome, IsNone, find, length};
 ghost use Rattle.version_list.specs.Answers.{Answers};
 ghost use Rattle.version_list.specs.Lawful.{IsLawful, IsSized, AreSized};
 ghost use Rattle.version_list.specs.State.{IsCanonical, IsMoment};

@@ -1,6 +1,6 @@
 //! Changes of a list of open uploads.
 
-ghost use Rattle.std.specs.Prelude.{◌≡◌, ◌<◌, ◌^◌, [], ◌∷◌, ◌++◌, length, find, IfOk};
+ghost use Rattle.std.specs.Prelude.{◌≡◌, [], ◌∷◌, ◌++◌, find, IfOk};
 ghost use Rattle.std.specs.Option.{option_copied};
 ghost use Rattle.version_list.specs.Naming.{is_upload, still_open};
 
@@ -31,7 +31,6 @@ pub fn without_upload(alloc: Global, uploads: &[Upload], id: VersionId) -> Resul
 
 /// Copies of the uploads, and this one at the end.
 pub fn with_upload(alloc: Global, uploads: &[Upload], opened: Upload) -> Result<Uploads, NoMemory>
-    requires { length uploads.now < 2 ^ 63 }
     ensures { IfOk result (λ list. list ≡ uploads.now ++ opened ∷ []) }
 {
     let mut list = Vec::with_capacity(alloc, uploads.len() + 1)?;

@@ -1,7 +1,7 @@
 //! Tests of what no clause says: that calls succeed, and that the tables are those of S3. Each act is done by the step
 //! and by the plain program of the tables.
 
-ghost use Rattle.std.specs.Prelude.{◌<◌, ◌≤◌, ◌^◌};
+ghost use Rattle.std.specs.Prelude.{◌<◌};
 
 use super::do_act;
 use crate::outcome::{ActFault, Applied};

@@ -1,4 +1,4 @@
-use Rattle.std.proofs.Common.{◌≡◌, List, ◌∷◌, length, refl, ap, ◌∙◌, arith}
+use Rattle.std.proofs.Common.{List, ◌∷◌, length, ap, ◌∙◌, arith}
 use Rattle.call_types.specs.declared.version.Version.{Version}
 use Rattle.version_list.specs.declared.state.KeyState.{KeyState}
 use Rattle.version_list.specs.Naming.{kept, still_open}

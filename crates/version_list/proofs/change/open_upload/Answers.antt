@@ -1,4 +1,4 @@
-use Rattle.std.proofs.Common.{◌≡◌, List, ◌++◌, ◌∷◌, [], length, refl, ap, ◌∙◌, arith, length-append}
+use Rattle.std.proofs.Common.{List, ◌++◌, ◌∷◌, [], length, refl, ap, ◌∙◌, arith, length-append}
 use Rattle.call_types.specs.declared.version.Upload.{Upload}
 use Rattle.version_list.specs.declared.state.KeyState.{KeyState}
 use Rattle.version_list.proofs.LeavesLemmas.{Leaves-uploads}

@@ -1,6 +1,5 @@
-use Rattle.std.proofs.Common.{◌≡◌, Some, List, ◌∷◌, Bool, true, false, length, subst, refl, sym, ap, ◌∙◌, arith}
+use Rattle.std.proofs.Common.{◌≡◌, Some, true, false, length, refl, sym, ap, ◌∙◌, arith}
 use Rattle.std.specs.List.{list_any}
-use Rattle.call_types.specs.declared.version.Version.{Version}
 use Rattle.version_list.specs.declared.state.KeyState.{KeyState}
 use Rattle.version_list.specs.Naming.{has_name, kept}
 use Rattle.version_list.proofs.LeavesLemmas.{Leaves-same, Leaves-new, state_by_parts, kept_not_there, kept-fewer}

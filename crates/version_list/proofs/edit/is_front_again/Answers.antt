@@ -1,6 +1,6 @@
-use Rattle.std.proofs.Common.{◌≡◌, Bool, true, false, length, sym, ap, ◌∙◌, arith, nat_eq}
-use Rattle.version_list.specs.Naming.{is_named, kept}
-use Rattle.version_list.proofs.KeptLemmas.{IsFrontAgain, IsFrontAgain-unchanged, unchanged-IsFrontAgain}
+use Rattle.std.proofs.Common.{false, sym, ◌∙◌, arith}
+use Rattle.version_list.specs.Naming.{is_named}
+use Rattle.version_list.proofs.KeptLemmas.{IsFrontAgain-unchanged, unchanged-IsFrontAgain}
 use Rattle.version_list.proofs.edit.is_front_again.Goals as goal
 
 pub returns-then-not-is_named : goal.returns-then-not-is_named

@@ -1,7 +1,6 @@
-use Rattle.std.proofs.Common.{◌≡◌, Some, None, Bool, true, false, List, ℕ, refl, sym, ap, ◌∙◌, subst}
+use Rattle.std.proofs.Common.{Some, None, true, false, List, refl, sym, ap, ◌∙◌, subst}
 use Rattle.call_types.specs.declared.reply.Reply.{Reply}
 use Rattle.call_types.specs.declared.version.Version.{Version}
-use Rattle.version_list.specs.declared.state.KeyState.{KeyState}
 use Rattle.version_list.specs.declared.outcome.Outcome.{Outcome}
 use Rattle.version_list.specs.Answers.{Leaves}
 use Rattle.version_list.specs.Gone.{gone_bytes}

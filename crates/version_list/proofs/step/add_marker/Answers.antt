@@ -1,5 +1,4 @@
 use Rattle.std.proofs.Common.{rules}
-use Rattle.version_list.specs.Step.{AddsMarker}
 use Rattle.version_list.proofs.AnswerLemmas.{Serves-Leaves}
 use Rattle.version_list.proofs.step.add_marker.Goals as goal
 

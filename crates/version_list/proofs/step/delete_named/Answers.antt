@@ -1,5 +1,4 @@
 use Rattle.std.proofs.Common.{rules}
-use Rattle.version_list.specs.Step.{RemovesVersion}
 use Rattle.version_list.proofs.AnswerLemmas.{Serves-Leaves}
 use Rattle.version_list.proofs.step.delete_named.Goals as goal
 
