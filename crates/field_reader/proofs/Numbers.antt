@@ -1,12 +1,12 @@
 -- The spellings of single fields, numbers and short texts.
-use Rattle.std.proofs.Common.{◌≡◌, ℕ, zero, suc, ◌+◌, ◌%◌, ◌^◌, ◌<◌, ◌≤◌, Bool, true, false, cond, ltb, List, [], ◌∷◌, ◌++◌, length, take, drop, Ok, Err, refl, sym, ap, subst, ◌∙◌, arith, inl, inr}
-use Rattle.std.specs.Int.{Width, w8, w16, w32, w64, byte_len, from_be_bytes, to_be_bytes, byte_at, bytes_high_first}
-use Rattle.std.proofs.lemmas.Bool.{cases_lt, ltb-false, le-ltb}
-use Rattle.std.proofs.lemmas.List.{append-nil, take_at, drop_at, take-append-drop, length-append, length-take, get_or-drop, get_or-take, get_or_past}
+use Rattle.std.proofs.Common.{◌≡◌, ℕ, ◌+◌, ◌%◌, ◌^◌, ◌<◌, ◌≤◌, Bool, true, false, cond, ltb, List, [], ◌∷◌, ◌++◌, length, take, drop, Ok, Err, refl, sym, ap, subst, ◌∙◌, arith}
+use Rattle.std.specs.Int.{Width, w8, w16, w32, w64, byte_len, from_be_bytes, to_be_bytes}
+use Rattle.std.proofs.lemmas.Bool.{ltb-false, le-ltb}
+use Rattle.std.proofs.lemmas.List.{append-nil, take_at, drop_at, take-append-drop, length-append, length-take}
 use Rattle.std.proofs.lemmas.Nat.{be_bytes_2, be_bytes_4, be_bytes_8, from_be_bytes-to_be_bytes_2, from_be_bytes-to_be_bytes_4, from_be_bytes-to_be_bytes_8}
 use Rattle.field_reader.specs.Format.{Spot, Found, done, field, number, short_text}
 use Rattle.field_reader.specs.Spelling.{IsBytes, number_bytes, short_text_bytes}
-use Rattle.field_reader.proofs.Parts.{IsBytes-drop, IsBytes-take, spot, Spans, IsSpelled, Then, then_spelled, Done, done_spelled, told_spelled}
+use Rattle.field_reader.proofs.Parts.{IsBytes-drop, spot, Spans, IsSpelled, Then, then_spelled, Done, done_spelled, told_spelled}
 
 -- so many bytes, as they are
 pub record Plain (size : ℕ) (value text : List ℕ) : Type 0 where
@@ -105,7 +105,7 @@ number_spelled w limit wide =
     let into : (n : ℕ) (text : List ℕ) → IsBytes text → Then First Rest n text → Numbered w limit n text = λ n text fits t.
     let bytes : text ≡ t.first = t.whole ∙ ap (λ (x : List ℕ). t.front ++ x) t.is_rest.nothing ∙ append-nil t.front ∙ t.is_first.is in
     let first_fits : IsBytes t.first = subst (λ (x : List ℕ). IsBytes x) bytes fits in
-      let back : to_be_bytes w (from_be_bytes w t.first) ≡ t.first = wide.back t.first t.is_first.sized first_fits in
+    let back : to_be_bytes w (from_be_bytes w t.first) ≡ t.first = wide.back t.first t.is_first.sized first_fits in
     record {
       is = bytes ∙ sym back ∙ ap (λ (x : ℕ). to_be_bytes w x) (sym t.is_rest.is);
       below = subst (λ (x : ℕ). x < limit) (sym t.is_rest.is) (wide.below t.first first_fits);

@@ -1,5 +1,5 @@
 -- That a format takes spellings alone, and how this follows for a format from its parts.
-use Rattle.std.proofs.Common.{◌≡◌, ℕ, ◌+◌, ◌<◌, Bool, true, false, cond, List, [], ◌∷◌, ◌++◌, length, get_or, take, drop, Result, Ok, Err, refl, sym, ap, subst, ◌∙◌, append_assoc, arith, inl, inr}
+use Rattle.std.proofs.Common.{◌≡◌, ℕ, ◌+◌, Bool, true, false, cond, List, [], ◌++◌, length, take, drop, Ok, Err, refl, sym, ap, subst, ◌∙◌, append_assoc, arith, inl, inr}
 use Rattle.std.proofs.lemmas.List.{take_at, drop_at, length-append, length-take, get_or-drop, get_or-take, get_or_past}
 use Rattle.std.proofs.lemmas.Bool.{cases_lt}
 use Rattle.field_reader.specs.Format.{Spot, Found, Format, and_then, ◌>>=◌, done, kept, with_rule}
@@ -140,7 +140,7 @@ pub told_spelled : {A : Type 0} (part : Format A) (Old New : A → List ℕ → 
     → ((a : A) (text : List ℕ) → New a text → Old a text) → IsSpelled part Old → IsSpelled part New
 told_spelled part Old New into back one = record {
   takes = λ from value to bytes e.
-    let a = one.takes from value to bytes e in
-    record { text = a.text; spells = into value a.text (IsBytes-front a.text to.left from.left a.parts bytes) a.spells; parts = a.parts; place = a.place; bytes = a.bytes };
+      let a = one.takes from value to bytes e in
+      record { text = a.text; spells = into value a.text (IsBytes-front a.text to.left from.left a.parts bytes) a.spells; parts = a.parts; place = a.place; bytes = a.bytes };
   again = λ value text rest at s. one.again value text rest at (back value text s);
 }

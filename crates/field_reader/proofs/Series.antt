@@ -91,9 +91,9 @@ pub listed_spelled : {A : Type 0} (part : List A → Format A) (Keeps : List A �
     → (count : ℕ) (before : List A) → IsSpelled (series count part before) (Listed Keeps bytes count before)
 listed_spelled part Keeps bytes one count before =
     told_spelled (series count part before) (Counted (λ before. Kept (Keeps before) bytes) count before) (Listed Keeps bytes count before)
-      (λ values text fits c. let a = each_all Keeps bytes before values text c.each in record { counted = c.counted; each = a.0; is = a.1 })
-      (λ values text l. record { counted = l.counted; each = all_each Keeps bytes before values text l.each l.is })
-      (series_spelled part (λ before. Kept (Keeps before) bytes) one count before)
+    (λ values text fits c. let a = each_all Keeps bytes before values text c.each in record { counted = c.counted; each = a.0; is = a.1 })
+    (λ values text l. record { counted = l.counted; each = all_each Keeps bytes before values text l.each l.is })
+    (series_spelled part (λ before. Kept (Keeps before) bytes) one count before)
 
 -- ---- a loop
 

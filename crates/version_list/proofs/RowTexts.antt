@@ -1,6 +1,6 @@
 -- The texts that spell a version and an upload.
 use Rattle.std.proofs.Common.{◌≡◌, ℕ, ◌^◌, ◌<◌, ◌≤◌, Bool, true, false, List, [], length, Option, Some, None, refl, sym, ap, subst, ◌∙◌, arith}
-use Rattle.std.specs.Prelude.{◌&&◌, ◌||◌, not, ◌==◌}
+use Rattle.std.specs.Prelude.{◌==◌}
 use Rattle.std.specs.Bool.{MatchBool}
 use Rattle.std.specs.Int.{w8, w64}
 use Rattle.std.proofs.lemmas.Bool.{eqb-true, ltb-true}
@@ -11,7 +11,7 @@ use Rattle.field_reader.proofs.Parts.{IsSpelled, Then, then_spelled, then_joined
 use Rattle.field_reader.proofs.Numbers.{Plain, field_spelled, Numbered, u8_spelled, u64_spelled, Short, short_text_spelled}
 use Rattle.field_reader.proofs.Series.{Kept}
 use Rattle.version_list.specs.Rows.{ObjectRow, VersionRow, UploadRow}
-use Rattle.version_list.specs.Layout.{is_id, is_no_id, is_moment, is_class, object, object_of_class, version, upload}
+use Rattle.version_list.specs.Layout.{is_moment, is_class, object, object_of_class, name_rule, id_rule, version, upload}
 use Rattle.version_list.specs.Spelling.{class_of, object_bytes, version_bytes, upload_bytes}
 use Rattle.version_list.proofs.ObjectText.{IsObjectRow, ObjectText, object_spelled}
 
@@ -19,10 +19,6 @@ use Rattle.version_list.proofs.ObjectText.{IsObjectRow, ObjectText, object_spell
 abbrev pub IsObjectOption : Option ObjectRow → Type 0
 IsObjectOption None = Unit {0}
 IsObjectOption (Some o) = IsObjectRow o
-
--- a version's name: no id or an id, and not used
-abbrev pub name_rule : (List ℕ → Bool) → List ℕ → Bool
-name_rule is_used id = (is_no_id id || is_id id) && not (is_used id)
 
 -- a version that the format takes
 pub record IsVersionRow (is_used : List ℕ → Bool) (v : VersionRow) : Type 0 where
@@ -177,13 +173,10 @@ version_spelled is_used = told_spelled (version is_used) (t1 is_used) (Kept (IsV
 -- an upload that the format takes
 pub record IsUploadRow (is_used : List ℕ → Bool) (u : UploadRow) : Type 0 where
   pub id_sized : length u.id ≡ 16
-  pub id_kept : (is_id u.id && not (is_used u.id)) ≡ true
+  pub id_kept : id_rule is_used u.id ≡ true
   pub id_bytes : IsBytes u.id
   pub opened_kept : u.opened < 253402300800
   pub kind_short : length u.kind ≤ 255
-
-abbrev id_rule : (List ℕ → Bool) → List ℕ → Bool
-id_rule is_used id = is_id id && not (is_used id)
 
 abbrev upload_made : List ℕ → ℕ → List ℕ → UploadRow
 upload_made id opened kind = record { id = id; opened = opened; kind = kind }

@@ -27,7 +27,8 @@ SpellingsHaveNoFault = (state : KeyState) → IsCanonical state → fault_at key
 
 -- A content with no fault spells a canonical state.
 abbrev pub FaultlessIsSpelled : Type 0
-FaultlessIsSpelled = (content : List ℕ) → IsBytes content → fault_at key_state content ≡ None → (state : KeyState) × IsCanonical state × (content ≡ spelling state)
+FaultlessIsSpelled = (content : List ℕ) → IsBytes content → fault_at key_state content ≡ None
+    → (state : KeyState) × IsCanonical state × (content ≡ spelling state)
 
 -- Two canonical states with one spelling are the same.
 abbrev pub SpellingIsInjective : Type 0

@@ -9,7 +9,8 @@ use Rattle.version_list.specs.Rows.{ObjectRow, VersionRow, UploadRow, StateRows}
 
 -- whether two words are those of an id: version 8, variant 10, a slot below 64, and a term and a sequence number from 1
 abbrev pub are_id_words : ℕ → ℕ → Bool
-are_id_words high low = high / 2 ^ 12 % 2 ^ 4 == 8 && low / 2 ^ 62 == 2 && nat_lt (high % 2 ^ 12) 64 && nat_lt 0 (high / 2 ^ 16) && nat_lt 0 (low % 2 ^ 62)
+are_id_words high low =
+    high / 2 ^ 12 % 2 ^ 4 == 8 && low / 2 ^ 62 == 2 && nat_lt (high % 2 ^ 12) 64 && nat_lt 0 (high / 2 ^ 16) && nat_lt 0 (low % 2 ^ 62)
 
 -- whether 16 bytes are an id
 unfoldable pub is_id : List ℕ → Bool
@@ -48,10 +49,18 @@ object =
 abbrev pub object_of_class : ℕ → Format (Option ObjectRow)
 object_of_class class = if class == 0 then done None else object
 
+-- a version's name: 16 zeros for `null`, or an id, and not used yet
+abbrev pub name_rule : (List ℕ → Bool) → List ℕ → Bool
+name_rule is_used bytes = (is_no_id bytes || is_id bytes) && not (is_used bytes)
+
+-- an upload's id, not used yet
+abbrev pub id_rule : (List ℕ → Bool) → List ℕ → Bool
+id_rule is_used bytes = is_id bytes && not (is_used bytes)
+
 -- a version whose name is not used yet
 unfoldable pub version : (List ℕ → Bool) → Format VersionRow
 version is_used =
-    with_rule (λ id. (is_no_id id || is_id id) && not (is_used id)) (field 16) >>= λ id.
+    with_rule (name_rule is_used) (field 16) >>= λ id.
     with_rule is_class (number w8) >>= λ class.
     with_rule is_moment (number w64) >>= λ modified.
     object_of_class class >>= λ object.
@@ -60,7 +69,7 @@ version is_used =
 -- an upload whose id is not used yet
 unfoldable pub upload : (List ℕ → Bool) → Format UploadRow
 upload is_used =
-    with_rule (λ id. is_id id && not (is_used id)) (field 16) >>= λ id.
+    with_rule (id_rule is_used) (field 16) >>= λ id.
     with_rule is_moment (number w64) >>= λ opened.
     short_text >>= λ kind.
     done (record { id = id; opened = opened; kind = kind })

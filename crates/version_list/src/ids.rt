@@ -1,15 +1,13 @@
 //! Ids and names as a content holds them: 16 bytes.
 
-ghost use Rattle.std.specs.Prelude.{◌≡◌, List, ℕ, Bool, true, false, not, ◌||◌, ◌&&◌, MatchResult, OnOk, IfOk};
+ghost use Rattle.std.specs.Prelude.{◌≡◌, ◌||◌, IfOk};
 ghost use Rattle.std.specs.Bool.{OnTrue};
-ghost use Rattle.std.specs.Str.{bytes_eq};
 ghost use Rattle.field_reader.specs.Format.{field, with_rule};
 ghost use Rattle.field_reader.specs.Reading.{Gives};
-ghost use Rattle.field_reader.specs.declared.fault.ReadFault.TheVariants.{At};
 ghost use Rattle.version_list.specs.Rows.{no_id, name_field, upload_field};
 ghost use Rattle.stamp_id.specs.VersionId.{id_bytes};
-ghost use Rattle.version_list.specs.Layout.{is_id, is_no_id, upload_rule};
-ghost use Rattle.version_list.specs.Known.{is_known};
+ghost use Rattle.version_list.specs.Layout.{is_id, is_no_id, upload_rule, name_rule, id_rule};
+ghost use Rattle.version_list.specs.Known.{ReadsBytes, is_known, AddsName};
 
 use crate::names::Names;
 use call_types::VersionName;
@@ -34,7 +32,7 @@ fn is_no_id(bytes: &[u8; 16]) -> bool
 
 /// The id with these bytes, which start at `start`.
 fn id_of(bytes: [u8; 16], start: u64) -> Result<VersionId, ReadFault>
-    ensures { MatchResult result (λ id. (is_id bytes ≡ true) × (bytes ≡ id_bytes id)) (λ e. (is_id bytes ≡ false) × (e ≡ At start)) }
+    ensures { ReadsBytes id_bytes (is_id bytes) bytes start result }
 {
     match VersionId::from_bytes(bytes) {
         Ok(id) => Ok(id),
@@ -44,7 +42,7 @@ fn id_of(bytes: [u8; 16], start: u64) -> Result<VersionId, ReadFault>
 
 /// The name with these bytes, which start at `start`.
 fn name_of(bytes: [u8; 16], start: u64) -> Result<VersionName, ReadFault>
-    ensures { MatchResult result (λ name. ((is_no_id bytes || is_id bytes) ≡ true) × (bytes ≡ name_field name)) (λ e. ((is_no_id bytes || is_id bytes) ≡ false) × (e ≡ At start)) }
+    ensures { ReadsBytes name_field (is_no_id bytes || is_id bytes) bytes start result }
 {
     if is_no_id(&bytes) {
         return Ok(VersionName::Null);
@@ -76,9 +74,8 @@ pub fn take_upload_id(fields: &mut Fields, parts: u16) -> Result<Option<VersionI
 
 /// Takes the name of a version, which must not be known yet.
 pub fn take_name(fields: &mut Fields, names: &mut Names) -> Result<VersionName, ReadFault>
-    ensures gives { Gives name_field result fields.new
-        (with_rule (λ id. (is_no_id id || is_id id) && not (is_known names.old id)) (field 16) fields.old) }
-    ensures known { IfOk result (λ name. (bytes : List ℕ) → is_known names.new bytes ≡ (bytes_eq (name_field name) bytes || is_known names.old bytes)) }
+    ensures gives { Gives name_field result fields.new (with_rule (name_rule (is_known names.old)) (field 16) fields.old) }
+    ensures known { IfOk result (λ name. AddsName names.old names.new (name_field name)) }
 {
     let start = fields.at();
     let bytes = fields.take_bytes()?;
@@ -89,8 +86,8 @@ pub fn take_name(fields: &mut Fields, names: &mut Names) -> Result<VersionName, 
 
 /// Takes the id of an upload, which must not be known yet.
 pub fn take_new_id(fields: &mut Fields, names: &mut Names) -> Result<VersionId, ReadFault>
-    ensures gives { Gives id_bytes result fields.new (with_rule (λ id. is_id id && not (is_known names.old id)) (field 16) fields.old) }
-    ensures known { IfOk result (λ id. (bytes : List ℕ) → is_known names.new bytes ≡ (bytes_eq (id_bytes id) bytes || is_known names.old bytes)) }
+    ensures gives { Gives id_bytes result fields.new (with_rule (id_rule (is_known names.old)) (field 16) fields.old) }
+    ensures known { IfOk result (λ id. AddsName names.old names.new (id_bytes id)) }
 {
     let start = fields.at();
     let bytes = fields.take_bytes()?;

@@ -1,7 +1,6 @@
 //! The names of versions and uploads that were read so far.
 
-ghost use Rattle.std.specs.Prelude.{◌≡◌, List, ℕ, Bool, false, not, ◌||◌, OnOk, IfOk};
-ghost use Rattle.std.specs.Str.{bytes_eq};
+ghost use Rattle.std.specs.Prelude.{◌≡◌, List, ℕ, false, not, OnOk, IfOk};
 
 use std::alloc::{AllocError, Global};
 use std::collections::BTreeSet;
@@ -13,7 +12,7 @@ pub struct Names {
 }
 
 impl Names {
-    ghost use Rattle.version_list.specs.Known.{is_known};
+    ghost use Rattle.version_list.specs.Known.{is_known, AddsName};
 
     /// No name.
     #[tactic(auto, unfolding(crate::specs::Known::is_known))]
@@ -29,7 +28,7 @@ impl Names {
     #[tactic(auto, unfolding(crate::specs::Known::is_known))]
     pub fn add(&mut self, name: [u8; 16]) -> Result<bool, AllocError>
         ensures new { IfOk result (λ new. new ≡ not (is_known self.old name)) }
-        ensures known { OnOk result ((bytes : List ℕ) → is_known self.new bytes ≡ (bytes_eq name bytes || is_known self.old bytes)) }
+        ensures known { OnOk result (AddsName self.old self.new name) }
     {
         Ok(self.known.insert(name)?)
     }

@@ -1,13 +1,12 @@
 //! States from bytes.
 
-ghost use Rattle.std.specs.Prelude.{◌≡◌, List, ℕ, false, ◌||◌, map, IfOk};
-ghost use Rattle.std.specs.Str.{bytes_eq};
+ghost use Rattle.std.specs.Prelude.{◌≡◌, List, ℕ, false, map, IfOk};
 ghost use Rattle.std.specs.Int.{w8, w32, w64};
 ghost use Rattle.field_reader.specs.Format.{number, short_text, with_rule, value_of, fault_at};
 ghost use Rattle.field_reader.specs.Reading.{Gives, GivesWhole};
 ghost use Rattle.version_list.specs.Rows.{object_row, version_row, upload_row, rows_of};
 ghost use Rattle.version_list.specs.Layout.{is_moment, is_class, object, object_of_class, version, version_names, versions, upload, uploads, is_among, is_version_count, is_upload_count, long_state, key_state};
-ghost use Rattle.version_list.specs.Known.{is_known};
+ghost use Rattle.version_list.specs.Known.{is_known, AddsName};
 ghost use Rattle.version_list.specs.State.{IsCanonical};
 ghost use Rattle.version_list.specs.Spelling.{spelling};
 ghost use Rattle.version_list.specs.Laws.{IsReadAs, TellsFault, SpellingsHaveNoFault, FaultlessIsSpelled, SpellingIsInjective};
@@ -86,7 +85,7 @@ fn take_what(alloc: Global, fields: &mut Fields, class: u8) -> Result<What, Read
 #[tactic(auto, unfolding(crate::specs::Layout::version))]
 fn take_version(alloc: Global, fields: &mut Fields, names: &mut Names) -> Result<Version, ReadFault>
     ensures gives { Gives version_row result fields.new (version (is_known names.old) fields.old) }
-    ensures known { IfOk result (λ v. (bytes : List ℕ) → is_known names.new bytes ≡ (bytes_eq (version_row v).id bytes || is_known names.old bytes)) }
+    ensures known { IfOk result (λ v. AddsName names.old names.new (version_row v).id) }
 {
     let id = take_name(fields, names)?;
     let class = take_class(fields)?;
@@ -99,7 +98,7 @@ fn take_version(alloc: Global, fields: &mut Fields, names: &mut Names) -> Result
 #[tactic(auto, unfolding(crate::specs::Layout::upload))]
 fn take_upload(alloc: Global, fields: &mut Fields, names: &mut Names) -> Result<Upload, ReadFault>
     ensures gives { Gives upload_row result fields.new (upload (is_known names.old) fields.old) }
-    ensures known { IfOk result (λ u. (bytes : List ℕ) → is_known names.new bytes ≡ (bytes_eq (upload_row u).id bytes || is_known names.old bytes)) }
+    ensures known { IfOk result (λ u. AddsName names.old names.new (upload_row u).id) }
 {
     let id = take_new_id(fields, names)?;
     let opened = take_moment(fields)?;
@@ -133,7 +132,8 @@ fn take_uploads(
     names: &mut Names,
     count: u32,
 ) -> Result<Vec<Upload>, ReadFault>
-    ensures { Gives (λ us. map upload_row us.items) result fields.new (uploads (is_known names.old) count fields.old) }
+    ensures { Gives (λ us. map upload_row us.items) result fields.new
+        (uploads (is_known names.old) count fields.old) }
 {
     let mut uploads = Vec::new(alloc);
     for _ in 0..count {

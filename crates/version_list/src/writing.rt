@@ -115,7 +115,8 @@ fn put_uploads(out: &mut Vec<u8>, uploads: &[Upload]) -> Result<(), AllocError>
 /// The spelling of a state with a version or an upload. The buffer is reserved at once.
 fn write_long(alloc: Global, state: &KeyState) -> Result<Vec<u8>, NoMemory>
     requires { IsCanonical state.now }
-    ensures { IfOk result (λ content. content.items ≡ long_form (rows_of state.now).versions (rows_of state.now).uploads) }
+    ensures { IfOk result (λ content.
+        content.items ≡ long_form (rows_of state.now).versions (rows_of state.now).uploads) }
 {
     let mut out = Vec::with_capacity(alloc, state_size(state))?;
     put_u32(&mut out, state.versions.len() as u32)?;
