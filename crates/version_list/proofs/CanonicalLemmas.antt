@@ -1,5 +1,5 @@
 -- A step leaves a canonical state.
-use Rattle.std.proofs.Common.{◌≡◌, ◌≢◌, ◌+◌, ◌<◌, ◌||◌, List, [], ◌∷◌, ◌++◌, length, map, Bool, true, false, not, Some, None, refl, sym, ap, ◌∙◌, subst, arith, length-append, append_assoc}
+use Rattle.std.proofs.Common.{◌≡◌, ◌≢◌, ◌<◌, ◌||◌, List, [], ◌∷◌, ◌++◌, length, map, Bool, true, false, not, Some, None, refl, sym, ap, ◌∙◌, subst, arith, length-append, append_assoc}
 use Rattle.std.proofs.lemmas.List.{map-append}
 use Rattle.std.specs.List.{AllByRecursion, list_any}
 use Rattle.stamp_id.specs.declared.version.VersionId.{VersionId}

@@ -1,5 +1,5 @@
 -- Lists of which some items are left out.
-use Rattle.std.proofs.Common.{◌≡◌, ◌≢◌, ◌+◌, ◌≤◌, List, [], ◌∷◌, ◌++◌, length, map, filter, Bool, true, false, refl, sym, arith}
+use Rattle.std.proofs.Common.{◌≡◌, ◌≢◌, ◌≤◌, List, [], ◌∷◌, ◌++◌, length, map, filter, Bool, true, false, refl, sym, arith}
 use Rattle.std.specs.List.{AllByRecursion}
 use Rattle.version_list.specs.State.{AreDistinct}
 

@@ -1,5 +1,5 @@
 -- Which versions and uploads of a key a name is about.
-use Rattle.std.specs.Prelude.{Bool, true, false, ◌&&◌, ◌||◌, not, List, Option, Some, None, filter, nat_eq}
+use Rattle.std.specs.Prelude.{◌≡◌, ◌↔◌, Bool, true, false, ◌&&◌, ◌||◌, not, List, Option, Some, None, filter, nat_eq}
 use Rattle.std.specs.List.{list_any}
 use Rattle.stamp_id.specs.declared.version.VersionId.{VersionId}
 use Rattle.call_types.specs.declared.names.VersionName.{VersionName}
@@ -20,6 +20,13 @@ same_name Null Null = true
 same_name Null (Id b) = false
 same_name (Id a) Null = false
 same_name (Id a) (Id b) = same_id a b
+
+-- the tests are those of equality
+abbrev pub SameIdIsEquality : Type 0
+SameIdIsEquality = (a b : VersionId) → (same_id a b ≡ true) ↔ (a ≡ b)
+
+abbrev pub SameNameIsEquality : Type 0
+SameNameIsEquality = (a b : VersionName) → (same_name a b ≡ true) ↔ (a ≡ b)
 
 -- whether a version has this name
 abbrev pub has_name : VersionName → Version → Bool

@@ -12,6 +12,7 @@ mod edit;
 mod gone;
 mod ids;
 mod names;
+mod naming;
 mod outcome;
 #[cfg(test)]
 mod plain;
@@ -24,6 +25,7 @@ mod step;
 mod uploads;
 mod writing;
 
+pub use naming::{has_id, naming_laws};
 pub use outcome::{ActFault, Applied};
 pub use reading::{read, state_laws};
 pub use reads::find;

@@ -1,6 +1,7 @@
 //! Changes of a list of open uploads.
 
 ghost use Rattle.std.specs.Prelude.{◌≡◌, [], ◌∷◌, ◌++◌, find, IfOk};
+ghost use Rattle.std.specs.List.{list_any};
 ghost use Rattle.std.specs.Option.{option_copied};
 ghost use Rattle.version_list.specs.Naming.{is_upload, still_open};
 
@@ -40,4 +41,11 @@ pub fn with_upload(alloc: Global, uploads: &[Upload], opened: Upload) -> Result<
     }
     list.push(opened)?;
     Ok(Uploads::from_vec(list))
+}
+
+/// Whether an upload has this id.
+pub fn any_upload(uploads: &[Upload], id: VersionId) -> bool
+    ensures { result ≡ list_any (is_upload id) uploads.now }
+{
+    uploads.iter().any(|upload| upload.id == id)
 }

@@ -1,5 +1,4 @@
-use Rattle.std.proofs.Common.{false, sym, ◌∙◌, arith}
-use Rattle.version_list.specs.Naming.{is_named}
+use Rattle.std.proofs.Common.{sym, ◌∙◌, arith}
 use Rattle.version_list.proofs.KeptLemmas.{IsFrontAgain-unchanged, unchanged-IsFrontAgain}
 use Rattle.version_list.proofs.edit.is_front_again.Goals as goal
 

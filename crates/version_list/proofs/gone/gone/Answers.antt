@@ -1,5 +1,4 @@
 use Rattle.std.proofs.Common.{ap, sym, ◌∙◌}
-use Rattle.version_list.specs.Naming.{is_named}
 use Rattle.version_list.proofs.GoneLemmas.{gone_more, gone_same}
 use Rattle.version_list.proofs.gone.gone.Goals as goal
 use Rattle.version_list.proofs.gone.gone.Goals.{then-is_named+in_ok-push_gone, else-is_named}

@@ -1,0 +1,8 @@
+use Rattle.version_list.proofs.NamingLemmas.{same_id_law, same_name_law}
+use Rattle.version_list.proofs.naming.naming_laws.Goals as goal
+
+pub returns-clause-ids : goal.returns-clause-ids
+returns-clause-ids c = same_id_law
+
+pub returns-clause-names : goal.returns-clause-names
+returns-clause-names c = same_name_law
