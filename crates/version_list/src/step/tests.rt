@@ -44,17 +44,22 @@ fn complete(seq: u64) -> Act {
     Act::Complete {
         upload: id(seq),
         parts: 2,
-        data_id: id(seq + 500_000),
+        data_id: id(seq.wrapping_add(500)),
         print: [8; 32],
         length: 9,
         md5: [6; 16],
     }
 }
 
-fn after(state: KeyState, applied: Applied) -> KeyState {
-    match applied.state {
+fn after(old: KeyState, applied: Applied) -> KeyState {
+    let Applied {
+        state,
+        done: _,
+        gone: _,
+    } = applied;
+    match state {
         Some(new) => new,
-        None => state,
+        None => old,
     }
 }
 
