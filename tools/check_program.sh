@@ -1,0 +1,54 @@
+#!/usr/bin/env bash
+# Runs the built program as a user does, and compares its replies, its exit status and what it says on standard
+# error. Its last line is 'N passed, M failed'; it ends with 1 where a case failed.
+set -uo pipefail
+
+top="$(cd "$(dirname "$(readlink -f "${BASH_SOURCE[0]}")")/.." && pwd)"
+work="$(mktemp -d)"
+trap 'rm -rf "$work"' EXIT
+passed=0
+failed=0
+
+# check NAME STATUS REPLIES ERRORS WORD..: standard input is the request
+check() {
+    local name="$1" status="$2" replies="$3" errors="$4" got
+    shift 4
+    (cd / && "$top/ostore" "$@") >"$work/replies" 2>"$work/errors"
+    got=$?
+    if [[ $got == "$status" ]] && cmp -s "$work/replies" <(printf '%b' "$replies") && cmp -s "$work/errors" <(printf '%b' "$errors"); then
+        passed=$((passed + 1))
+    else
+        failed=$((failed + 1))
+        echo "check_program: $name: status $got, wanted $status" >&2
+    fi
+}
+
+stored='HTTP/1.1 200 OK\r\nContent-Length: 0\r\n\r\n'
+found='HTTP/1.1 200 OK\r\nContent-Length: 5\r\n\r\nhello'
+missing='HTTP/1.1 404 Not Found\r\nContent-Length: 0\r\n\r\n'
+refused='HTTP/1.1 400 Bad Request\r\nContent-Length: 0\r\n\r\n'
+put='PUT /pic/a HTTP/1.1\r\nContent-Length: 5\r\n\r\nhello'
+get='GET /pic/a HTTP/1.1\r\n\r\n'
+
+"$top/ostore" pipe </dev/null || exit 1
+
+check 'a body is stored and found' 0 "$stored$found" '' pipe < <(printf '%b' "$put$get")
+check 'a key without a body' 0 "$missing" '' pipe < <(printf '%b' "$get")
+check 'no input' 0 '' '' pipe </dev/null
+check 'no words' 2 '' 'ostore: usage\n' </dev/null
+check 'a word too many' 2 '' 'ostore: usage\n' pipe now </dev/null
+check 'a word that is not UTF-8' 2 '' 'ostore: usage\n' $'pipe\xff' </dev/null
+check 'an input that fails' 4 '' 'ostore: read fault\n' pipe <"$work"
+check 'an input that is cut' 8 '' 'ostore: input cut\n' pipe < <(printf 'GET /pic')
+check 'a head of no request' 9 "$refused" 'ostore: closed\n' pipe < <(printf 'HEAD /pic/a HTTP/1.1\r\n\r\n')
+
+(printf '%b' "$put" | "$top/ostore" pipe >/dev/full) 2>"$work/errors"
+if [[ $? == 5 && "$(cat "$work/errors")" == 'ostore: write fault' ]]; then
+    passed=$((passed + 1))
+else
+    failed=$((failed + 1))
+    echo 'check_program: an output that is full' >&2
+fi
+
+echo "$passed passed, $failed failed"
+[[ $failed == 0 ]]
