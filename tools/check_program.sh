@@ -23,20 +23,30 @@ check() {
     fi
 }
 
-stored='HTTP/1.1 200 OK\r\nContent-Length: 0\r\n\r\n'
-found='HTTP/1.1 200 OK\r\nContent-Length: 5\r\n\r\nhello'
+tag='ETag: "5d41402abc4b2a76b9719d911017c592"\r\n'
+first='x-amz-version-id: 00000000-0001-801c-8000-000000000001\r\n'
+marker='x-amz-delete-marker: true\r\nx-amz-version-id: 00000000-0001-801c-8000-000000000003\r\n'
+stored="HTTP/1.1 200 OK\r\nContent-Length: 0\r\n$tag\r\n"
+found="HTTP/1.1 200 OK\r\nContent-Length: 5\r\n$tag\r\nhello"
 missing='HTTP/1.1 404 Not Found\r\nContent-Length: 0\r\n\r\n'
 refused='HTTP/1.1 400 Bad Request\r\nContent-Length: 0\r\n\r\n'
+named="HTTP/1.1 200 OK\r\nContent-Length: 0\r\n$tag$first\r\n"
+deleted="HTTP/1.1 204 No Content\r\n$marker\r\n"
+hidden="HTTP/1.1 404 Not Found\r\nContent-Length: 0\r\n$marker\r\n"
 put='PUT /pic/a HTTP/1.1\r\nContent-Length: 5\r\n\r\nhello'
 get='GET /pic/a HTTP/1.1\r\n\r\n'
+delete='DELETE /pic/a HTTP/1.1\r\n\r\n'
 
 "$top/ostore" pipe </dev/null || exit 1
 
 check 'a body is stored and found' 0 "$stored$found" '' pipe < <(printf '%b' "$put$get")
-check 'a key without a body' 0 "$missing" '' pipe < <(printf '%b' "$get")
+check 'a bucket without versioning' 0 "$stored$found" '' pipe off < <(printf '%b' "$put$get")
+check 'a marker hides a version' 0 "$named$deleted$hidden" '' pipe on < <(printf '%b' "$put$delete$get")
+check 'a key without a version' 0 "$missing" '' pipe suspended < <(printf '%b' "$get")
 check 'no input' 0 '' '' pipe </dev/null
 check 'no words' 2 '' 'ostore: usage\n' </dev/null
-check 'a word too many' 2 '' 'ostore: usage\n' pipe now </dev/null
+check 'another mode' 2 '' 'ostore: usage\n' pipe now </dev/null
+check 'a word too many' 2 '' 'ostore: usage\n' pipe on on </dev/null
 check 'a word that is not UTF-8' 2 '' 'ostore: usage\n' $'pipe\xff' </dev/null
 check 'an input that fails' 4 '' 'ostore: read fault\n' pipe <"$work"
 check 'an input that is cut' 8 '' 'ostore: input cut\n' pipe < <(printf 'GET /pic')

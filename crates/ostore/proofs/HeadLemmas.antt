@@ -1,12 +1,14 @@
 -- A text splits in one way into a key and a rest that begins with no letter or digit.
-use Rattle.std.proofs.Common.{◌≡◌, ℕ, Bool, true, List, [], ◌∷◌, ◌++◌, length, take, drop, sym, ap, ◌∙◌, arith, append_assoc}
+use Rattle.std.proofs.Common.{◌≡◌, ℕ, Bool, true, List, [], ◌∷◌, ◌++◌, length, take, drop, codes, refl, sym, ap, ◌∙◌, arith, append_assoc}
 use Rattle.std.specs.Prelude.{Option, Some, None, IfNone}
 use Rattle.std.specs.List.{AllPass, prefix_len}
 use Rattle.std.specs.Char.{is_ascii_alphanumeric}
 use Rattle.std.proofs.lemmas.List.{append_cancel_left}
 use Rattle.std.proofs.lemmas.List.Elements.{All-tail}
 use Rattle.std.proofs.Math.Seq.{take-append_seam, drop-append_seam}
-use Rattle.ostore.specs.Heads.{IsKey}
+use Rattle.call_types.specs.declared.names.Pick.{Pick}
+use Rattle.call_types.specs.declared.names.Pick.TheVariants.{Current, Null, Id}
+use Rattle.ostore.specs.Heads.{IsKey, query_of, blank_line}
 
 -- the run of passing bytes at the front of xs ++ ys is xs
 pub run_length : (p : ℕ → Bool) (xs ys : List ℕ) → AllPass p xs → prefix_len p ys ≡ 0 → prefix_len p (xs ++ ys) ≡ length xs
@@ -37,6 +39,16 @@ one_key bytes front key rest key' rest' is_key stops is is_key' stops' is' =
 -- what follows a, as one list
 pub regrouped : (a b c d : List ℕ) → a ++ b ++ c ++ d ≡ a ++ (b ++ c ++ d)
 regrouped a b c d = simp append_assoc
+
+-- what follows a and what follows the key c, as one list each
+pub named_parts : (a b c d e f : List ℕ) → a ++ b ++ c ++ d ++ e ++ f ≡ a ++ (b ++ c ++ (d ++ e ++ f))
+named_parts a b c d e f = simp append_assoc
+
+-- what may follow the key of a GET or a DELETE begins with no letter or digit
+pub stops-query_of : (pick : Pick) → prefix_len is_ascii_alphanumeric (query_of pick ++ codes " HTTP/1.1" ++ blank_line) ≡ 0
+stops-query_of Current = refl
+stops-query_of Null = refl
+stops-query_of (Id id) = refl
 
 -- what follows from a clause on a `None`
 pub IfNone-weaker : {X : Type 0} (r : Option X) {P Q : Type 0} → IfNone r P → (P → Q) → IfNone r Q

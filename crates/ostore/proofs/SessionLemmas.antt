@@ -5,9 +5,11 @@ use Rattle.io_base.specs.Count.{CountRose}
 use Rattle.drive_base.specs.Faults.{Rose}
 use Rattle.ostore.specs.declared.connection.ConnectionEnd.{ConnectionEnd}
 use Rattle.ostore.specs.declared.connection.ConnectionEnd.TheVariants.{Over, Closed, InputCut, ReadFault, WriteFault, NoMemory}
+use Rattle.call_types.specs.declared.names.Mode.{Mode}
 use Rattle.ostore.specs.Objects.{answer_text}
+use Rattle.ostore.specs.Replies.{bad_request}
 use Rattle.ostore.specs.Drives.{NoneFell}
-use Rattle.ostore.specs.Session.{Exchange, Moment, Run, bytes_of, texts_of, Wires, Moved, refusal, EndsSo}
+use Rattle.ostore.specs.Session.{Exchange, Moment, Run, bytes_of, texts_of, Wires, Moved, EndsSo}
 
 -- ---- counts
 
@@ -35,19 +37,20 @@ none_fell_later a b c first second = record {
 
 -- ---- runs
 
-pub run_append : (tells : List Bool) (first second : List Exchange) (a b c : Moment) → Run tells a first b → Run tells b second c → Run tells a (first ++ second) c
-run_append tells [] second a b c same run = subst (λ m. Run tells m second c) (sym same) run
-run_append tells (exchange ∷ exchanges) second a b c (mid, step, run) more = (mid, step, run_append tells exchanges second mid b c run more)
+pub run_append : (clock : Option ℕ) (mode : Mode) (tells : List Bool) (first second : List Exchange) (a b c : Moment)
+    → Run clock mode tells a first b → Run clock mode tells b second c → Run clock mode tells a (first ++ second) c
+run_append clock mode tells [] second a b c same run = subst (λ m. Run clock mode tells m second c) (sym same) run
+run_append clock mode tells (exchange ∷ exchanges) second a b c (mid, step, run) more = (mid, step, run_append clock mode tells exchanges second mid b c run more)
 
 pub bytes_of-append : (first second : List Exchange) → bytes_of (first ++ second) ≡ bytes_of first ++ bytes_of second
 bytes_of-append [] second = refl
 bytes_of-append (exchange ∷ exchanges) second =
     ap (λ l. exchange.bytes ++ l) (bytes_of-append exchanges second) ∙ sym (append_assoc exchange.bytes (bytes_of exchanges) (bytes_of second))
 
-pub texts_of-append : (first second : List Exchange) → texts_of (first ++ second) ≡ texts_of first ++ texts_of second
-texts_of-append [] second = refl
-texts_of-append (exchange ∷ exchanges) second =
-    ap (λ l. answer_text exchange.answer ++ l) (texts_of-append exchanges second) ∙ sym (append_assoc (answer_text exchange.answer) (texts_of exchanges) (texts_of second))
+pub texts_of-append : (mode : Mode) (first second : List Exchange) → texts_of mode (first ++ second) ≡ texts_of mode first ++ texts_of mode second
+texts_of-append mode [] second = refl
+texts_of-append mode (exchange ∷ exchanges) second =
+    ap (λ l. answer_text mode exchange.answer ++ l) (texts_of-append mode exchanges second) ∙ sym (append_assoc (answer_text mode exchange.answer) (texts_of mode exchanges) (texts_of mode second))
 
 -- ---- bytes from the source and to the sink
 
@@ -77,25 +80,25 @@ nothing_given (Some given) = ap Some (sym (append-nil given))
 
 -- ---- endings
 
-pub ends_later : (end : ConnectionEnd) (exchanges : List Exchange) (tail out : List ℕ) (a b c : Wires)
-    → a.read_faults ≤ b.read_faults → a.write_faults ≤ b.write_faults → EndsSo end exchanges tail out b c → EndsSo end exchanges tail out a c
-ends_later Over exchanges tail out a b c reads writes ends = ends
-ends_later InputCut exchanges tail out a b c reads writes ends = ends
-ends_later ReadFault exchanges tail out a b c reads writes ends = (ends.0, count_rose_later _ _ _ reads ends.1, ends.2)
-ends_later WriteFault exchanges tail out a b c reads writes ends = (count_rose_later _ _ _ writes ends.0, ends.1)
-ends_later NoMemory exchanges tail out a b c reads writes ends = ends
-ends_later Closed exchanges tail out a b c reads writes ends = ends
+pub ends_later : (mode : Mode) (end : ConnectionEnd) (exchanges : List Exchange) (tail out : List ℕ) (a b c : Wires)
+    → a.read_faults ≤ b.read_faults → a.write_faults ≤ b.write_faults → EndsSo mode end exchanges tail out b c → EndsSo mode end exchanges tail out a c
+ends_later mode Over exchanges tail out a b c reads writes ends = ends
+ends_later mode InputCut exchanges tail out a b c reads writes ends = ends
+ends_later mode ReadFault exchanges tail out a b c reads writes ends = (ends.0, count_rose_later _ _ _ reads ends.1, ends.2)
+ends_later mode WriteFault exchanges tail out a b c reads writes ends = (count_rose_later _ _ _ writes ends.0, ends.1)
+ends_later mode NoMemory exchanges tail out a b c reads writes ends = ends
+ends_later mode Closed exchanges tail out a b c reads writes ends = ends
 
 -- the same ending after more exchanges
-pub ends_after : (end : ConnectionEnd) (earlier exchanges : List Exchange) (tail out : List ℕ) (a b : Wires)
-    → EndsSo end exchanges tail out a b → EndsSo end (earlier ++ exchanges) tail (texts_of earlier ++ out) a b
-ends_after Over earlier exchanges tail out a b ends = (ends.0, ends.1, ap (λ l. texts_of earlier ++ l) ends.2 ∙ sym (texts_of-append earlier exchanges))
-ends_after InputCut earlier exchanges tail out a b ends = (ends.0, ends.1, ends.2, ap (λ l. texts_of earlier ++ l) ends.3 ∙ sym (texts_of-append earlier exchanges))
-ends_after ReadFault earlier exchanges tail out a b ends = (ends.0, ends.1, ap (λ l. texts_of earlier ++ l) ends.2 ∙ sym (texts_of-append earlier exchanges))
-ends_after NoMemory earlier exchanges tail out a b ends = (ends.0, ap (λ l. texts_of earlier ++ l) ends.1 ∙ sym (texts_of-append earlier exchanges))
-ends_after Closed earlier exchanges tail out a b ends =
-    (ends.0, ap (λ l. texts_of earlier ++ l) ends.1 ∙ sym (append_assoc (texts_of earlier) (texts_of exchanges) refusal) ∙ ap (λ l. l ++ refusal) (sym (texts_of-append earlier exchanges)))
-ends_after WriteFault earlier exchanges tail out a b (rose, inl cut) = (
+pub ends_after : (mode : Mode) (end : ConnectionEnd) (earlier exchanges : List Exchange) (tail out : List ℕ) (a b : Wires)
+    → EndsSo mode end exchanges tail out a b → EndsSo mode end (earlier ++ exchanges) tail (texts_of mode earlier ++ out) a b
+ends_after mode Over earlier exchanges tail out a b ends = (ends.0, ends.1, ap (λ l. texts_of mode earlier ++ l) ends.2 ∙ sym (texts_of-append mode earlier exchanges))
+ends_after mode InputCut earlier exchanges tail out a b ends = (ends.0, ends.1, ends.2, ap (λ l. texts_of mode earlier ++ l) ends.3 ∙ sym (texts_of-append mode earlier exchanges))
+ends_after mode ReadFault earlier exchanges tail out a b ends = (ends.0, ends.1, ap (λ l. texts_of mode earlier ++ l) ends.2 ∙ sym (texts_of-append mode earlier exchanges))
+ends_after mode NoMemory earlier exchanges tail out a b ends = (ends.0, ap (λ l. texts_of mode earlier ++ l) ends.1 ∙ sym (texts_of-append mode earlier exchanges))
+ends_after mode Closed earlier exchanges tail out a b ends =
+    (ends.0, ap (λ l. texts_of mode earlier ++ l) ends.1 ∙ sym (append_assoc (texts_of mode earlier) (texts_of mode exchanges) bad_request) ∙ ap (λ l. l ++ bad_request) (sym (texts_of-append mode earlier exchanges)))
+ends_after mode WriteFault earlier exchanges tail out a b (rose, inl cut) = (
   rose,
   inl (record {
     earlier = earlier ++ cut.earlier;
@@ -103,16 +106,16 @@ ends_after WriteFault earlier exchanges tail out a b (rose, inl cut) = (
     n = cut.n;
     are = ap (λ l. earlier ++ l) cut.are ∙ sym (append_assoc earlier cut.earlier (cut.last ∷ []));
     nothing = cut.nothing;
-    given = ap (λ l. texts_of earlier ++ l) cut.given ∙ sym (append_assoc (texts_of earlier) (texts_of cut.earlier) (take cut.n (answer_text cut.last.answer)))
-        ∙ ap (λ l. l ++ take cut.n (answer_text cut.last.answer)) (sym (texts_of-append earlier cut.earlier));
+    given = ap (λ l. texts_of mode earlier ++ l) cut.given ∙ sym (append_assoc (texts_of mode earlier) (texts_of mode cut.earlier) (take cut.n (answer_text mode cut.last.answer)))
+        ∙ ap (λ l. l ++ take cut.n (answer_text mode cut.last.answer)) (sym (texts_of-append mode earlier cut.earlier));
   }),
 )
-ends_after WriteFault earlier exchanges tail out a b (rose, inr cut) = (
+ends_after mode WriteFault earlier exchanges tail out a b (rose, inr cut) = (
   rose,
   inr (record {
     n = cut.n;
     refused = cut.refused;
-    given = ap (λ l. texts_of earlier ++ l) cut.given ∙ sym (append_assoc (texts_of earlier) (texts_of exchanges) (take cut.n refusal))
-        ∙ ap (λ l. l ++ take cut.n refusal) (sym (texts_of-append earlier exchanges));
+    given = ap (λ l. texts_of mode earlier ++ l) cut.given ∙ sym (append_assoc (texts_of mode earlier) (texts_of mode exchanges) (take cut.n bad_request))
+        ∙ ap (λ l. l ++ take cut.n bad_request) (sym (texts_of-append mode earlier exchanges));
   }),
 )

@@ -8,12 +8,15 @@ use Rattle.ostore.specs.declared.connection.Turn.{Turn}
 use Rattle.ostore.specs.declared.connection.Turn.TheVariants.{Answered, Ended}
 use Rattle.ostore.specs.declared.connection.ConnectionEnd.{ConnectionEnd}
 use Rattle.ostore.specs.declared.connection.ConnectionEnd.TheVariants.{Over, Closed, InputCut, ReadFault, WriteFault, NoMemory}
+use Rattle.call_types.specs.declared.names.Mode.{Mode}
 use Rattle.ostore.specs.Objects.{Objects, answer_text}
-use Rattle.ostore.specs.Drives.{AllTell, AtEach, SomeDrive, NoneFell, DriveCause, DrivesCause, Ready}
-use Rattle.ostore.specs.Session.{Exchange, Step, Wires, wires, Moved, EndsSo, Gives, GivesOrStarves, moment, TurnOver}
+use Rattle.ostore.specs.Slots.{Drawn}
+use Rattle.ostore.specs.Store.{Ready}
+use Rattle.ostore.specs.Drives.{AllTell, AtEach, SomeDrive, NoneFell, DriveCause, DrivesCause}
+use Rattle.ostore.specs.Session.{Exchange, Step, Wires, wires, Moved, EndsSo, Gives, moment, TurnOver, Agrees}
 use Rattle.ostore.proofs.SessionLemmas.{nothing_taken, ends_later, moved_later, none_fell_same}
 
-module _ {D : Type 0} (tell : D → Bool) (files : D → Files) (count : D → ℕ) where
+module _ {D : Type 0} (clock : Option ℕ) (mode : Mode) (tell : D → Bool) (files : D → Files) (count : D → ℕ) where
   -- ---- the drives as lists of what they tell and count
 
   first_of : (old : List D) (k : ℕ) → k < length old → D
@@ -69,22 +72,26 @@ module _ {D : Type 0} (tell : D → Bool) (files : D → Files) (count : D → �
   -- ---- turns
 
   -- a turn that began after more bytes of the request were read is a turn from before
-  pub deeper : (number : ℕ) (front more : List ℕ) (objects : Objects) (old new : List D) (before mid after : Wires) (turn : Turn)
-      → Moved more [] before mid → TurnOver tell files count number (front ++ more) objects old mid turn new after
-      → TurnOver tell files count number front objects old before turn new after
-  deeper number front more objects old new before mid after Answered first over = record {
+  pub deeper : (number : ℕ) (front more : List ℕ) (objects : Objects) (old new : List D) (before mid after : Wires) (turn : Turn) (counters : Drawn)
+      → Moved more [] before mid → TurnOver clock mode tell files count number (front ++ more) objects old mid turn new after counters
+      → TurnOver clock mode tell files count number front objects old before turn new after counters
+  deeper number front more objects old new before mid after Answered counters first over = record {
     objects_after = over.objects_after;
+    agrees = over.agrees;
+    room = over.room;
     ready = over.ready;
     turns = record {
       exchange = over.turns.exchange;
       step = over.turns.step;
       part = more ++ over.turns.part;
       is = over.turns.is ∙ append_assoc front more over.turns.part;
-      moved = moved_later more over.turns.part [] (answer_text over.turns.exchange.answer) before mid after first over.turns.moved;
+      moved = moved_later more over.turns.part [] (answer_text mode over.turns.exchange.answer) before mid after first over.turns.moved;
     };
   }
-  deeper number front more objects old new before mid after (Ended end) first over = record {
+  deeper number front more objects old new before mid after (Ended end) counters first over = record {
     objects_after = over.objects_after;
+    agrees = over.agrees;
+    room = over.room;
     ready = over.ready;
     turns = record {
       exchanges = over.turns.exchanges;
@@ -96,27 +103,30 @@ module _ {D : Type 0} (tell : D → Bool) (files : D → Files) (count : D → �
       rests = over.turns.rests;
       is = over.turns.is ∙ append_assoc front more over.turns.part;
       moved = moved_later more over.turns.part [] over.turns.out before mid after first over.turns.moved;
-      ends = ends_later end over.turns.exchanges over.turns.tail over.turns.out before mid after first.reads first.writes over.turns.ends;
+      ends = ends_later mode end over.turns.exchanges over.turns.tail over.turns.out before mid after first.reads first.writes over.turns.ends;
       few = over.turns.few;
     };
   }
 
   -- the connection ends, and the request has no answer
-  pub unanswered : (number : ℕ) (front part : List ℕ) (objects : Objects) (old new : List D) (before after : Wires) (end : ConnectionEnd)
-      → (AllTell (map tell old) → Ready files (number + 1) objects new) → NoneFell (map count old) (map count new)
-      → Moved part [] before after → EndsSo end [] (front ++ part) [] before after
-      → TurnOver tell files count number front objects old before (Ended end) new after
-  unanswered number front part objects old new before after end ready counts moved ends = record {
-    objects_after = objects;
+  pub unanswered : (number : ℕ) (front part : List ℕ) (objects later : Objects) (old new : List D) (before after : Wires) (end : ConnectionEnd) (counters : Drawn)
+      → later.states ≡ objects.states → Agrees counters later → ((slot : ℕ) → later.drawn slot ≤ number + number + 2)
+      → (AllTell (map tell old) → Ready files (number + 1) (number + number + 2) later new) → NoneFell (map count old) (map count new)
+      → Moved part [] before after → EndsSo mode end [] (front ++ part) [] before after
+      → TurnOver clock mode tell files count number front objects old before (Ended end) new after counters
+  unanswered number front part objects later old new before after end counters states agrees room ready counts moved ends = record {
+    objects_after = later;
+    agrees = agrees;
+    room = room;
     ready = ready;
     turns = record {
       exchanges = [];
       tail = front ++ part;
       part = part;
       out = [];
-      stop = moment tell files count objects old;
+      stop = moment clock mode tell files count objects old;
       run = refl;
-      rests = record { objects = refl; counts = counts };
+      rests = record { states = states; counts = counts };
       is = refl;
       moved = moved;
       ends = ends;
@@ -125,14 +135,17 @@ module _ {D : Type 0} (tell : D → Bool) (files : D → Files) (count : D → �
   }
 
   -- a request that was wholly read is answered, or its answer is cut short
-  pub answered : (number : ℕ) (objects after : Objects) (old new : List D) (exchange : Exchange) (turn : Turn)
-      (left : Option (List ℕ)) (given now : Option (List ℕ)) (reads writes more : ℕ)
-      → (AllTell (map tell old) → Ready files (number + 1) after new)
-      → Step (map tell old) (moment tell files count objects old) exchange (moment tell files count after new)
-      → Gives (answer_text exchange.answer) turn given now writes more
-      → TurnOver tell files count number exchange.bytes objects old (wires left given reads writes) turn new (wires left now reads more)
-  answered number objects after old new exchange Answered left given now reads writes more ready step (gave, low) = record {
-    objects_after = after;
+  pub answered : (number : ℕ) (objects later : Objects) (old new : List D) (exchange : Exchange) (turn : Turn)
+      (left given now : Option (List ℕ)) (reads writes more : ℕ) (counters : Drawn)
+      → Agrees counters later → ((slot : ℕ) → later.drawn slot ≤ number + number + 2)
+      → (AllTell (map tell old) → Ready files (number + 1) (number + number + 2) later new)
+      → Step clock mode (map tell old) (moment clock mode tell files count objects old) exchange (moment clock mode tell files count later new)
+      → Gives (answer_text mode exchange.answer) turn given now writes more
+      → TurnOver clock mode tell files count number exchange.bytes objects old (wires left given reads writes) turn new (wires left now reads more) counters
+  answered number objects later old new exchange Answered left given now reads writes more counters agrees room ready step (gave, low) = record {
+    objects_after = later;
+    agrees = agrees;
+    room = room;
     ready = ready;
     turns = record {
       exchange = exchange;
@@ -142,35 +155,27 @@ module _ {D : Type 0} (tell : D → Bool) (files : D → Files) (count : D → �
       moved = record { took = nothing_taken left; gave = gave; reads = omega arith; writes = low };
     };
   }
-  answered number objects after old new exchange (Ended WriteFault) left given now reads writes more ready step ((n, gave), rose, low) = record {
-    objects_after = after;
+  answered number objects later old new exchange (Ended WriteFault) left given now reads writes more counters agrees room ready step ((n, gave), rose, low) = record {
+    objects_after = later;
+    agrees = agrees;
+    room = room;
     ready = ready;
     turns = record {
       exchanges = exchange ∷ [];
       tail = [];
       part = [];
-      out = take n (answer_text exchange.answer);
-      stop = moment tell files count after new;
-      run = (moment tell files count after new, step, refl);
-      rests = record { objects = refl; counts = none_fell_same (map count new) };
+      out = take n (answer_text mode exchange.answer);
+      stop = moment clock mode tell files count later new;
+      run = (moment clock mode tell files count later new, step, refl);
+      rests = record { states = refl; counts = none_fell_same (map count new) };
       is = append-nil (exchange.bytes ++ []);
       moved = record { took = nothing_taken left; gave = gave; reads = omega arith; writes = low };
       ends = (rose, inl (record { earlier = []; last = exchange; n = n; are = refl; nothing = refl; given = refl }));
       few = omega arith;
     };
   }
-  answered number objects after old new exchange (Ended Over) left given now reads writes more ready step gives = absurd gives
-  answered number objects after old new exchange (Ended Closed) left given now reads writes more ready step gives = absurd gives
-  answered number objects after old new exchange (Ended InputCut) left given now reads writes more ready step gives = absurd gives
-  answered number objects after old new exchange (Ended ReadFault) left given now reads writes more ready step gives = absurd gives
-  answered number objects after old new exchange (Ended NoMemory) left given now reads writes more ready step gives = absurd gives
-
--- where memory was found, the answer is given as ever
-pub gives_or_starves : (text : List ℕ) (turn : Turn) (given now : Option (List ℕ)) (old new : ℕ) → Gives text turn given now old new → GivesOrStarves text turn given now old new
-gives_or_starves text Answered given now old new gives = gives
-gives_or_starves text (Ended WriteFault) given now old new gives = gives
-gives_or_starves text (Ended NoMemory) given now old new gives = absurd gives
-gives_or_starves text (Ended Over) given now old new gives = gives
-gives_or_starves text (Ended Closed) given now old new gives = gives
-gives_or_starves text (Ended InputCut) given now old new gives = gives
-gives_or_starves text (Ended ReadFault) given now old new gives = gives
+  answered number objects later old new exchange (Ended Over) left given now reads writes more counters agrees room ready step gives = absurd gives
+  answered number objects later old new exchange (Ended Closed) left given now reads writes more counters agrees room ready step gives = absurd gives
+  answered number objects later old new exchange (Ended InputCut) left given now reads writes more counters agrees room ready step gives = absurd gives
+  answered number objects later old new exchange (Ended ReadFault) left given now reads writes more counters agrees room ready step gives = absurd gives
+  answered number objects later old new exchange (Ended NoMemory) left given now reads writes more counters agrees room ready step gives = absurd gives

@@ -1,13 +1,9 @@
 -- What the four drives of the first path hold and count.
-use Rattle.std.specs.Prelude.{◌≡◌, ◌⊎◌, ◌<◌, ◌≤◌, ℕ, Bool, IsTrue, List, ◌++◌, length, codes, slice_index_or, bytes_eq, false, Option, Some, None, All, ⊤}
-use Rattle.std.specs.Option.{option_map}
+use Rattle.std.specs.Prelude.{◌≡◌, ◌⊎◌, ◌<◌, ◌≤◌, ℕ, Bool, IsTrue, List, ◌++◌, length, codes, slice_index_or, bytes_eq, false, Some, All}
 use Rattle.std.specs.Int.{w64, to_be_bytes}
 use Rattle.hex.specs.Hex.{encode_lower}
 use Rattle.drive_base.specs.Faults.{Rose}
 use Rattle.drive_base.specs.Files.{Files, with_name}
-use Rattle.ostore.specs.declared.files.Content.{Content}
-use Rattle.ostore.specs.declared.files.Content.TheVariants.{Whole, Missing, Refused, NoMemory}
-use Rattle.ostore.specs.Objects.{Objects}
 
 -- the name under which a key's body is kept
 abbrev pub name_of : List ℕ → List ℕ
@@ -61,29 +57,3 @@ DriveCause tells old new = Rose old new ⊎ (IsTrue tells → ⊥)
 -- a refusal's cause: the count of some drive rose, or not every drive tells what it holds
 abbrev pub DrivesCause : List Bool → List ℕ → List ℕ → Type 0
 DrivesCause tells old new = SomeRose old new ⊎ (AllTell tells → ⊥)
-
-module _ {D : Type 0} (files : D → Files) where
-  -- drive 0 keeps the map, and every drive keeps each acknowledged body
-  pub record Keeps (objects : Objects) (drives : List D) : Type 0 where
-    pub first : (d : D) (key : List ℕ) → (files (slice_index_or drives 0 d)).kept (name_of key) ≡ objects.bodies key
-    pub every : (key body : List ℕ) → objects.acknowledged key ≡ Some body → All (λ d. (files d).kept (name_of key) ≡ Some body) drives
-
-  -- what serving goes on from: the drives keep the map, a read gives what is kept, and the loose names from a number on are unused
-  pub record Ready (number : ℕ) (objects : Objects) (drives : List D) : Type 0 where
-    pub keeps : Keeps objects drives
-    pub shows : All (λ d. (files d).shown ≡ (files d).kept) drives
-    pub unused : (k : ℕ) → number ≤ k → k < 1000000 → All (λ d. (files d).loose (loose_name_of k) ≡ None) drives
-
--- the bytes read of a file whose drive said this length: all that is shown, or a refusal with its cause
-abbrev pub ReadsWhole : Bool → Option (List ℕ) → ℕ → Content → ℕ → ℕ → Type 0
-ReadsWhole tells shown n (Whole body) old new = (IsTrue tells → option_map length shown ≡ Some n → shown ≡ Some body.items) × (new ≡ old)
-ReadsWhole tells shown n Missing old new = ⊥
-ReadsWhole tells shown n Refused old new = Rose old new ⊎ (IsTrue tells → option_map length shown ≡ Some n → ⊥)
-ReadsWhole tells shown n NoMemory old new = ⊤
-
--- what drive 0 shows under the name while no drive fails (`calm`), or a refusal with its cause
-abbrev pub ReadsFirst : Bool → Option (List ℕ) → Content → Type 0 → Type 0 → Type 0
-ReadsFirst tells shown (Whole body) calm cause = (IsTrue tells → shown ≡ Some body.items) × calm
-ReadsFirst tells shown Missing calm cause = (IsTrue tells → shown ≡ None) × calm
-ReadsFirst tells shown Refused calm cause = cause
-ReadsFirst tells shown NoMemory calm cause = ⊤

@@ -1,7 +1,14 @@
+pub mod Commits
+pub mod Counters
 pub mod Drives
+pub mod Finding
 pub mod Heads
+pub mod KeyFiles
+pub mod Leaves
 pub mod Objects
 pub mod Program
 pub mod Reading
 pub mod Replies
 pub mod Session
+pub mod Slots
+pub mod Store

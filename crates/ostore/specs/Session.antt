@@ -1,5 +1,5 @@
 -- A connection: the requests that were read, the replies that were given, and how it ended.
-use Rattle.std.specs.Prelude.{map, Bool, ◌≡◌, ◌⊎◌, ◌+◌, ◌<◌, ◌≤◌, ℕ, List, [], ◌∷◌, ◌++◌, length, take, codes, Option}
+use Rattle.std.specs.Prelude.{⊤, map, Bool, ◌≡◌, ◌⊎◌, ◌+◌, ◌<◌, ◌≤◌, ℕ, List, [], ◌∷◌, ◌++◌, length, take, Option}
 use Rattle.std.specs.Io.KnownBytes.{prepend_known, append_known, IsAtEnd}
 use Rattle.drive_base.specs.Files.{Files}
 use Rattle.io_base.specs.Count.{CountRose}
@@ -8,9 +8,17 @@ use Rattle.ostore.specs.declared.connection.Turn.TheVariants.{Answered, Ended}
 use Rattle.ostore.specs.declared.connection.ConnectionEnd.{ConnectionEnd}
 use Rattle.ostore.specs.declared.connection.ConnectionEnd.TheVariants.{Over, Closed, InputCut, ReadFault, WriteFault, NoMemory}
 use Rattle.ostore.specs.Heads.{HasNoBlankLine, SpellsPut, IsRefusedHead}
-use Rattle.ostore.specs.Replies.{message}
-use Rattle.ostore.specs.Objects.{Request, Answer, unavailable, stored, found, missing, Asks, answer_text, Objects, Serves, Fits}
-use Rattle.ostore.specs.Drives.{AllTell, NoneFell, DrivesCause, Ready, Keeps}
+use Rattle.ostore.specs.Replies.{bad_request}
+use Rattle.sha2.specs.Sha256.{sha256}
+use Rattle.call_types.specs.declared.names.Mode.{Mode}
+use Rattle.call_types.specs.declared.version.What.{What}
+use Rattle.call_types.specs.declared.version.What.TheVariants.{Marker, Object}
+use Rattle.call_types.specs.declared.reply.Reply.{Reply}
+use Rattle.call_types.specs.declared.reply.Reply.TheVariants.{Found}
+use Rattle.ostore.specs.Objects.{Request, Answer, put, get, delete, replied, unavailable, Asks, answer_text, Objects, Serves}
+use Rattle.ostore.specs.Drives.{AllTell, NoneFell, DrivesCause}
+use Rattle.ostore.specs.Slots.{Drawn}
+use Rattle.ostore.specs.Store.{Keeps, Ready}
 
 -- a request with its bytes as they came, and its answer
 pub record Exchange : Type 0 where
@@ -18,35 +26,55 @@ pub record Exchange : Type 0 where
   pub bytes : List ℕ
   pub answer : Answer
 
--- the map and the drives' counts between two requests
+-- the objects and the drives' counts between two requests
 pub record Moment : Type 0 where
   pub objects : Objects
   pub counts : List ℕ
 
--- an answer other than 503 comes only where no drive's count rose, and 503 only where one did or a drive doesn't tell what it holds
-abbrev pub HasCause : List Bool → Answer → List ℕ → List ℕ → Type 0
-HasCause tells stored old new = new ≡ old
-HasCause tells (found body) old new = new ≡ old
-HasCause tells missing old new = new ≡ old
-HasCause tells unavailable old new = DrivesCause tells old new
+-- A read is answered only where no drive's count rose, and any request is answered 503 only where one did or a drive
+-- doesn't tell what it holds. After a change that was answered, the data that it took out is removed, and a drive may fail there.
+abbrev pub HasCause : List Bool → Request → Answer → List ℕ → List ℕ → Type 0
+HasCause tells (put key body) (replied reply told) old new = ⊤
+HasCause tells (get key pick) (replied reply told) old new = new ≡ old
+HasCause tells (delete key pick) (replied reply told) old new = ⊤
+HasCause tells (put key body) unavailable old new = DrivesCause tells old new
+HasCause tells (get key pick) unavailable old new = DrivesCause tells old new
+HasCause tells (delete key pick) unavailable old new = DrivesCause tells old new
 
--- one exchange: the bytes are the request's, and the answer is the map's, or 503 with its cause
-pub record Step (tells : List Bool) (old : Moment) (exchange : Exchange) (new : Moment) : Type 0 where
+-- the body has the version's print
+abbrev pub IsPrinted : What → List ℕ → Type 0
+IsPrinted Marker body = ⊥
+IsPrinted (Object data_id print size md5 parts upload kind) body = sha256 body ≡ print
+
+-- a reply that finds a version gives a body with its print, and any other gives no body
+abbrev pub FitsBody : Reply → List ℕ → Type 0
+FitsBody (Found version span id) body = IsPrinted version.what body
+FitsBody _ body = body ≡ []
+
+-- what is known of an answer whatever the drives tell
+abbrev pub Fits : Request → Answer → Type 0
+Fits (get key pick) (replied reply body) = FitsBody reply body
+Fits (put key body) (replied reply told) = told ≡ []
+Fits (delete key pick) (replied reply told) = told ≡ []
+Fits request unavailable = ⊤
+
+-- one exchange: the bytes are the request's, and the answer is the versioned objects', or 503 with its cause
+pub record Step (clock : Option ℕ) (mode : Mode) (tells : List Bool) (old : Moment) (exchange : Exchange) (new : Moment) : Type 0 where
   pub asks : Asks exchange.request exchange.bytes
   pub fits : Fits exchange.request exchange.answer
-  pub serves : AllTell tells → Serves old.objects exchange.request exchange.answer new.objects
-  pub cause : HasCause tells exchange.answer old.counts new.counts
+  pub serves : AllTell tells → Serves clock mode old.objects exchange.request exchange.answer new.objects
+  pub cause : HasCause tells exchange.request exchange.answer old.counts new.counts
   pub counts : NoneFell old.counts new.counts
 
--- nothing is served: the map stays, and no count falls
+-- nothing is answered: the keys' states stay, and no count falls
 pub record Rests (old new : Moment) : Type 0 where
-  pub objects : new.objects ≡ old.objects
+  pub states : new.objects.states ≡ old.objects.states
   pub counts : NoneFell old.counts new.counts
 
 -- exchanges, one after another
-abbrev pub Run : List Bool → Moment → List Exchange → Moment → Type 0
-Run tells old [] new = old ≡ new
-Run tells old (exchange ∷ exchanges) new = (mid : Moment) × Step tells old exchange mid × Run tells mid exchanges new
+abbrev pub Run : Option ℕ → Mode → List Bool → Moment → List Exchange → Moment → Type 0
+Run clock mode tells old [] new = old ≡ new
+Run clock mode tells old (exchange ∷ exchanges) new = (mid : Moment) × Step clock mode tells old exchange mid × Run clock mode tells mid exchanges new
 
 -- the bytes of the requests
 abbrev pub bytes_of : List Exchange → List ℕ
@@ -54,9 +82,9 @@ bytes_of [] = []
 bytes_of (exchange ∷ exchanges) = exchange.bytes ++ bytes_of exchanges
 
 -- the texts of the answers
-abbrev pub texts_of : List Exchange → List ℕ
-texts_of [] = []
-texts_of (exchange ∷ exchanges) = answer_text exchange.answer ++ texts_of exchanges
+abbrev pub texts_of : Mode → List Exchange → List ℕ
+texts_of mode [] = []
+texts_of mode (exchange ∷ exchanges) = answer_text mode exchange.answer ++ texts_of mode exchanges
 
 -- some of a head, perhaps nothing, and no end of it
 abbrev pub IsInHead : List ℕ → Type 0
@@ -97,78 +125,74 @@ pub record Moved (taken given : List ℕ) (old new : Wires) : Type 0 where
   pub reads : old.read_faults ≤ new.read_faults
   pub writes : old.write_faults ≤ new.write_faults
 
--- the text of the refusal of a head
-abbrev pub refusal : List ℕ
-refusal = message (codes "400 Bad Request") []
-
 -- the last answer was cut short
-pub record IsCutAnswer (exchanges : List Exchange) (tail out : List ℕ) : Type 0 where
+pub record IsCutAnswer (mode : Mode) (exchanges : List Exchange) (tail out : List ℕ) : Type 0 where
   pub earlier : List Exchange
   pub last : Exchange
   pub n : ℕ
   pub are : exchanges ≡ earlier ++ last ∷ []
   pub nothing : tail ≡ []
-  pub given : out ≡ texts_of earlier ++ take n (answer_text last.answer)
+  pub given : out ≡ texts_of mode earlier ++ take n (answer_text mode last.answer)
 
 -- the refusal of a head was cut short
-pub record IsCutRefusal (exchanges : List Exchange) (tail out : List ℕ) : Type 0 where
+pub record IsCutRefusal (mode : Mode) (exchanges : List Exchange) (tail out : List ℕ) : Type 0 where
   pub n : ℕ
   pub refused : IsRefusedHead tail
-  pub given : out ≡ texts_of exchanges ++ take n refusal
+  pub given : out ≡ texts_of mode exchanges ++ take n bad_request
 
 -- how a connection ends, after these exchanges: `tail` are the bytes read after them, `out` all that was given
-abbrev pub EndsSo : ConnectionEnd → List Exchange → List ℕ → List ℕ → Wires → Wires → Type 0
-EndsSo Over exchanges tail out old new = (tail ≡ []) × IsAtEnd new.left × (out ≡ texts_of exchanges)
-EndsSo InputCut exchanges tail out old new = (0 < length tail) × IsBegun tail × IsAtEnd new.left × (out ≡ texts_of exchanges)
-EndsSo ReadFault exchanges tail out old new = IsBegun tail × CountRose old.read_faults new.read_faults × (out ≡ texts_of exchanges)
-EndsSo WriteFault exchanges tail out old new = CountRose old.write_faults new.write_faults × (IsCutAnswer exchanges tail out ⊎ IsCutRefusal exchanges tail out)
-EndsSo NoMemory exchanges tail out old new = IsUnserved tail × (out ≡ texts_of exchanges)
-EndsSo Closed exchanges tail out old new = IsRefusedHead tail × (out ≡ texts_of exchanges ++ refusal)
+abbrev pub EndsSo : Mode → ConnectionEnd → List Exchange → List ℕ → List ℕ → Wires → Wires → Type 0
+EndsSo mode Over exchanges tail out old new = (tail ≡ []) × IsAtEnd new.left × (out ≡ texts_of mode exchanges)
+EndsSo mode InputCut exchanges tail out old new = (0 < length tail) × IsBegun tail × IsAtEnd new.left × (out ≡ texts_of mode exchanges)
+EndsSo mode ReadFault exchanges tail out old new = IsBegun tail × CountRose old.read_faults new.read_faults × (out ≡ texts_of mode exchanges)
+EndsSo mode WriteFault exchanges tail out old new = CountRose old.write_faults new.write_faults × (IsCutAnswer mode exchanges tail out ⊎ IsCutRefusal mode exchanges tail out)
+EndsSo mode NoMemory exchanges tail out old new = IsUnserved tail × (out ≡ texts_of mode exchanges)
+EndsSo mode Closed exchanges tail out old new = IsRefusedHead tail × (out ≡ texts_of mode exchanges ++ bad_request)
 
 -- the server closed after as many requests as it serves on one connection
-pub record IsAtLimit (end : ConnectionEnd) (exchanges : List Exchange) (tail out : List ℕ) : Type 0 where
+pub record IsAtLimit (mode : Mode) (end : ConnectionEnd) (exchanges : List Exchange) (tail out : List ℕ) : Type 0 where
   pub closed : end ≡ Closed
   pub all : length exchanges ≡ 1000000
   pub nothing : tail ≡ []
-  pub given : out ≡ texts_of exchanges
+  pub given : out ≡ texts_of mode exchanges
 
--- a whole connection; a request that it ends in leaves the map
-pub record Session (tells : List Bool) (old : Moment) (before : Wires) (end : ConnectionEnd) (new : Moment) (after : Wires) : Type 0 where
+-- a whole connection; a request that it ends in leaves the keys' states
+pub record Session (clock : Option ℕ) (mode : Mode) (tells : List Bool) (old : Moment) (before : Wires) (end : ConnectionEnd) (new : Moment) (after : Wires) : Type 0 where
   pub exchanges : List Exchange
   pub stop : Moment
   pub tail : List ℕ
   pub out : List ℕ
-  pub run : Run tells old exchanges stop
+  pub run : Run clock mode tells old exchanges stop
   pub rests : Rests stop new
   pub moved : Moved (bytes_of exchanges ++ tail) out before after
-  pub ends : EndsSo end exchanges tail out before after ⊎ IsAtLimit end exchanges tail out
+  pub ends : EndsSo mode end exchanges tail out before after ⊎ IsAtLimit mode end exchanges tail out
   pub few : length exchanges ≤ 1000000
 
 -- what one request leads to: an answer, or the end of the connection
 -- `front` are the bytes of the request that were read before
-pub record TurnAnswers (tells : List Bool) (front : List ℕ) (old : Moment) (before : Wires) (new : Moment) (after : Wires) : Type 0 where
+pub record TurnAnswers (clock : Option ℕ) (mode : Mode) (tells : List Bool) (front : List ℕ) (old : Moment) (before : Wires) (new : Moment) (after : Wires) : Type 0 where
   pub exchange : Exchange
-  pub step : Step tells old exchange new
+  pub step : Step clock mode tells old exchange new
   pub part : List ℕ
   pub is : exchange.bytes ≡ front ++ part
-  pub moved : Moved part (answer_text exchange.answer) before after
+  pub moved : Moved part (answer_text mode exchange.answer) before after
 
-pub record TurnEnds (tells : List Bool) (front : List ℕ) (old : Moment) (before : Wires) (end : ConnectionEnd) (new : Moment) (after : Wires) : Type 0 where
+pub record TurnEnds (clock : Option ℕ) (mode : Mode) (tells : List Bool) (front : List ℕ) (old : Moment) (before : Wires) (end : ConnectionEnd) (new : Moment) (after : Wires) : Type 0 where
   pub exchanges : List Exchange
   pub tail : List ℕ
   pub part : List ℕ
   pub out : List ℕ
   pub stop : Moment
-  pub run : Run tells old exchanges stop
+  pub run : Run clock mode tells old exchanges stop
   pub rests : Rests stop new
   pub is : bytes_of exchanges ++ tail ≡ front ++ part
   pub moved : Moved part out before after
-  pub ends : EndsSo end exchanges tail out before after
+  pub ends : EndsSo mode end exchanges tail out before after
   pub few : length exchanges ≤ 1
 
-abbrev pub Turns : List Bool → List ℕ → Moment → Wires → Turn → Moment → Wires → Type 0
-Turns tells front old before Answered new after = TurnAnswers tells front old before new after
-Turns tells front old before (Ended end) new after = TurnEnds tells front old before end new after
+abbrev pub Turns : Option ℕ → Mode → List Bool → List ℕ → Moment → Wires → Turn → Moment → Wires → Type 0
+Turns clock mode tells front old before Answered new after = TurnAnswers clock mode tells front old before new after
+Turns clock mode tells front old before (Ended end) new after = TurnEnds clock mode tells front old before end new after
 
 -- a reply with this text was given, or was cut short
 abbrev pub Gives : List ℕ → Turn → Option (List ℕ) → Option (List ℕ) → ℕ → ℕ → Type 0
@@ -180,50 +204,48 @@ Gives text (Ended InputCut) old_given new_given old new = ⊥
 Gives text (Ended ReadFault) old_given new_given old new = ⊥
 Gives text (Ended NoMemory) old_given new_given old new = ⊥
 
--- the same, or no memory was found for the text, and nothing was given
-abbrev pub GivesOrStarves : List ℕ → Turn → Option (List ℕ) → Option (List ℕ) → ℕ → ℕ → Type 0
-GivesOrStarves text Answered old_given new_given old new = Gives text Answered old_given new_given old new
-GivesOrStarves text (Ended NoMemory) old_given new_given old new = (new_given ≡ old_given) × (new ≡ old)
-GivesOrStarves text (Ended WriteFault) old_given new_given old new = Gives text (Ended WriteFault) old_given new_given old new
-GivesOrStarves text (Ended Over) old_given new_given old new = ⊥
-GivesOrStarves text (Ended Closed) old_given new_given old new = ⊥
-GivesOrStarves text (Ended InputCut) old_given new_given old new = ⊥
-GivesOrStarves text (Ended ReadFault) old_given new_given old new = ⊥
-
 -- the refusal of a head was given and the connection closed, or it was cut short
 abbrev pub Refuses : Turn → Option (List ℕ) → Option (List ℕ) → ℕ → ℕ → Type 0
 Refuses Answered old_given new_given old new = ⊥
-Refuses (Ended Closed) old_given new_given old new = (new_given ≡ append_known old_given refusal) × (old ≤ new)
-Refuses (Ended WriteFault) old_given new_given old new = ((n : ℕ) × (new_given ≡ append_known old_given (take n refusal))) × CountRose old new × (old ≤ new)
+Refuses (Ended Closed) old_given new_given old new = (new_given ≡ append_known old_given bad_request) × (old ≤ new)
+Refuses (Ended WriteFault) old_given new_given old new = ((n : ℕ) × (new_given ≡ append_known old_given (take n bad_request))) × CountRose old new × (old ≤ new)
 Refuses (Ended Over) old_given new_given old new = ⊥
 Refuses (Ended InputCut) old_given new_given old new = ⊥
 Refuses (Ended ReadFault) old_given new_given old new = ⊥
 Refuses (Ended NoMemory) old_given new_given old new = ⊥
 
-module _ {D : Type 0} (tell : D → Bool) (files : D → Files) (count : D → ℕ) where
+-- the counters are the slots' numbers
+abbrev pub Agrees : Drawn → Objects → Type 0
+Agrees counters objects = (slot : ℕ) → counters slot ≡ objects.drawn slot
+
+module _ {D : Type 0} (clock : Option ℕ) (mode : Mode) (tell : D → Bool) (files : D → Files) (count : D → ℕ) where
   -- what the drives tell of a moment
   abbrev pub moment : Objects → List D → Moment
   moment objects drives = record { objects = objects; counts = map count drives }
 
-  -- one turn over the drives, which go on keeping the map
-  pub record TurnOver (number : ℕ) (front : List ℕ) (objects : Objects) (old : List D) (before : Wires) (turn : Turn) (new : List D) (after : Wires) : Type 0 where
+  -- one turn over the drives, which go on keeping the objects
+  pub record TurnOver (number : ℕ) (front : List ℕ) (objects : Objects) (old : List D) (before : Wires) (turn : Turn) (new : List D) (after : Wires) (counters : Drawn) : Type 0 where
     pub objects_after : Objects
-    pub ready : AllTell (map tell old) → Ready files (number + 1) objects_after new
-    pub turns : Turns (map tell old) front (moment objects old) before turn (moment objects_after new) after
+    pub agrees : Agrees counters objects_after
+    pub room : (slot : ℕ) → objects_after.drawn slot ≤ number + number + 2
+    pub ready : AllTell (map tell old) → Ready files (number + 1) (number + number + 2) objects_after new
+    pub turns : Turns clock mode (map tell old) front (moment objects old) before turn (moment objects_after new) after
 
-  -- a connection over the drives, which in the end keep the map
+  -- a connection over the drives, which in the end keep the objects
   pub record Served (objects : Objects) (old : List D) (before : Wires) (end : ConnectionEnd) (new : List D) (after : Wires) : Type 0 where
     pub objects_after : Objects
     pub keeps : AllTell (map tell old) → Keeps files objects_after new
-    pub session : Session (map tell old) (moment objects old) before end (moment objects_after new) after
+    pub session : Session clock mode (map tell old) (moment objects old) before end (moment objects_after new) after
 
   -- the requests that were answered so far, as many as this number
-  pub record SoFar (number : ℕ) (objects : Objects) (old : List D) (before : Wires) (new : List D) (after : Wires) : Type 0 where
+  pub record SoFar (number : ℕ) (objects : Objects) (old : List D) (before : Wires) (new : List D) (after : Wires) (counters : Drawn) : Type 0 where
     pub objects_after : Objects
     pub exchanges : List Exchange
-    pub ready : AllTell (map tell old) → Ready files number objects_after new
+    pub agrees : Agrees counters objects_after
+    pub room : (slot : ℕ) → objects_after.drawn slot ≤ number + number
+    pub ready : AllTell (map tell old) → Ready files number (number + number) objects_after new
     pub tells : map tell new ≡ map tell old
     pub drives : length new ≡ length old
-    pub run : Run (map tell old) (moment objects old) exchanges (moment objects_after new)
-    pub moved : Moved (bytes_of exchanges) (texts_of exchanges) before after
+    pub run : Run clock mode (map tell old) (moment objects old) exchanges (moment objects_after new)
+    pub moved : Moved (bytes_of exchanges) (texts_of mode exchanges) before after
     pub many : length exchanges ≡ number

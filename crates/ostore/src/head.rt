@@ -3,7 +3,14 @@
 ghost use Rattle.std.specs.Prelude.{◌≡◌, ◌≢◌, ◌≤◌, ℕ, ◌++◌, List, length, codes, IfSome, IfNone};
 ghost use Rattle.std.specs.Char.{is_ascii_alphanumeric, is_ascii_digit};
 ghost use Rattle.std.specs.List.{AllPass, prefix_len};
-ghost use Rattle.ostore.specs.Heads.{Spells, SpellsNothing, SpellsPut, SpellsGet, GivesLength, IsKey, decimal_value, blank_line};
+ghost use Rattle.ostore.specs.Heads.{Spells, SpellsNothing, SpellsPut, SpellsNamed, GivesLength, IsKey, decimal_value, blank_line, query_of};
+ghost use Rattle.call_types.specs.declared.names.Pick.{Pick};
+ghost use Rattle.stamp_id.specs.VersionId.{id_text};
+ghost use Rattle.stamp_id.specs.declared.version.VersionId.{VersionId};
+
+use call_types::Pick;
+use stamp_id::VersionId;
+use std::str;
 
 /// The most bytes of a head.
 pub const MOST_HEAD: usize = 1024;
@@ -16,8 +23,10 @@ pub const MOST_BODY: u32 = 65_536;
 pub enum Head<'a> {
     /// `PUT /pic/KEY HTTP/1.1` with a `Content-Length`, the number of body bytes that follow.
     Put { key: &'a [u8], length: u32 },
-    /// `GET /pic/KEY HTTP/1.1`.
-    Get { key: &'a [u8] },
+    /// `GET /pic/KEY HTTP/1.1`, where `?versionId=` and `null` or an id's text may follow the key.
+    Get { key: &'a [u8], pick: Pick },
+    /// `DELETE /pic/KEY HTTP/1.1`, likewise.
+    Delete { key: &'a [u8], pick: Pick },
 }
 
 /// Reads a head that has ended. None where it is no request's.
@@ -28,10 +37,11 @@ pub fn parse_head(bytes: &[u8]) -> Option<Head<'_>>
     if let Some((key, length)) = parse_put(bytes) {
         return Some(Head::Put { key, length });
     }
-    if let Some(key) = parse_get(bytes) {
-        return Some(Head::Get { key });
+    if let Some((key, pick)) = parse_named(bytes, b"GET") {
+        return Some(Head::Get { key, pick });
     }
-    None
+    let (key, pick) = parse_named(bytes, b"DELETE")?;
+    Some(Head::Delete { key, pick })
 }
 
 /// The key and the length of the body, if this is the head of a PUT.
@@ -44,16 +54,50 @@ fn parse_put(bytes: &[u8]) -> Option<(&[u8], u32)>
     Some((key, length))
 }
 
-/// The key, if this is the head of a GET.
-fn parse_get(bytes: &[u8]) -> Option<&[u8]>
-    ensures spelled { IfSome result (λ key. SpellsGet key.now bytes.now) }
-    ensures refused { IfNone result ((key : List ℕ) → SpellsGet key bytes.now → ⊥) }
+/// The key and the version, if this is the head of a request of this method that names them.
+fn parse_named<'a>(bytes: &'a [u8], method: &[u8]) -> Option<(&'a [u8], Pick)>
+    ensures spelled { IfSome result (λ named. SpellsNamed method.now named.0.now named.1 bytes.now) }
+    ensures refused { IfNone result ((key : List ℕ) (pick : Pick) → SpellsNamed method.now key pick bytes.now → ⊥) }
 {
-    let (key, rest) = split_key(bytes, b"GET /pic/")?;
-    if rest == b" HTTP/1.1\r\n\r\n".as_slice() {
-        Some(key)
-    } else {
-        None
+    let target = bytes.strip_prefix(method)?;
+    let (key, rest) = split_key(target, b" /pic/")?;
+    let pick = parse_query(rest)?;
+    Some((key, pick))
+}
+
+/// The version that is named between a key and the end of a head.
+fn parse_query(bytes: &[u8]) -> Option<Pick>
+    ensures spelled { IfSome result (λ pick. bytes.now ≡ query_of pick ++ codes " HTTP/1.1" ++ blank_line) }
+    ensures refused { IfNone result ((pick : Pick) → bytes.now ≢ query_of pick ++ codes " HTTP/1.1" ++ blank_line) }
+{
+    let query = bytes.strip_suffix(b" HTTP/1.1\r\n\r\n")?;
+    parse_pick(query)
+}
+
+/// The version that a query names: the current one where there is no query.
+fn parse_pick(query: &[u8]) -> Option<Pick>
+    ensures spelled { IfSome result (λ pick. query.now ≡ query_of pick) }
+    ensures refused { IfNone result ((pick : Pick) → query.now ≢ query_of pick) }
+{
+    if query.is_empty() {
+        return Some(Pick::Current);
+    }
+    let name = query.strip_prefix(b"?versionId=")?;
+    if name == b"null".as_slice() {
+        return Some(Pick::Null);
+    }
+    let id = parse_id(name)?;
+    Some(Pick::Id(id))
+}
+
+/// The version id with this text.
+fn parse_id(text: &[u8]) -> Option<VersionId>
+    ensures spelled { IfSome result (λ id. text.now ≡ id_text id) }
+    ensures refused { IfNone result ((id : VersionId) → text.now ≢ id_text id) }
+{
+    match str::from_utf8(text) {
+        Ok(text) => VersionId::parse(text).ok(),
+        Err(_) => None,
     }
 }
 
@@ -132,6 +176,7 @@ fn value_of(digits: &[u8]) -> u32
 #[cfg(test)]
 mod tests {
     use super::*;
+    use stamp_id::{Ballot, ChangeId};
     use std::alloc::{AllocError, Global};
     use std::test::Fail;
 
@@ -157,7 +202,6 @@ mod tests {
                 length: 12
             })
         );
-        assert_eq!(rt; parse_head(GET), Some(Head::Get { key: cat }));
         let lengths: [(&[u8], u32); 5] = [
             (b"PUT /pic/aZ09 HTTP/1.1\r\nContent-Length: 0\r\n\r\n", 0),
             (
@@ -185,7 +229,7 @@ mod tests {
 
     #[test]
     fn other_heads_are_refused(rt: HostRuntime) {
-        let heads: [&[u8]; 16] = [
+        let heads: [&[u8]; 15] = [
             b"",
             b"\r\n\r\n",
             b"PUT /pic/cat HTTP/1.1\r\n\r\n",
@@ -193,7 +237,6 @@ mod tests {
             b"GET /pic/cat HTTP/1.0\r\n\r\n",
             b"get /pic/cat HTTP/1.1\r\n\r\n",
             b"HEAD /pic/cat HTTP/1.1\r\n\r\n",
-            b"DELETE /pic/cat HTTP/1.1\r\n\r\n",
             b"POST /pic/cat HTTP/1.1\r\nContent-Length: 3\r\n\r\n",
             b"GET /pic/ HTTP/1.1\r\n\r\n",
             b"GET /pic/c-t HTTP/1.1\r\n\r\n",
@@ -208,10 +251,84 @@ mod tests {
         }
     }
 
+    /// The head of a request of this method for `cat`, with this query.
+    fn with_query(alloc: Global, method: &[u8], query: &[u8]) -> Result<Vec<u8>, AllocError> {
+        let mut head = method.to_vec(alloc)?;
+        head.extend_from_slice(b" /pic/cat")?;
+        head.extend_from_slice(query)?;
+        head.extend_from_slice(b" HTTP/1.1\r\n\r\n")?;
+        Ok(head)
+    }
+
+    #[test]
+    fn versions_are_named(rt: HostRuntime) -> Result<(), Fail> {
+        let key = b"cat".as_slice();
+        let id = VersionId::from_parts(ChangeId(Ballot { term: 1, seq: 1 }), 28);
+        let queries: [(&[u8], Pick); 3] = [
+            (b"", Pick::Current),
+            (b"?versionId=null", Pick::Null),
+            (
+                b"?versionId=00000000-0001-801c-8000-000000000001",
+                Pick::Id(id),
+            ),
+        ];
+        for (query, pick) in queries {
+            let get = with_query(rt.alloc(), b"GET", query)?;
+            assert_eq!(rt; parse_head(&get), Some(Head::Get { key, pick }));
+            let delete = with_query(rt.alloc(), b"DELETE", query)?;
+            assert_eq!(rt; parse_head(&delete), Some(Head::Delete { key, pick }));
+        }
+        Ok(())
+    }
+
+    #[test]
+    fn other_queries_are_refused(rt: HostRuntime) -> Result<(), Fail> {
+        let queries: [&[u8]; 19] = [
+            b"?",
+            b"?versionId",
+            b"?versionId=",
+            b"?versionId=NULL",
+            b"?versionId=nul",
+            b"?versionId=null0",
+            b"?versionid=null",
+            b"?VersionId=null",
+            b"versionId=null",
+            b"??versionId=null",
+            b"?versionId=null?versionId=null",
+            b"?versionId=null&versionId=null",
+            b"?versionId=null ",
+            b"?versionId=00000000-0001-801C-8000-000000000001",
+            b"?versionid=00000000-0001-801c-8000-000000000001",
+            b"?versionId=00000000-0001-801c-8000-00000000001",
+            b"?versionId=00000000-0001-801c-8000-0000000000001",
+            b"?versionId=00000000-0001-801c-8000-000000000001?",
+            b"?versionId=\xff0000000-0001-801c-8000-000000000001",
+        ];
+        for query in queries {
+            for method in [b"GET".as_slice(), b"DELETE".as_slice()] {
+                let head = with_query(rt.alloc(), method, query)?;
+                assert!(rt; parse_head(&head).is_none());
+            }
+        }
+        let heads: [&[u8]; 5] = [
+            b"HEAD /pic/cat?versionId=null HTTP/1.1\r\n\r\n",
+            b"POST /pic/cat?versionId=null HTTP/1.1\r\n\r\n",
+            b"delete /pic/cat HTTP/1.1\r\n\r\n",
+            b"DELETE /pic/ HTTP/1.1\r\n\r\n",
+            b"PUT /pic/cat?versionId=null HTTP/1.1\r\nContent-Length: 3\r\n\r\n",
+        ];
+        for head in heads {
+            assert!(rt; parse_head(head).is_none());
+        }
+        Ok(())
+    }
+
     #[test]
     fn keys_have_at_most_255_letters(rt: HostRuntime) -> Result<(), Fail> {
         let longest = with_long_key(rt.alloc(), 255)?;
-        assert!(rt; matches!(parse_head(&longest), Some(Head::Get { key }) if key.len() == 255));
+        assert!(rt;
+            matches!(parse_head(&longest), Some(Head::Get { key, .. }) if key.len() == 255)
+        );
         let longer = with_long_key(rt.alloc(), 256)?;
         assert!(rt; parse_head(&longer).is_none());
         Ok(())

@@ -1,22 +1,31 @@
-//! The program `ostore`: it serves objects over four drives in memory, from its standard input to its
+//! The program `ostore`: it serves versioned objects over four drives in memory, from its standard input to its
 //! standard output.
 //!
-//! `main` makes the real objects and hands them to `run`, whose contract is the promise of the program.
-//! `run` serves one connection by `connection`, which reads requests by `reading` and `head`, keeps bodies
-//! on the drives by `files`, and answers by `reply`.
+//! `main` makes the real objects and hands them to `run`, whose contract is the promise of the program. `run` serves
+//! one connection by `connection`, which reads requests by `reading` and `head`. `reads` serves a GET: it reads the
+//! key's file and the version's data by `keyfile`. `changes` serves a PUT and a DELETE: it writes the body by `files`,
+//! and `making` prepares the key's new state by `commit`, writes it, and removes the data that is gone by `trash`.
+//! Ids come from the numbers that `slots` draws, and replies are written by `reply`.
 #![tactic(auto)]
 
+mod changes;
+mod commit;
 mod connection;
 mod files;
 mod head;
+mod keyfile;
+mod making;
 mod program;
 mod reading;
+mod reads;
 mod reply;
 mod rig;
+mod slots;
 #[cfg(test)]
 mod tests;
+mod trash;
 
-use io_base::{StdSink, StdSource};
+use io_base::{StdSink, StdSource, SystemClock};
 use program::run;
 use std::env;
 use std::io::ErrorKind;
@@ -31,7 +40,7 @@ fn main(rt: HostRuntime) -> ExitCode {
     ExitCode::from(status)
 }
 
-/// Takes the words, makes the rig and the streams, and runs.
+/// Takes the words, makes the rig, the streams and the clock, and runs.
 fn exit_status(rt: &HostRuntime) -> u8 {
     let words = match words(rt) {
         Ok(words) => words,
@@ -44,7 +53,11 @@ fn exit_status(rt: &HostRuntime) -> u8 {
         return program::OUT_OF_MEMORY;
     };
     let mut sink = StdSink::new(rt.stdout());
-    run(rt, words.as_slice(), &mut source, &mut sink, rig).status
+    let Ok(runtime) = rt.clone() else {
+        return program::OUT_OF_MEMORY;
+    };
+    let clock = SystemClock::new(runtime);
+    run(rt, words.as_slice(), &mut source, &mut sink, rig, &clock).status
 }
 
 /// The words behind the program's name, or the exit status where they aren't to be had.

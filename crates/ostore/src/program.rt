@@ -1,13 +1,14 @@
 //! What the program does with its words, its input and its drives.
 
-ghost use Rattle.std.specs.Prelude.{◌≡◌, ◌↔◌, ◌<◌, IsTrue, length, map, ℕ};
+ghost use Rattle.std.specs.Prelude.{◌≡◌, ◌↔◌, ◌<◌, IsTrue, Some, length, map, ℕ};
 ghost use Rattle.ostore.specs.Objects.{no_objects};
-ghost use Rattle.ostore.specs.Program.{IsPipe, AreFresh, usage, status_of};
+ghost use Rattle.ostore.specs.Program.{IsPipe, AreFresh, mode_word, usage, status_of};
 ghost use Rattle.ostore.specs.Session.{Served, wires};
 
 use crate::connection::{ConnectionEnd, serve};
+use call_types::Mode;
 use drive_base::Drive;
-use io_base::{Sink, Source};
+use io_base::{Clock, Sink, Source};
 
 /// The exit status of words that are no command.
 pub const USAGE: u8 = 2;
@@ -32,48 +33,64 @@ pub struct PlainEnded<D> {
 }
 
 /// Does the command that the words name. The one command is `pipe`: it serves one connection, from the
-/// source to the sink.
+/// source to the sink. The word behind it is the versioning of the one bucket, `pic`: `off`, `on` or `suspended`;
+/// `pipe` alone is `pipe off`.
 ///
-/// The replies are those of one map from keys to bodies. A PUT that is answered 503 sets its key or
-/// leaves the map; one that finds no memory leaves it. In the end drive 0 keeps the map, and each body whose
-/// PUT was answered 200 and was followed by no other PUT of its key is kept by every drive. This holds of
-/// drives that tell what they hold. What was read and given, how the run ended, and that each 503
-/// and each status has its cause, holds of all.
-pub fn run<R: AllocGlobal, S: Source, K: Sink, D: Drive>(
+/// The replies are those of S3's versioned objects, one after another, from keys without versions. A PUT or a DELETE
+/// that is answered 503, or finds no memory, is done or leaves the key as it was. In the end drive 0 keeps each key's
+/// state, and every drive keeps the body of each version. This holds of drives that tell what they hold. What was read
+/// and given, that a body has the print of its version, how the run ended, and that each 503 and each status has its
+/// cause, holds of all.
+pub fn run<R: AllocGlobal, S: Source, K: Sink, D: Drive, C: Clock>(
     rt: &R,
     words: &[String],
     source: &mut S,
     sink: &mut K,
     rig: PlainRig<D>,
+    clock: &C,
 ) -> PlainEnded<D>
     requires { AreFresh D.tells D.files rig.drives.items }
-    ensures usage { (IsPipe words.now → ⊥) → (result.status ≡ usage) × (result.drives.items ≡ rig.drives.items) × (source.new ≡ source.old) × (sink.new ≡ sink.old) }
-    ensures pipe { IsPipe words.now → (end : ConnectionEnd) × (result.status ≡ status_of end)
-        × Served D.tells D.files D.count no_objects
+    ensures usage { ((mode : Mode) → IsPipe words.now mode → ⊥)
+        → (result.status ≡ usage) × (result.drives.items ≡ rig.drives.items) × (source.new ≡ source.old) × (sink.new ≡ sink.old) }
+    ensures pipe { (mode : Mode) → IsPipe words.now mode → (end : ConnectionEnd) × (result.status ≡ status_of end)
+        × Served (C.moment clock.now) mode D.tells D.files D.count no_objects
         rig.drives.items (wires (S.left source.old) (K.given sink.old) (S.faults source.old) (K.faults sink.old)) end
         result.drives.items (wires (S.left source.new) (K.given sink.new) (S.faults source.new) (K.faults sink.new)) }
 {
     let PlainRig { mut drives } = rig;
-    if !is_pipe(words) {
+    let Some(mode) = pipe_mode(words) else {
         return PlainEnded {
             status: USAGE,
             drives,
         };
-    }
-    let end = serve(rt.alloc(), source, sink, drives.as_mut_slice());
+    };
+    let end = serve(rt.alloc(), mode, clock, source, sink, drives.as_mut_slice());
     PlainEnded {
         status: exit_status(end),
         drives,
     }
 }
 
-/// Whether the words are exactly `pipe`.
-fn is_pipe(words: &[String]) -> bool
-    ensures { IsTrue result ↔ IsPipe words.now }
+/// The bucket's mode where the words are `pipe`, alone or with the word for a mode.
+fn pipe_mode(words: &[String]) -> Option<Mode>
+    ensures { (mode : Mode) → IsPipe words.now mode ↔ (result ≡ Some mode) }
 {
     match words {
-        [word] => word.as_str() == "pipe",
-        _ => false,
+        [command] if command.as_str() == "pipe" => Some(Mode::Never),
+        [command, mode] if command.as_str() == "pipe" => named_mode(mode.as_str()),
+        _ => None,
+    }
+}
+
+/// The mode that a word stands for.
+fn named_mode(word: &str) -> Option<Mode>
+    ensures { (mode : Mode) → (word.now ≡ mode_word mode) ↔ (result ≡ Some mode) }
+{
+    match word {
+        "off" => Some(Mode::Never),
+        "on" => Some(Mode::Enabled),
+        "suspended" => Some(Mode::Suspended),
+        _ => None,
     }
 }
 

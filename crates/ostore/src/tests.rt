@@ -1,10 +1,12 @@
 //! The program's `run` over streams and drives in memory: what it gives, and how it ends.
 
 mod counted;
+mod failing;
 mod faults;
 mod heads;
 mod limits;
 mod objects;
+mod versions;
 
 ghost use Rattle.ostore.specs.Program.{AreFresh};
 
@@ -12,18 +14,25 @@ use crate::program::{PlainRig, run};
 use crate::rig::memory_rig;
 use drive_base::Drive;
 use drive_memory::MemDrive;
-use io_base::{MemSink, MemSource, Source};
+use io_base::{MemClock, MemSink, MemSource, Source};
 use std::alloc::{AllocError, Global};
 use std::test::Fail;
 
-/// The reply to a PUT that every drive took, as the program is to write it.
-const STORED: &[u8] = b"HTTP/1.1 200 OK\r\nContent-Length: 0\r\n\r\n";
+/// The moment of each run, in Unix seconds.
+const NOW: u64 = 784_111_777;
 
-/// The reply to a GET of a key without a body.
+/// The reply to a PUT of `hello` in a bucket without versioning, as the program is to write it.
+const STORED: &[u8] =
+    b"HTTP/1.1 200 OK\r\nContent-Length: 0\r\nETag: \"5d41402abc4b2a76b9719d911017c592\"\r\n\r\n";
+
+/// The reply to a GET of a key without a version.
 const MISSING: &[u8] = b"HTTP/1.1 404 Not Found\r\nContent-Length: 0\r\n\r\n";
 
 /// The reply to a head that is no request's.
 const BAD_REQUEST: &[u8] = b"HTTP/1.1 400 Bad Request\r\nContent-Length: 0\r\n\r\n";
+
+/// The reply where a drive failed.
+const UNAVAILABLE: &[u8] = b"HTTP/1.1 503 Service Unavailable\r\nContent-Length: 0\r\n\r\n";
 
 /// A PUT, a GET of its key and a GET of another key.
 const THREE_REQUESTS: &[u8] =
@@ -31,7 +40,7 @@ const THREE_REQUESTS: &[u8] =
 
 /// The replies to them.
 const THREE_REPLIES: &[u8] =
-    b"HTTP/1.1 200 OK\r\nContent-Length: 0\r\n\r\nHTTP/1.1 200 OK\r\nContent-Length: 5\r\n\r\nhelloHTTP/1.1 404 Not Found\r\nContent-Length: 0\r\n\r\n";
+    b"HTTP/1.1 200 OK\r\nContent-Length: 0\r\nETag: \"5d41402abc4b2a76b9719d911017c592\"\r\n\r\nHTTP/1.1 200 OK\r\nContent-Length: 5\r\nETag: \"5d41402abc4b2a76b9719d911017c592\"\r\n\r\nhelloHTTP/1.1 404 Not Found\r\nContent-Length: 0\r\n\r\n";
 
 /// How a run ended, with its drives and streams as it left them.
 #[derive(Drop)]
@@ -69,7 +78,8 @@ fn run_on<D: Drive + Drop>(
     for word in words {
         owned.push(String::from_str(rt.alloc(), word)?)?;
     }
-    let ended = run(rt, &owned, &mut source, &mut sink, rig);
+    let clock = MemClock::new(NOW);
+    let ended = run(rt, &owned, &mut source, &mut sink, rig, &clock);
     Ok(Outcome {
         status: ended.status,
         drives: ended.drives,
@@ -78,9 +88,10 @@ fn run_on<D: Drive + Drop>(
     })
 }
 
-/// Runs `pipe` over this input and these drives.
+/// Runs `pipe` with the word for a mode over this input and these drives.
 fn pipe_on<D: Drive + Drop>(
     rt: &HostRuntime,
+    mode: &str,
     input: &[u8],
     rig: PlainRig<D>,
 ) -> Result<Outcome<D>, Fail>
@@ -88,13 +99,18 @@ fn pipe_on<D: Drive + Drop>(
 {
     let source = source_of(rt.alloc(), input, &[])?;
     let sink = sink_of(rt.alloc(), &[])?;
-    run_on(rt, &["pipe"], source, sink, rig)
+    run_on(rt, &["pipe", mode], source, sink, rig)
 }
 
-/// Runs `pipe` over this input and four drives without a file.
-fn pipe(rt: &HostRuntime, input: &[u8]) -> Result<Outcome<MemDrive>, Fail> {
+/// Runs `pipe` with the word for a mode over this input and four drives without a file.
+fn pipe_in(rt: &HostRuntime, mode: &str, input: &[u8]) -> Result<Outcome<MemDrive>, Fail> {
     let rig = memory_rig(rt.alloc())?;
-    pipe_on(rt, input, rig)
+    pipe_on(rt, mode, input, rig)
+}
+
+/// The same in a bucket without versioning.
+fn pipe(rt: &HostRuntime, input: &[u8]) -> Result<Outcome<MemDrive>, Fail> {
+    pipe_in(rt, "off", input)
 }
 
 /// The first bytes, eight at most, that a source still has.

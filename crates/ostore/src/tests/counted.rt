@@ -4,7 +4,7 @@ ghost use Rattle.std.specs.Prelude.{◌≡◌, IfOk};
 ghost use Rattle.drive_base.specs.Files.{no_files};
 ghost use Rattle.ostore.specs.Program.{AreFresh};
 
-use super::{Outcome, STORED, pipe_on};
+use super::{Outcome, STORED, UNAVAILABLE, pipe_on};
 use crate::program::PlainRig;
 use drive_base::{Drive, DriveFault};
 use drive_memory::MemDrive;
@@ -20,6 +20,7 @@ struct Calls {
     append: u64,
     sync: u64,
     rename: u64,
+    remove: u64,
     other: u64,
 }
 
@@ -68,7 +69,7 @@ impl Drive for Counted {
     }
 
     fn remove(&mut self, name: &str) -> Result<(), DriveFault> {
-        self.calls.other = self.calls.other.saturating_add(1);
+        self.calls.remove = self.calls.remove.saturating_add(1);
         self.drive.remove(name)
     }
 
@@ -104,6 +105,7 @@ fn calls_of(size: u64, read: u64, write: u64) -> Calls {
         append: write,
         sync: write,
         rename: write,
+        remove: 0,
         other: 0,
     }
 }
@@ -130,29 +132,32 @@ fn check_calls(rt: &impl Abort, outcome: Outcome<Counted>, wanted: [Calls; 4]) {
 }
 
 #[test]
-fn a_put_writes_once_on_each_drive(rt: HostRuntime) -> Result<(), Fail> {
+fn a_put_writes_data_and_state_on_each_drive(rt: HostRuntime) -> Result<(), Fail> {
     let outcome = pipe_on(
         &rt,
+        "off",
         b"PUT /pic/a HTTP/1.1\r\nContent-Length: 5\r\n\r\nhello",
         counted_rig(rt.alloc(), false)?,
     )?;
     assert_eq!(rt; outcome.sink.given(), STORED);
-    check_calls(&rt, outcome, [calls_of(0, 0, 1); 4]);
+    check_calls(&rt, outcome, [calls_of(1, 0, 2); 4]);
     Ok(())
 }
 
 #[test]
-fn a_get_asks_all_drives_and_reads_the_first(rt: HostRuntime) -> Result<(), Fail> {
+fn a_get_asks_all_drives_and_reads_the_data_from_the_first(rt: HostRuntime) -> Result<(), Fail> {
     let found = pipe_on(
         &rt,
+        "off",
         b"PUT /pic/a HTTP/1.1\r\nContent-Length: 5\r\n\r\nhelloGET /pic/a HTTP/1.1\r\n\r\n",
         counted_rig(rt.alloc(), false)?,
     )?;
     assert_eq!(rt; found.status, 0);
-    let other = calls_of(1, 0, 1);
-    check_calls(&rt, found, [calls_of(1, 1, 1), other, other, other]);
+    let other = calls_of(2, 1, 2);
+    check_calls(&rt, found, [calls_of(3, 2, 2), other, other, other]);
     let missing = pipe_on(
         &rt,
+        "off",
         b"GET /pic/a HTTP/1.1\r\n\r\n",
         counted_rig(rt.alloc(), false)?,
     )?;
@@ -161,18 +166,37 @@ fn a_get_asks_all_drives_and_reads_the_first(rt: HostRuntime) -> Result<(), Fail
 }
 
 #[test]
+fn a_delete_writes_the_state_and_removes_the_data(rt: HostRuntime) -> Result<(), Fail> {
+    let outcome = pipe_on(
+        &rt,
+        "off",
+        b"PUT /pic/a HTTP/1.1\r\nContent-Length: 5\r\n\r\nhelloDELETE /pic/a HTTP/1.1\r\n\r\nDELETE /pic/a HTTP/1.1\r\n\r\n",
+        counted_rig(rt.alloc(), false)?,
+    )?;
+    assert_eq!(rt; outcome.status, 0);
+    let calls = Calls {
+        remove: 1,
+        ..calls_of(3, 2, 3)
+    };
+    check_calls(&rt, outcome, [calls; 4]);
+    Ok(())
+}
+
+#[test]
 fn no_drive_is_called_behind_one_that_fails(rt: HostRuntime) -> Result<(), Fail> {
     let put = pipe_on(
         &rt,
+        "off",
         b"PUT /pic/a HTTP/1.1\r\nContent-Length: 5\r\n\r\nhello",
         counted_rig(rt.alloc(), true)?,
     )?;
-    assert_eq!(rt; put.status, 0);
+    assert_eq!(rt; put.sink.given(), UNAVAILABLE);
     let none = calls_of(0, 0, 0);
     let failed = Calls { append: 1, ..none };
     check_calls(&rt, put, [calls_of(0, 0, 1), failed, none, none]);
     let get = pipe_on(
         &rt,
+        "off",
         b"GET /pic/a HTTP/1.1\r\n\r\n",
         counted_rig(rt.alloc(), true)?,
     )?;

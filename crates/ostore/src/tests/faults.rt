@@ -40,7 +40,7 @@ fn rig_without(alloc: Global, lost: usize) -> Result<PlainRig<MemDrive>, AllocEr
 fn a_lost_drive_is_answered_503(rt: HostRuntime) -> Result<(), Fail> {
     for lost in 0..4 {
         let rig = rig_without(rt.alloc(), lost)?;
-        let outcome = pipe_on(&rt, THREE_REQUESTS, rig)?;
+        let outcome = pipe_on(&rt, "off", THREE_REQUESTS, rig)?;
         assert_eq!(rt; outcome.status, 0, "{lost}");
         assert_eq!(rt;
             outcome.sink.given(),

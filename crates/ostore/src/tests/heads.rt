@@ -1,6 +1,6 @@
 //! Heads that are refused or don't end.
 
-use super::{BAD_REQUEST, MISSING, STORED, next_of, pipe};
+use super::{BAD_REQUEST, MISSING, next_of, pipe};
 use std::test::Fail;
 
 #[test]
@@ -63,6 +63,9 @@ fn a_head_has_at_most_1024_bytes(rt: HostRuntime) -> Result<(), Fail> {
 
 const GET: &[u8] = b"GET /pic/cat HTTP/1.1\r\n\r\n";
 
+/// The front of the reply to a PUT, whose entity tag depends on the body.
+const STORED: &[u8] = b"HTTP/1.1 200 OK\r\nContent-Length: 0\r\nETag: ";
+
 const PUT: &[u8] = b"PUT /pic/cat HTTP/1.1\r\nContent-Length: 04\r\n\r\n";
 
 /// What an edited head leads to, by a letter: `-` it is refused, `c` the input is cut, `k` it is served, `s`
@@ -74,6 +77,11 @@ fn wanted(letter: u8, served: &'static [u8]) -> (u8, &'static [u8]) {
         b'k' => (0, served),
         _ => (8, served),
     }
+}
+
+/// Whether what is given begins so; nothing begins with nothing alone.
+fn begins(given: &[u8], front: &[u8]) -> bool {
+    given.starts_with(front) && given.is_empty() == front.is_empty()
 }
 
 /// A byte too few, at each place of a head. Only a key with a letter less and a number with a digit less are
@@ -96,9 +104,9 @@ fn a_byte_is_left_out(rt: HostRuntime) -> Result<(), Fail> {
             input.remove(place);
             input.extend_from_slice(body)?;
             let outcome = pipe(&rt, &input)?;
-            let (status, given) = wanted(letters[place], served);
+            let (status, front) = wanted(letters[place], served);
             assert_eq!(rt; outcome.status, status, "{place}");
-            assert_eq!(rt; outcome.sink.given(), given, "{place}");
+            assert!(rt; begins(outcome.sink.given(), front), "{place}");
         }
     }
     Ok(())
@@ -141,9 +149,9 @@ fn a_byte_is_put_in(rt: HostRuntime) -> Result<(), Fail> {
             input.insert(place, byte)?;
             input.extend_from_slice(body)?;
             let outcome = pipe(&rt, &input)?;
-            let (status, given) = wanted(letters[place], served);
+            let (status, front) = wanted(letters[place], served);
             assert_eq!(rt; outcome.status, status, "{byte} at {place}");
-            assert_eq!(rt; outcome.sink.given(), given, "{byte} at {place}");
+            assert!(rt; begins(outcome.sink.given(), front), "{byte} at {place}");
         }
     }
     Ok(())

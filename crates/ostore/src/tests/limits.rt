@@ -1,6 +1,6 @@
 //! The smallest and the largest bodies and keys.
 
-use super::{BAD_REQUEST, STORED, next_of, pipe};
+use super::{BAD_REQUEST, next_of, pipe};
 use std::alloc::{AllocError, Global};
 use std::test::Fail;
 
@@ -13,33 +13,38 @@ fn body_of(alloc: Global, size: u32) -> Result<Vec<u8>, AllocError> {
     Ok(body)
 }
 
+/// The reply to a PUT of no byte.
+const STORED: &[u8] =
+    b"HTTP/1.1 200 OK\r\nContent-Length: 0\r\nETag: \"d41d8cd98f00b204e9800998ecf8427e\"\r\n\r\n";
+
+/// The entity tags are MD5 digests computed by Python's hashlib.
 #[test]
 fn a_body_has_at_most_65536_bytes(rt: HostRuntime) -> Result<(), Fail> {
     let table: [(u32, &[u8], &[u8]); 5] = [
         (
             0,
             b"PUT /pic/a HTTP/1.1\r\nContent-Length: 0\r\n\r\n",
-            b"HTTP/1.1 200 OK\r\nContent-Length: 0\r\n\r\nHTTP/1.1 200 OK\r\nContent-Length: 0\r\n\r\n",
+            b"HTTP/1.1 200 OK\r\nContent-Length: 0\r\nETag: \"d41d8cd98f00b204e9800998ecf8427e\"\r\n\r\nHTTP/1.1 200 OK\r\nContent-Length: 0\r\nETag: \"d41d8cd98f00b204e9800998ecf8427e\"\r\n\r\n",
         ),
         (
             5,
             b"PUT /pic/a HTTP/1.1\r\nContent-Length: 00005\r\n\r\n",
-            b"HTTP/1.1 200 OK\r\nContent-Length: 0\r\n\r\nHTTP/1.1 200 OK\r\nContent-Length: 5\r\n\r\n",
+            b"HTTP/1.1 200 OK\r\nContent-Length: 0\r\nETag: \"d05374dc381d9b52806446a71c8e79b1\"\r\n\r\nHTTP/1.1 200 OK\r\nContent-Length: 5\r\nETag: \"d05374dc381d9b52806446a71c8e79b1\"\r\n\r\n",
         ),
         (
             1000,
             b"PUT /pic/a HTTP/1.1\r\nContent-Length: 1000\r\n\r\n",
-            b"HTTP/1.1 200 OK\r\nContent-Length: 0\r\n\r\nHTTP/1.1 200 OK\r\nContent-Length: 1000\r\n\r\n",
+            b"HTTP/1.1 200 OK\r\nContent-Length: 0\r\nETag: \"a24f1e3ef66950e1327f210e3997ba2c\"\r\n\r\nHTTP/1.1 200 OK\r\nContent-Length: 1000\r\nETag: \"a24f1e3ef66950e1327f210e3997ba2c\"\r\n\r\n",
         ),
         (
             65_535,
             b"PUT /pic/a HTTP/1.1\r\nContent-Length: 65535\r\n\r\n",
-            b"HTTP/1.1 200 OK\r\nContent-Length: 0\r\n\r\nHTTP/1.1 200 OK\r\nContent-Length: 65535\r\n\r\n",
+            b"HTTP/1.1 200 OK\r\nContent-Length: 0\r\nETag: \"89378be93d51bbd3a9aa65e920103692\"\r\n\r\nHTTP/1.1 200 OK\r\nContent-Length: 65535\r\nETag: \"89378be93d51bbd3a9aa65e920103692\"\r\n\r\n",
         ),
         (
             65_536,
             b"PUT /pic/a HTTP/1.1\r\nContent-Length: 65536\r\n\r\n",
-            b"HTTP/1.1 200 OK\r\nContent-Length: 0\r\n\r\nHTTP/1.1 200 OK\r\nContent-Length: 65536\r\n\r\n",
+            b"HTTP/1.1 200 OK\r\nContent-Length: 0\r\nETag: \"9cc60713923528a1dd94e1c1ab0ebc9e\"\r\n\r\nHTTP/1.1 200 OK\r\nContent-Length: 65536\r\nETag: \"9cc60713923528a1dd94e1c1ab0ebc9e\"\r\n\r\n",
         ),
     ];
     for (size, head, replies) in table {

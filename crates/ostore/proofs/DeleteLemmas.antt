@@ -1,0 +1,224 @@
+-- What a DELETE leads to.
+use Rattle.std.proofs.Common.{◌≡◌, ◌⊎◌, inl, inr, ℕ, ◌+◌, ◌<◌, ◌≤◌, Bool, IsTrue, List, [], length, map, slice_index_or, Option, Some, None, refl, sym, ap, ◌∙◌, subst, arith}
+use Rattle.std.specs.Prelude.{All}
+use Rattle.std.specs.List.{AllByRecursion}
+use Rattle.stamp_id.specs.declared.version.VersionId.{VersionId}
+use Rattle.call_types.specs.declared.names.Mode.{Mode}
+use Rattle.call_types.specs.declared.names.Pick.{Pick}
+use Rattle.call_types.specs.declared.act.Act.TheVariants as act
+use Rattle.call_types.specs.declared.reply.Reply.{Reply}
+use Rattle.drive_base.specs.Files.{Files}
+use Rattle.version_list.specs.declared.state.KeyState.{KeyState}
+use Rattle.version_list.specs.Step.{Step}
+use Rattle.version_list.specs.Gone.{gone_ids}
+use Rattle.ostore.specs.declared.connection.Turn.{Turn}
+use Rattle.ostore.specs.Commits.{IsPrepared}
+use Rattle.ostore.specs.Drives.{AllTell, Written, MayBeWritten, name_of, loose_name_of}
+use Rattle.ostore.specs.Heads.{SpellsDelete}
+use Rattle.ostore.specs.Leaves.{sides, Shows, CommitLeaves, LooksInVain, ChangesNothing, WritesInVain, Makes}
+use Rattle.ostore.specs.Objects.{Objects, Answer, delete, replied, unavailable, with_numbers, with_change}
+use Rattle.ostore.specs.Session.{Exchange, Gives, wires, TurnOver}
+use Rattle.ostore.specs.Slots.{slot_of, Drawn, with_drawn, IsIdOf}
+use Rattle.ostore.specs.Store.{Ready, IsSound, KeepsDataOf}
+use Rattle.ostore.proofs.ChangeLemmas.{Begins, is_next, room_now, room_drawn, agrees_none, agrees_drawn, ready_stays, starved, apart_after}
+use Rattle.ostore.proofs.StandsLemmas.{all_or_not, shown_is, look_cause}
+use Rattle.ostore.proofs.StateLemmas.{delete_step_keeps, delete_step_uploads, sound_drawn_later, grows_with_drawn, with_drawn_here, marker_is_sound, next_was_drawn}
+use Rattle.ostore.proofs.StoreLemmas.{ready_written, ready_refused, ready_removed}
+use Rattle.ostore.proofs.TurnLemmas.{tells_each, counts_each, cause_of_some, answered}
+
+-- the exchange of a DELETE
+abbrev deleted : List ℕ → Pick → List ℕ → Answer → Exchange
+deleted key pick bytes answer = record { request = delete key pick; bytes = bytes; answer = answer }
+
+module _ {D : Type 0} (clock : Option ℕ) (mode : Mode) (tell : D → Bool) (files : D → Files) (count : D → ℕ) where
+  -- the drives' states weren't to be had
+  delete_looks : (number : ℕ) (key : List ℕ) (pick : Pick) (objects : Objects) (id : VersionId) (now : ℕ) (old new : List D) (turn : Turn)
+      (left given later : Option (List ℕ)) (reads faults more : ℕ) (before after : Drawn) (bytes : List ℕ)
+      → Begins clock mode tell files count number key objects id now old new before → SpellsDelete key pick bytes
+      → LooksInVain tell files count id (name_of key) turn old (sides given faults before) new (sides later more after)
+      → TurnOver clock mode tell files count number bytes objects old (wires left given reads faults) turn new (wires left later reads more) after
+  delete_looks number key pick objects id now old new turn left given later reads faults more before after bytes begins asks looks =
+      answered clock mode tell files count number objects objects old new (deleted key pick bytes unavailable) turn left given later reads faults more after
+      (agrees_none clock mode tell files count objects given later faults more before after begins.agrees looks.draws) (room_now clock mode tell files count number key objects id now old new before begins)
+      (ready_stays clock mode tell files count number key objects id now old new before begins looks.stays)
+      (record {
+        asks = asks;
+        fits = tt;
+        serves = λ all. inl refl;
+        cause = look_cause clock mode tell files count number (number + number) objects key id old new begins.some begins.same begins.ready (λ all. (is_next clock mode tell files count number key objects id now old new before begins all).fresh) looks.cause;
+        counts = counts_each clock mode tell files count old new begins.same begins.counts;
+      }) looks.gives
+
+  -- the step of what was prepared is that of the objects, where the drives tell
+  step_of : (number most : ℕ) (key : List ℕ) (pick : Pick) (objects : Objects) (id : VersionId) (now : ℕ) (old : List D) (text gone : List ℕ) (file : Option (List ℕ))
+      (p : IsPrepared mode (act.Delete pick) id now (Shows tell files count old (name_of key)) text file gone)
+      → p.state ≡ objects.states key → Step (objects.states key) mode (act.Delete pick) id now p.changes.reply p.changes.new
+  step_of number most key pick objects id now old text gone file p same =
+      subst (λ s. Step s mode (act.Delete pick) id now p.changes.reply p.changes.new) same p.changes.step
+
+  -- the change leaves the state
+  delete_nothing : (number : ℕ) (key : List ℕ) (pick : Pick) (objects : Objects) (id : VersionId) (now : ℕ) (old new : List D) (turn : Turn)
+      (left given later : Option (List ℕ)) (reads faults more : ℕ) (before after : Drawn) (bytes : List ℕ)
+      → Begins clock mode tell files count number key objects id now old new before → SpellsDelete key pick bytes
+      → ChangesNothing tell files count mode (act.Delete pick) id now (name_of key) turn old (sides given faults before) new (sides later more after)
+      → TurnOver clock mode tell files count number bytes objects old (wires left given reads faults) turn new (wires left later reads more) after
+  delete_nothing number key pick objects id now old new turn left given later reads faults more before after bytes begins asks nothing =
+      let p = nothing.prepared in
+      answered clock mode tell files count number objects objects old new (deleted key pick bytes (replied p.changes.reply [])) turn left given later reads faults more after
+      (agrees_none clock mode tell files count objects given later faults more before after begins.agrees nothing.draws) (room_now clock mode tell files count number key objects id now old new before begins)
+      (ready_stays clock mode tell files count number key objects id now old new before begins nothing.stays)
+      (record {
+        asks = asks;
+        fits = refl;
+        serves = λ all.
+            let same = shown_is clock mode tell files count number (number + number) objects key p.state old begins.some all (begins.ready all) p.canonical p.shown in (
+              record {
+                id = id;
+                now = now;
+                next = is_next clock mode tell files count number key objects id now old new before begins all;
+                state = p.changes.new;
+                step = step_of number (number + number) key pick objects id now old nothing.text nothing.gone None p same;
+                is = inl (p.changes.has_file ∙ same, refl);
+              },
+              refl,
+            );
+        cause = tt;
+        counts = counts_each clock mode tell files count old new begins.same begins.counts;
+      }) (subst (λ t. Gives t turn given later faults more) p.changes.texts nothing.gives)
+
+  -- the versions after a DELETE are sound, and their data is on the drives
+  delete_sound : (owner : List ℕ → List ℕ) (key : List ℕ) (pick : Pick) (objects : Objects) (id : VersionId) (now : ℕ) (reply : Reply) (state : KeyState)
+      → IsIdOf (slot_of key) (objects.drawn (slot_of key) + 1) id → AllByRecursion (IsSound objects.drawn owner objects.bodies key) (objects.states key).versions
+      → Step (objects.states key) mode (act.Delete pick) id now reply state
+      → AllByRecursion (IsSound (with_drawn objects.drawn (slot_of key) (objects.drawn (slot_of key) + 2)) owner objects.bodies key) state.versions
+  delete_sound owner key pick objects id now reply state next sound step =
+      let later = with_drawn objects.drawn (slot_of key) (objects.drawn (slot_of key) + 2) in
+      let here : later (slot_of key) ≡ objects.drawn (slot_of key) + 2 = with_drawn_here objects.drawn (slot_of key) (objects.drawn (slot_of key) + 2) in
+      delete_step_keeps (IsSound later owner objects.bodies key) (objects.states key) state mode pick id now reply step
+      (sound_drawn_later objects.drawn later owner objects.bodies key (objects.states key).versions
+      (grows_with_drawn objects.drawn (slot_of key) (objects.drawn (slot_of key) + 2) (omega arith)) sound)
+      (marker_is_sound later owner objects.bodies key mode id now (next_was_drawn objects.drawn later (slot_of key) id next (omega arith)))
+
+  delete_datas : (number most : ℕ) (key : List ℕ) (pick : Pick) (objects : Objects) (id : VersionId) (now : ℕ) (reply : Reply) (state : KeyState) (old : List D)
+      → Ready files number most objects old → Step (objects.states key) mode (act.Delete pick) id now reply state
+      → All (λ d. AllByRecursion (λ v. KeepsDataOf objects.bodies (files d) v.what) state.versions) old
+  delete_datas number most key pick objects id now reply state old ready step k d lt =
+      delete_step_keeps (λ v. KeepsDataOf objects.bodies (files (slice_index_or old k d)) v.what) (objects.states key) state mode pick id now reply step
+      ((ready.every k d lt).datas key) tt
+
+  drawn_of : (objects after : Objects) (key : List ℕ) (state : KeyState) → (after ≡ with_numbers objects key 2) ⊎ (after ≡ with_change objects key state 2)
+      → after.drawn ≡ with_drawn objects.drawn (slot_of key) (objects.drawn (slot_of key) + 2)
+  drawn_of objects after key state (inl e) = ap (λ (o : Objects). o.drawn) e
+  drawn_of objects after key state (inr e) = ap (λ (o : Objects). o.drawn) e
+
+  -- some drive refused the write, and these are the objects then
+  refused_so : (number : ℕ) (key : List ℕ) (pick : Pick) (objects : Objects) (id : VersionId) (now : ℕ) (old new : List D) (turn : Turn)
+      (left given later : Option (List ℕ)) (reads faults more : ℕ) (before after : Drawn) (bytes : List ℕ)
+      → Begins clock mode tell files count number key objects id now old new before → SpellsDelete key pick bytes
+      → (vain : WritesInVain tell files count mode (act.Delete pick) id now (slot_of key) 2 (loose_name_of number) (name_of key) turn old (sides given faults before) new (sides later more after))
+      → (objects_after : Objects) → (objects_after ≡ with_numbers objects key 2) ⊎ (objects_after ≡ with_change objects key vain.prepared.changes.new 2)
+      → (AllTell (map tell old) → Ready files (number + 1) (number + number + 2) objects_after new)
+      → TurnOver clock mode tell files count number bytes objects old (wires left given reads faults) turn new (wires left later reads more) after
+  refused_so number key pick objects id now old new turn left given later reads faults more before after bytes begins asks vain objects_after is ready =
+      let p = vain.prepared in
+      let drawn = drawn_of objects objects_after key p.changes.new is in
+      answered clock mode tell files count number objects objects_after old new (deleted key pick bytes unavailable) turn left given later reads faults more after
+      (λ slot. agrees_drawn clock mode tell files count objects key given later faults more before after begins.agrees vain.draws slot ∙ sym (ap (λ (f : Drawn). f slot) drawn))
+      (λ slot. subst (λ (f : Drawn). f slot ≤ number + number + 2) (sym drawn) (room_drawn clock mode tell files count number key objects id now old new before begins slot))
+      ready
+      (record {
+        asks = asks;
+        fits = tt;
+        serves = λ all.
+            let same = shown_is clock mode tell files count number (number + number) objects key p.state old begins.some all (begins.ready all) p.canonical p.shown in
+            inr (record {
+              id = id;
+              now = now;
+              next = is_next clock mode tell files count number key objects id now old new before begins all;
+              reply = p.changes.reply;
+              state = p.changes.new;
+              step = step_of number (number + number) key pick objects id now old vain.text vain.gone (Some vain.file) p same;
+              is = is;
+            });
+        cause = cause_of_some clock mode tell files count old new begins.same vain.cause;
+        counts = counts_each clock mode tell files count old new begins.same begins.counts;
+      }) vain.gives
+
+  delete_refused : (number : ℕ) (key : List ℕ) (pick : Pick) (objects : Objects) (id : VersionId) (now : ℕ) (old new : List D) (turn : Turn)
+      (left given later : Option (List ℕ)) (reads faults more : ℕ) (before after : Drawn) (bytes : List ℕ)
+      → Begins clock mode tell files count number key objects id now old new before → SpellsDelete key pick bytes
+      → WritesInVain tell files count mode (act.Delete pick) id now (slot_of key) 2 (loose_name_of number) (name_of key) turn old (sides given faults before) new (sides later more after)
+      → TurnOver clock mode tell files count number bytes objects old (wires left given reads faults) turn new (wires left later reads more) after
+  delete_refused number key pick objects id now old new turn left given later reads faults more before after bytes begins asks vain = elim (all_or_not (map tell old)) [
+    | inl all ↦
+        let p = vain.prepared in
+        let r = begins.ready all in
+        let same = shown_is clock mode tell files count number (number + number) objects key p.state old begins.some all r p.canonical p.shown in
+        let step = step_of number (number + number) key pick objects id now old vain.text vain.gone (Some vain.file) p same in
+        let found = ready_refused files number (number + number) 2 objects key p.changes.new old new begins.few begins.some begins.same r
+        p.changes.has_file.1 (delete_step_uploads (objects.states key) p.changes.new mode pick id now p.changes.reply step ∙ r.sound.no_uploads key)
+        (delete_sound r.owner key pick objects id now p.changes.reply p.changes.new begins.next (r.sound.versions key) step)
+        (delete_datas number (number + number) key pick objects id now p.changes.reply p.changes.new old r step)
+        (λ k d lt. subst (λ f. MayBeWritten (loose_name_of number) (name_of key) f (files (slice_index_or old k d)) (files (slice_index_or new k d))) p.changes.has_file.3
+        (vain.writes k d lt (tells_each clock mode tell files count old all k d lt) ((r.every k d lt).unused.writes number (omega arith) begins.few))) in
+        refused_so number key pick objects id now old new turn left given later reads faults more before after bytes begins asks vain found.0 found.1 (λ _. found.2)
+    | inr silent ↦ refused_so number key pick objects id now old new turn left given later reads faults more before after bytes begins asks vain (with_numbers objects key 2) (inl refl) (λ all. absurd (silent all))
+  ]
+
+  -- the change was made on every drive
+  delete_makes : (number : ℕ) (key : List ℕ) (pick : Pick) (objects : Objects) (id : VersionId) (now : ℕ) (old new : List D) (turn : Turn)
+      (left given later : Option (List ℕ)) (reads faults more : ℕ) (before after : Drawn) (bytes : List ℕ)
+      → Begins clock mode tell files count number key objects id now old new before → SpellsDelete key pick bytes
+      → Makes tell files count mode (act.Delete pick) id now (slot_of key) 2 (loose_name_of number) (name_of key) turn old (sides given faults before) new (sides later more after)
+      → TurnOver clock mode tell files count number bytes objects old (wires left given reads faults) turn new (wires left later reads more) after
+  delete_makes number key pick objects id now old new turn left given later reads faults more before after bytes begins asks makes =
+      let p = makes.prepared in
+      let w = makes.writes in
+      answered clock mode tell files count number objects (with_change objects key p.changes.new 2) old new (deleted key pick bytes (replied p.changes.reply [])) turn left given later reads faults more after
+      (agrees_drawn clock mode tell files count objects key given later faults more before after begins.agrees makes.draws) (room_drawn clock mode tell files count number key objects id now old new before begins)
+      (λ all.
+      let r = begins.ready all in
+      let same = shown_is clock mode tell files count number (number + number) objects key p.state old begins.some all r p.canonical p.shown in
+      let step = step_of number (number + number) key pick objects id now old makes.text makes.gone (Some makes.file) p same in
+      let ready = ready_written files number (number + number) 2 objects key p.changes.new old w.mid begins.few begins.some w.same r
+      p.changes.has_file.1 (delete_step_uploads (objects.states key) p.changes.new mode pick id now p.changes.reply step ∙ r.sound.no_uploads key)
+      (delete_sound r.owner key pick objects id now p.changes.reply p.changes.new begins.next (r.sound.versions key) step)
+      (delete_datas number (number + number) key pick objects id now p.changes.reply p.changes.new old r step)
+      (λ k d lt. subst (λ f. Written (loose_name_of number) (name_of key) f (files (slice_index_or old k d)) (files (slice_index_or w.mid k d))) p.changes.has_file.3
+      (w.writes k d lt (tells_each clock mode tell files count old all k d lt) ((r.every k d lt).unused.writes number (omega arith) begins.few))) in
+      let ids = gone_ids p.state.versions p.changes.new.versions in
+      ready_removed files (number + 1) (number + number + 2) (with_change objects key p.changes.new 2) ids w.mid new
+      (let n : length w.mid ≡ length old = w.same in let some = begins.some in omega arith) w.later ready
+      (apart_after clock mode tell files count r.owner objects key p.changes.new ids r.sound.versions (ap (λ (s : KeyState). gone_ids s.versions p.changes.new.versions) same))
+      (λ k d lt. let within : k < length old = (let n : length w.mid ≡ length old = w.same in omega arith) in
+      w.removes ids p.changes.has_file.4 k d lt (subst IsTrue (sym (w.tells k d within)) (tells_each clock mode tell files count old all k d within))))
+      (record {
+        asks = asks;
+        fits = refl;
+        serves = λ all.
+            let same = shown_is clock mode tell files count number (number + number) objects key p.state old begins.some all (begins.ready all) p.canonical p.shown in (
+              record {
+                id = id;
+                now = now;
+                next = is_next clock mode tell files count number key objects id now old new before begins all;
+                state = p.changes.new;
+                step = step_of number (number + number) key pick objects id now old makes.text makes.gone (Some makes.file) p same;
+                is = inr ((λ e. p.changes.has_file.2 (e ∙ sym same)), refl);
+              },
+              refl,
+            );
+        cause = tt;
+        counts = counts_each clock mode tell files count old new begins.same begins.counts;
+      }) (subst (λ t. Gives t turn given later faults more) p.changes.texts makes.gives)
+
+  pub delete_turn : (number : ℕ) (key : List ℕ) (pick : Pick) (objects : Objects) (id : VersionId) (now : ℕ) (old new : List D) (turn : Turn)
+      (left given later : Option (List ℕ)) (reads faults more : ℕ) (before after : Drawn) (bytes : List ℕ)
+      → Begins clock mode tell files count number key objects id now old new before → SpellsDelete key pick bytes
+      → CommitLeaves tell files count mode (act.Delete pick) id now (slot_of key) 2 (loose_name_of number) (name_of key) turn old (sides given faults before) new (sides later more after)
+      → TurnOver clock mode tell files count number bytes objects old (wires left given reads faults) turn new (wires left later reads more) after
+  delete_turn number key pick objects id now old new turn left given later reads faults more before after bytes begins asks (inl starves) =
+      starved clock mode tell files count number key objects id now old new turn left given later reads faults more before after (delete key pick) bytes begins asks starves
+  delete_turn number key pick objects id now old new turn left given later reads faults more before after bytes begins asks (inr (inl looks)) = delete_looks number key pick objects id now old new turn left given later reads faults more before after bytes begins asks looks
+  delete_turn number key pick objects id now old new turn left given later reads faults more before after bytes begins asks (inr (inr (inl nothing))) = delete_nothing number key pick objects id now old new turn left given later reads faults more before after bytes begins asks nothing
+  delete_turn number key pick objects id now old new turn left given later reads faults more before after bytes begins asks (inr (inr (inr (inl vain)))) = delete_refused number key pick objects id now old new turn left given later reads faults more before after bytes begins asks vain
+  delete_turn number key pick objects id now old new turn left given later reads faults more before after bytes begins asks (inr (inr (inr (inr makes)))) = delete_makes number key pick objects id now old new turn left given later reads faults more before after bytes begins asks makes

@@ -1,0 +1,255 @@
+-- What a PUT leads to.
+use Rattle.std.proofs.Common.{◌≡◌, ◌⊎◌, inl, inr, ℕ, zero, suc, ◌+◌, ◌<◌, ◌≤◌, Bool, true, false, cond, nat_eq, IsTrue, List, [], length, map, Option, None, refl, sym, ap, ◌∙◌, subst, arith, append-nil}
+use Rattle.std.proofs.Math.Path.{fun_ext}
+use Rattle.md5.specs.Md5.{md5}
+use Rattle.stamp_id.specs.declared.version.VersionId.{VersionId}
+use Rattle.call_types.specs.declared.names.Mode.{Mode}
+use Rattle.call_types.specs.declared.refusal.Refusal.TheVariants.{VersionLimit}
+use Rattle.call_types.specs.declared.reply.Reply.{Reply}
+use Rattle.call_types.specs.declared.reply.Reply.TheVariants.{Refused, Stored}
+use Rattle.drive_base.specs.Files.{Files}
+use Rattle.version_list.specs.declared.state.KeyState.{KeyState}
+use Rattle.version_list.specs.Naming.{kept}
+use Rattle.version_list.specs.Step.{Step, replaced, told, new_name}
+use Rattle.ostore.specs.declared.connection.Turn.{Turn}
+use Rattle.ostore.specs.declared.connection.ConnectionEnd.TheVariants.{NoMemory}
+use Rattle.ostore.specs.Commits.{IsPrepared}
+use Rattle.ostore.specs.Drives.{AllTell, AtEach, SomeDrive, DriveCause, DrivesCause, Written, MayBeWritten, name_of}
+use Rattle.ostore.specs.KeyFiles.{data_name, data_loose}
+use Rattle.ostore.specs.Leaves.{sides, Shows, FilesStay, Starves, LooksInVain, ChangesNothing}
+use Rattle.ostore.specs.Objects.{Objects, Answer, Asks, put, replied, unavailable, put_act, MayPut, with_numbers, with_change, with_body}
+use Rattle.ostore.specs.Replies.{unavailable_text}
+use Rattle.ostore.specs.Session.{Exchange, Gives, Agrees, wires, TurnOver}
+use Rattle.ostore.specs.Slots.{slot_of, Drawn, with_drawn}
+use Rattle.ostore.specs.Store.{Ready}
+use Rattle.ostore.proofs.ChangeLemmas.{Begins, is_next, room_now, agrees_none}
+use Rattle.ostore.proofs.StandsLemmas.{shown_is, look_cause}
+use Rattle.ostore.proofs.SessionLemmas.{rose_later, nothing_taken, nothing_given}
+use Rattle.ostore.proofs.StateLemmas.{put_version, with_front, with_drawn_here, next_not_drawn}
+use Rattle.ostore.proofs.StoreLemmas.{drawn_most, ready_same, ready_later, ready_staged}
+use Rattle.ostore.proofs.TurnLemmas.{tells_each, tells_same, counts_each, cause_of_some, unanswered, answered}
+
+-- the exchange of a PUT
+abbrev pub putting : List ℕ → List ℕ → List ℕ → Answer → Exchange
+putting key body bytes answer = record { request = put key body; bytes = bytes; answer = answer }
+
+-- one of two numbers is as high as the other, or lower
+high_or_low : (m n : ℕ) → (m ≤ n) ⊎ (n < m)
+high_or_low zero n = inl (omega arith)
+high_or_low (suc m) zero = inr (omega arith)
+high_or_low (suc m) (suc n) = elim (high_or_low m n) [ inl high ↦ inl (omega arith) | inr low ↦ inr (omega arith) ]
+
+-- a PUT has a step, whatever the state
+pub put_has_step : (old : KeyState) (mode : Mode) (id : VersionId) (body : List ℕ) (now : ℕ) → (reply : Reply) × (state : KeyState) × Step old mode (put_act id body) id now reply state
+put_has_step old mode id body now = elim (high_or_low 10000 (length (kept (replaced mode) old.versions))) [
+  | inl full ↦ (Refused VersionLimit, old, inl (full, (refl, refl)))
+  | inr fits ↦ (
+    Stored (record { md5 = md5 body; parts = 0 }) (told mode (new_name mode id)),
+    with_front old mode (put_version mode id body now),
+    inr (fits, (refl, refl)),
+  )
+]
+
+-- a number drawn, and then another, are two numbers
+pub twice_drawn : (drawn : Drawn) (slot other : ℕ)
+    → with_drawn (with_drawn drawn slot (drawn slot + 1)) slot (with_drawn drawn slot (drawn slot + 1) slot + 1) other ≡ with_drawn drawn slot (drawn slot + 2) other
+twice_drawn drawn slot other = by (nat_eq slot other) refl
+  where
+    by : (b : Bool) → nat_eq slot other ≡ b
+        → with_drawn (with_drawn drawn slot (drawn slot + 1)) slot (with_drawn drawn slot (drawn slot + 1) slot + 1) other ≡ with_drawn drawn slot (drawn slot + 2) other
+    by true e =
+        let here : with_drawn drawn slot (drawn slot + 1) slot ≡ drawn slot + 1 = with_drawn_here drawn slot (drawn slot + 1) in
+        let both : with_drawn drawn slot (drawn slot + 1) slot + 1 ≡ drawn slot + 2 = omega arith in
+        subst (λ t. cond t (with_drawn drawn slot (drawn slot + 1) slot + 1) (cond t (drawn slot + 1) (drawn other)) ≡ cond t (drawn slot + 2) (drawn other)) (sym e) both
+    by false e =
+        subst (λ t. cond t (with_drawn drawn slot (drawn slot + 1) slot + 1) (cond t (drawn slot + 1) (drawn other)) ≡ cond t (drawn slot + 2) (drawn other)) (sym e) refl
+
+-- the objects after both numbers of a PUT
+pub numbers_twice : (objects : Objects) (key : List ℕ) → with_numbers (with_numbers objects key 1) key 1 ≡ with_numbers objects key 2
+numbers_twice objects key = ap (λ (f : Drawn). record { states = objects.states; bodies = objects.bodies; drawn = f }) (fun_ext (twice_drawn objects.drawn (slot_of key)))
+
+pub change_twice : (objects : Objects) (key : List ℕ) (state : KeyState) → with_change (with_numbers objects key 1) key state 1 ≡ with_change objects key state 2
+change_twice objects key state = ap (λ (f : Drawn). record { states = (with_change objects key state 2).states; bodies = objects.bodies; drawn = f }) (fun_ext (twice_drawn objects.drawn (slot_of key)))
+
+module _ {D : Type 0} (clock : Option ℕ) (mode : Mode) (tell : D → Bool) (files : D → Files) (count : D → ℕ) where
+  -- the data of a PUT was written: the drives before it, after it, and in the end
+  pub record Staged (number : ℕ) (key body : List ℕ) (objects : Objects) (id : VersionId) (now : ℕ) (old mid new : List D) (before staged : Drawn) : Type 0 where
+    pub begins : Begins clock mode tell files count number key objects id now old new before
+    pub length_mid : length mid ≡ length old
+    pub tells_mid : AtEach (λ a b. tell b ≡ tell a) old mid
+    pub counts_mid : AtEach (λ a b. count a ≤ count b) old mid
+    pub draws : (slot : ℕ) → staged slot ≡ with_drawn before (slot_of key) (before (slot_of key) + 1) slot
+    pub writes : AtEach (λ a b. IsTrue (tell a) → (files a).loose (data_loose id) ≡ None → Written (data_loose id) (data_name id) body (files a) (files b)) old mid
+
+  pub agrees_one : (objects : Objects) (key : List ℕ) (before staged : Drawn) → Agrees before objects
+      → ((slot : ℕ) → staged slot ≡ with_drawn before (slot_of key) (before (slot_of key) + 1) slot)
+      → (slot : ℕ) → staged slot ≡ with_drawn objects.drawn (slot_of key) (objects.drawn (slot_of key) + 1) slot
+  agrees_one objects key before staged agrees draws slot =
+      draws slot ∙ ap (λ (f : Drawn). with_drawn f (slot_of key) (f (slot_of key) + 1) slot) (fun_ext agrees)
+
+  -- the objects draw no more than the room for a request
+  pub room_more : (number : ℕ) (key : List ℕ) (objects : Objects) (id : VersionId) (now : ℕ) (old new : List D) (before : Drawn) (n : ℕ) → n ≤ 2
+      → Begins clock mode tell files count number key objects id now old new before → (slot : ℕ) → with_drawn objects.drawn (slot_of key) (objects.drawn (slot_of key) + n) slot ≤ number + number + 2
+  room_more number key objects id now old new before n few begins slot =
+      let low : objects.drawn (slot_of key) ≤ number + number = subst (λ m. m ≤ number + number) (begins.agrees (slot_of key)) (begins.room (slot_of key)) in
+      drawn_most objects.drawn (slot_of key) (objects.drawn (slot_of key) + n) (number + number + 2) slot (omega arith)
+      (room_now clock mode tell files count number key objects id now old new before begins slot)
+
+  -- the data that was written, or perhaps was, is that of the objects with the body
+  abbrev pub staged_maybe : (number : ℕ) (key body : List ℕ) (objects : Objects) (id : VersionId) (now : ℕ) (old mid new : List D) (before : Drawn)
+      → Begins clock mode tell files count number key objects id now old new before → length mid ≡ length old
+      → AtEach (λ a b. IsTrue (tell a) → (files a).loose (data_loose id) ≡ None → MayBeWritten (data_loose id) (data_name id) body (files a) (files b)) old mid
+      → AllTell (map tell old) → Ready files number (number + number + 1) (with_numbers (with_body objects id body) key 1) mid
+  staged_maybe number key body objects id now old mid new before begins same writes all =
+      let r = begins.ready all in
+      ready_staged files number (number + number) objects key id body old mid begins.some same r begins.next
+      (λ k d lt. writes k d lt (tells_each clock mode tell files count old all k d lt) ((r.every k d lt).unused.datas id (next_not_drawn objects.drawn (slot_of key) id begins.next)))
+
+  abbrev pub staged_ready : (number : ℕ) (key body : List ℕ) (objects : Objects) (id : VersionId) (now : ℕ) (old mid new : List D) (before staged : Drawn)
+      → (st : Staged number key body objects id now old mid new before staged) → AllTell (map tell old) → Ready files number (number + number + 1) (with_numbers (with_body objects id body) key 1) mid
+  staged_ready number key body objects id now old mid new before staged st all =
+      staged_maybe number key body objects id now old mid new before st.begins st.length_mid (λ k d lt told unused. inr (st.writes k d lt told unused)) all
+
+  pub all_mid : (number : ℕ) (key body : List ℕ) (objects : Objects) (id : VersionId) (now : ℕ) (old mid new : List D) (before staged : Drawn)
+      → (st : Staged number key body objects id now old mid new before staged) → AllTell (map tell old) → AllTell (map tell mid)
+  all_mid number key body objects id now old mid new before staged st all = subst AllTell (sym (tells_same clock mode tell files count old mid st.length_mid st.tells_mid)) all
+
+  pub all_old : (number : ℕ) (key body : List ℕ) (objects : Objects) (id : VersionId) (now : ℕ) (old mid new : List D) (before staged : Drawn)
+      → (st : Staged number key body objects id now old mid new before staged) → AllTell (map tell mid) → AllTell (map tell old)
+  all_old number key body objects id now old mid new before staged st all = subst AllTell (tells_same clock mode tell files count old mid st.length_mid st.tells_mid) all
+
+  pub some_mid : (number : ℕ) (key body : List ℕ) (objects : Objects) (id : VersionId) (now : ℕ) (old mid new : List D) (before staged : Drawn)
+      → (st : Staged number key body objects id now old mid new before staged) → 0 < length mid
+  some_mid number key body objects id now old mid new before staged st = let n : length mid ≡ length old = st.length_mid in let some = st.begins.some in omega arith
+
+  pub same_mid : (number : ℕ) (key body : List ℕ) (objects : Objects) (id : VersionId) (now : ℕ) (old mid new : List D) (before staged : Drawn)
+      → (st : Staged number key body objects id now old mid new before staged) → length new ≡ length mid
+  same_mid number key body objects id now old mid new before staged st = st.begins.same ∙ sym st.length_mid
+
+  -- a cause after the data was written is one of the whole request
+  pub cause_then : (number : ℕ) (key body : List ℕ) (objects : Objects) (id : VersionId) (now : ℕ) (old mid new : List D) (before staged : Drawn)
+      → (st : Staged number key body objects id now old mid new before staged) → DrivesCause (map tell mid) (map count mid) (map count new) → DrivesCause (map tell old) (map count old) (map count new)
+  cause_then number key body objects id now old mid new before staged st (inl (k, lt, rose)) =
+      let none = counts_each clock mode tell files count old mid st.length_mid st.counts_mid in
+      let within : k < length (map count old) = subst (λ n. k < n) none.drives lt in
+      inl (k, within, rose_later _ _ _ (none.each k 0 within) rose)
+  cause_then number key body objects id now old mid new before staged st (inr silent) = inr (λ all. silent (all_mid number key body objects id now old mid new before staged st all))
+
+  -- the drives that held what they held after the data was written are ready for the next request
+  staged_stays : (number : ℕ) (key body : List ℕ) (objects : Objects) (id : VersionId) (now : ℕ) (old mid new : List D) (before staged : Drawn)
+      → (st : Staged number key body objects id now old mid new before staged) → FilesStay tell files count mid new → AllTell (map tell old) → Ready files (number + 1) (number + number + 2) (with_numbers (with_body objects id body) key 1) new
+  staged_stays number key body objects id now old mid new before staged st stays all =
+      ready_later files number (number + 1) (number + number + 1) (number + number + 2) (with_numbers (with_body objects id body) key 1) new (omega arith) (omega arith)
+      (ready_same files number (number + number + 1) (with_numbers (with_body objects id body) key 1) mid new (some_mid number key body objects id now old mid new before staged st) (same_mid number key body objects id now old mid new before staged st) (staged_ready number key body objects id now old mid new before staged st all)
+      (λ k d lt. stays k d lt (tells_each clock mode tell files count mid (all_mid number key body objects id now old mid new before staged st all) k d lt)))
+
+  -- a PUT that isn't answered and drew an id
+  may_put : (number : ℕ) (key body : List ℕ) (objects : Objects) (id : VersionId) (now : ℕ) (old new : List D) (before : Drawn)
+      → Begins clock mode tell files count number key objects id now old new before → AllTell (map tell old) → MayPut clock mode objects key body (with_numbers (with_body objects id body) key 1)
+  may_put number key body objects id now old new before begins all =
+      let step = put_has_step (objects.states key) mode id body now in
+      record {
+        id = id;
+        now = now;
+        next = is_next clock mode tell files count number key objects id now old new before begins all;
+        reply = step.0;
+        state = step.1;
+        step = step.2;
+        is = inl refl;
+      }
+
+  -- some drive refused the data
+  pub put_unstaged : (number : ℕ) (key body : List ℕ) (objects : Objects) (id : VersionId) (now : ℕ) (old new : List D) (turn : Turn)
+      (left given later : Option (List ℕ)) (reads faults more : ℕ) (before after : Drawn) (bytes : List ℕ)
+      → Begins clock mode tell files count number key objects id now old new before → Asks (put key body) bytes
+      → ((slot : ℕ) → after slot ≡ with_drawn before (slot_of key) (before (slot_of key) + 1) slot)
+      → AtEach (λ a b. IsTrue (tell a) → (files a).loose (data_loose id) ≡ None → MayBeWritten (data_loose id) (data_name id) body (files a) (files b)) old new
+      → SomeDrive (λ a b. DriveCause (tell a) (count a) (count b)) old new → Gives unavailable_text turn given later faults more
+      → TurnOver clock mode tell files count number bytes objects old (wires left given reads faults) turn new (wires left later reads more) after
+  put_unstaged number key body objects id now old new turn left given later reads faults more before after bytes begins asks draws writes cause gives =
+      answered clock mode tell files count number objects (with_numbers (with_body objects id body) key 1) old new (putting key body bytes unavailable) turn left given later reads faults more after
+      (agrees_one objects key before after begins.agrees draws) (room_more number key objects id now old new before 1 (omega arith) begins)
+      (λ all. ready_later files number (number + 1) (number + number + 1) (number + number + 2) (with_numbers (with_body objects id body) key 1) new (omega arith) (omega arith)
+      (staged_maybe number key body objects id now old new new before begins begins.same writes all))
+      (record {
+        asks = asks;
+        fits = tt;
+        serves = may_put number key body objects id now old new before begins;
+        cause = cause_of_some clock mode tell files count old new begins.same cause;
+        counts = counts_each clock mode tell files count old new begins.same begins.counts;
+      }) gives
+
+  pub put_starves : (number : ℕ) (key body : List ℕ) (objects : Objects) (id : VersionId) (now : ℕ) (old mid new : List D) (turn : Turn)
+      (left given later : Option (List ℕ)) (reads faults more : ℕ) (before staged after : Drawn) (bytes : List ℕ)
+      → Staged number key body objects id now old mid new before staged → Asks (put key body) bytes
+      → Starves tell files count turn mid (sides given faults staged) new (sides later more after)
+      → TurnOver clock mode tell files count number bytes objects old (wires left given reads faults) turn new (wires left later reads more) after
+  put_starves number key body objects id now old mid new turn left given later reads faults more before staged after bytes st asks starves =
+      let same_faults : more ≡ faults = starves.faults in
+      subst (λ t. TurnOver clock mode tell files count number bytes objects old (wires left given reads faults) t new (wires left later reads more) after) (sym starves.ended)
+      (unanswered clock mode tell files count number bytes [] objects (with_numbers (with_body objects id body) key 1) old new (wires left given reads faults) (wires left later reads more) NoMemory after refl
+      (agrees_none clock mode tell files count (with_numbers (with_body objects id body) key 1) given later faults more staged after (agrees_one objects key before staged st.begins.agrees st.draws) starves.draws)
+      (room_more number key objects id now old new before 1 (omega arith) st.begins) (staged_stays number key body objects id now old mid new before staged st starves.stays)
+      (counts_each clock mode tell files count old new st.begins.same st.begins.counts)
+      (record { took = nothing_taken left; gave = starves.given ∙ nothing_given given; reads = omega arith; writes = omega arith })
+      (inr (put key body, subst (Asks (put key body)) (sym (append-nil bytes)) asks), refl))
+
+  pub put_looks : (number : ℕ) (key body : List ℕ) (objects : Objects) (id : VersionId) (now : ℕ) (old mid new : List D) (turn : Turn)
+      (left given later : Option (List ℕ)) (reads faults more : ℕ) (before staged after : Drawn) (bytes : List ℕ)
+      → Staged number key body objects id now old mid new before staged → Asks (put key body) bytes
+      → LooksInVain tell files count id (name_of key) turn mid (sides given faults staged) new (sides later more after)
+      → TurnOver clock mode tell files count number bytes objects old (wires left given reads faults) turn new (wires left later reads more) after
+  put_looks number key body objects id now old mid new turn left given later reads faults more before staged after bytes st asks looks =
+      answered clock mode tell files count number objects (with_numbers (with_body objects id body) key 1) old new (putting key body bytes unavailable) turn left given later reads faults more after
+      (agrees_none clock mode tell files count (with_numbers (with_body objects id body) key 1) given later faults more staged after (agrees_one objects key before staged st.begins.agrees st.draws) looks.draws)
+      (room_more number key objects id now old new before 1 (omega arith) st.begins) (staged_stays number key body objects id now old mid new before staged st looks.stays)
+      (record {
+        asks = asks;
+        fits = tt;
+        serves = may_put number key body objects id now old new before st.begins;
+        cause = cause_then number key body objects id now old mid new before staged st (look_cause clock mode tell files count number (number + number + 1) (with_numbers (with_body objects id body) key 1) key id mid new (some_mid number key body objects id now old mid new before staged st) (same_mid number key body objects id now old mid new before staged st)
+            (λ all. staged_ready number key body objects id now old mid new before staged st (all_old number key body objects id now old mid new before staged st all)) (λ all. (is_next clock mode tell files count number key objects id now old new before st.begins (all_old number key body objects id now old mid new before staged st all)).fresh) looks.cause);
+        counts = counts_each clock mode tell files count old new st.begins.same st.begins.counts;
+      }) looks.gives
+
+  pub put_step_of : (key body : List ℕ) (objects : Objects) (id : VersionId) (now : ℕ) (mid : List D) (text gone : List ℕ) (file : Option (List ℕ))
+      (p : IsPrepared mode (put_act id body) id now (Shows tell files count mid (name_of key)) text file gone)
+      → p.state ≡ objects.states key → Step (objects.states key) mode (put_act id body) id now p.changes.reply p.changes.new
+  put_step_of key body objects id now mid text gone file p same =
+      subst (λ s. Step s mode (put_act id body) id now p.changes.reply p.changes.new) same p.changes.step
+
+  -- what was prepared is of the objects' state, where the drives tell
+  pub put_shown : (number : ℕ) (key body : List ℕ) (objects : Objects) (id : VersionId) (now : ℕ) (old mid new : List D) (before staged : Drawn)
+      → (st : Staged number key body objects id now old mid new before staged) → (text gone : List ℕ) (file : Option (List ℕ)) (p : IsPrepared mode (put_act id body) id now (Shows tell files count mid (name_of key)) text file gone)
+      → AllTell (map tell old) → p.state ≡ objects.states key
+  put_shown number key body objects id now old mid new before staged st text gone file p all =
+      shown_is clock mode tell files count number (number + number + 1) (with_numbers (with_body objects id body) key 1) key p.state mid (some_mid number key body objects id now old mid new before staged st) (all_mid number key body objects id now old mid new before staged st all) (staged_ready number key body objects id now old mid new before staged st all) p.canonical p.shown
+
+  pub put_nothing : (number : ℕ) (key body : List ℕ) (objects : Objects) (id : VersionId) (now : ℕ) (old mid new : List D) (turn : Turn)
+      (left given later : Option (List ℕ)) (reads faults more : ℕ) (before staged after : Drawn) (bytes : List ℕ)
+      → Staged number key body objects id now old mid new before staged → Asks (put key body) bytes
+      → ChangesNothing tell files count mode (put_act id body) id now (name_of key) turn mid (sides given faults staged) new (sides later more after)
+      → TurnOver clock mode tell files count number bytes objects old (wires left given reads faults) turn new (wires left later reads more) after
+  put_nothing number key body objects id now old mid new turn left given later reads faults more before staged after bytes st asks nothing =
+      let p = nothing.prepared in
+      answered clock mode tell files count number objects (with_numbers (with_body objects id body) key 1) old new (putting key body bytes (replied p.changes.reply [])) turn left given later reads faults more after
+      (agrees_none clock mode tell files count (with_numbers (with_body objects id body) key 1) given later faults more staged after (agrees_one objects key before staged st.begins.agrees st.draws) nothing.draws)
+      (room_more number key objects id now old new before 1 (omega arith) st.begins) (staged_stays number key body objects id now old mid new before staged st nothing.stays)
+      (record {
+        asks = asks;
+        fits = refl;
+        serves = λ all.
+            let same = put_shown number key body objects id now old mid new before staged st nothing.text nothing.gone None p all in (
+              record {
+                id = id;
+                now = now;
+                next = is_next clock mode tell files count number key objects id now old new before st.begins all;
+                state = p.changes.new;
+                step = put_step_of key body objects id now mid nothing.text nothing.gone None p same;
+                is = inr (p.changes.has_file ∙ same, refl);
+              },
+              refl,
+            );
+        cause = tt;
+        counts = counts_each clock mode tell files count old new st.begins.same st.begins.counts;
+      }) (subst (λ t. Gives t turn given later faults more) p.changes.texts nothing.gives)

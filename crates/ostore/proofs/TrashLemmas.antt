@@ -1,0 +1,111 @@
+-- What removing files leaves of a drive, and the pieces of 16 bytes of ids.
+use Rattle.std.proofs.Common.{◌≡◌, ℕ, ◌≤◌, Bool, true, false, List, [], ◌∷◌, ◌++◌, ◌||◌, length, map, take, drop, codes, refl, sym, ap, subst, ◌∙◌, arith}
+use Rattle.std.specs.List.{flat_map, list_any}
+use Rattle.std.specs.Str.{bytes_eq}
+use Rattle.std.proofs.Math.Seq.{take-append_seam, drop-append_seam}
+use Rattle.stamp_id.specs.VersionId.{id_bytes}
+use Rattle.stamp_id.specs.declared.version.VersionId.{VersionId}
+use Rattle.stamp_id.proofs.IdLemmas.{length-id_bytes}
+use Rattle.drive_base.specs.Files.{Files}
+use Rattle.hex.specs.Hex.{encode_lower}
+use Rattle.ostore.specs.KeyFiles.{data_name}
+use Rattle.ostore.specs.Store.{OnlyRemoves}
+
+-- none of the names is this one
+abbrev pub IsNoneOf : List (List ℕ) → List ℕ → Type 0
+IsNoneOf names name = list_any (λ n. bytes_eq n name) names ≡ false
+
+-- a drive that is as it was lost nothing
+pub OnlyRemoves-refl : (names : List (List ℕ)) (files : Files) → OnlyRemoves names files files
+OnlyRemoves-refl names files = record {
+  kept = λ name other. refl;
+  shows = λ shows. shows;
+  loose = refl;
+}
+
+pub OnlyRemoves-trans : (names : List (List ℕ)) (a b c : Files) → OnlyRemoves names a b → OnlyRemoves names b c → OnlyRemoves names a c
+OnlyRemoves-trans names a b c first then = record {
+  kept = λ name other. then.kept name other ∙ first.kept name other;
+  shows = λ shows. then.shows (first.shows shows);
+  loose = then.loose ∙ first.loose;
+}
+
+-- a drive that lost no file but those of a few names lost none but those of more
+pub OnlyRemoves-more : (few names : List (List ℕ)) (a b : Files) → ((name : List ℕ) → IsNoneOf names name → IsNoneOf few name)
+    → OnlyRemoves few a b → OnlyRemoves names a b
+OnlyRemoves-more few names a b within removes = record {
+  kept = λ name other. removes.kept name (within name other);
+  shows = removes.shows;
+  loose = removes.loose;
+}
+
+pub or_false : (a b : Bool) → (a || b) ≡ false → (a ≡ false) × (b ≡ false)
+or_false false b e = (refl, e)
+or_false true b e = (e, cc)
+
+-- a name that is none of these is not the first of them, and none of the others
+abbrev pub IsNoneOf-cons : (n : List ℕ) (names : List (List ℕ)) (name : List ℕ) → IsNoneOf (n ∷ names) name
+    → (bytes_eq n name ≡ false) × IsNoneOf names name
+IsNoneOf-cons n names name none = or_false (bytes_eq n name) (list_any (λ m. bytes_eq m name) names) none
+
+-- a name that isn't one is none of it alone
+IsNoneOf-one : (n name : List ℕ) → bytes_eq n name ≡ false → IsNoneOf (n ∷ []) name
+IsNoneOf-one n name differs = rw differs refl
+
+-- the first 16 bytes of ids are those of the first id, and the others are those of the others
+first_piece : (id : VersionId) (ids : List VersionId) → take 16 (flat_map id_bytes (id ∷ ids)) ≡ id_bytes id
+first_piece id ids =
+    ap (λ n. take n (flat_map id_bytes (id ∷ ids))) (sym (length-id_bytes id)) ∙ take-append_seam (id_bytes id) (flat_map id_bytes ids)
+
+other_pieces : (id : VersionId) (ids : List VersionId) → drop 16 (flat_map id_bytes (id ∷ ids)) ≡ flat_map id_bytes ids
+other_pieces id ids =
+    ap (λ n. drop n (flat_map id_bytes (id ∷ ids))) (sym (length-id_bytes id)) ∙ drop-append_seam (id_bytes id) (flat_map id_bytes ids)
+
+-- some bytes are those of ids whose data is among that of these ids
+pub record AreLeft (ids : List VersionId) (left : List ℕ) : Type 0 where
+  pub rest : List VersionId
+  pub is : left ≡ flat_map id_bytes rest
+  pub within : (name : List ℕ) → IsNoneOf (map data_name ids) name → IsNoneOf (map data_name rest) name
+
+-- at first all are left
+pub AreLeft-all : (ids : List VersionId) (bytes : List ℕ) → bytes ≡ flat_map id_bytes ids → AreLeft ids bytes
+AreLeft-all ids bytes is = record {
+  rest = ids;
+  is = is;
+  within = λ name none. none;
+}
+
+-- after a piece the others are left
+next_left : (ids rest : List VersionId) (left : List ℕ) → left ≡ flat_map id_bytes rest
+    → ((name : List ℕ) → IsNoneOf (map data_name ids) name → IsNoneOf (map data_name rest) name) → 16 ≤ length left → AreLeft ids (drop 16 left)
+next_left ids [] left is within long = let no : ⊥ = omega (arith, ap length is) in absurd no
+next_left ids (id ∷ rest) left is within long = record {
+  rest = rest;
+  is = ap (drop 16) is ∙ other_pieces id rest;
+  within = λ name none. (IsNoneOf-cons (data_name id) (map data_name rest) name (within name none)).1;
+}
+
+pub AreLeft-next : (ids : List VersionId) (left : List ℕ) → AreLeft ids left → 16 ≤ length left → AreLeft ids (drop 16 left)
+AreLeft-next ids left are long = next_left ids are.rest left are.is are.within long
+
+-- the name of a piece's data is one of the data of these ids
+next_name : (ids rest : List VersionId) (left : List ℕ) → left ≡ flat_map id_bytes rest
+    → ((name : List ℕ) → IsNoneOf (map data_name ids) name → IsNoneOf (map data_name rest) name) → 16 ≤ length left
+    → (name : List ℕ) → IsNoneOf (map data_name ids) name → IsNoneOf ((codes "s/" ++ encode_lower (take 16 left)) ∷ []) name
+next_name ids [] left is within long name none = let no : ⊥ = omega (arith, ap length is) in absurd no
+next_name ids (id ∷ rest) left is within long name none =
+    let here = (IsNoneOf-cons (data_name id) (map data_name rest) name (within name none)).0 in
+    let bytes : take 16 left ≡ id_bytes id = ap (take 16) is ∙ first_piece id rest in
+    subst (λ piece. IsNoneOf ((codes "s/" ++ encode_lower piece) ∷ []) name) (sym bytes) (IsNoneOf-one (data_name id) name here)
+
+pub AreLeft-name : (ids : List VersionId) (left : List ℕ) → AreLeft ids left → 16 ≤ length left
+    → (name : List ℕ) → IsNoneOf (map data_name ids) name → IsNoneOf ((codes "s/" ++ encode_lower (take 16 left)) ∷ []) name
+AreLeft-name ids left are long = next_name ids are.rest left are.is are.within long
+
+-- a drive that lost data of these ids only goes on so with the next piece
+pub OnlyRemoves-next : (ids : List VersionId) (left piece : List ℕ) (a b c : Files) → AreLeft ids left → 16 ≤ length left → piece ≡ take 16 left
+    → OnlyRemoves (map data_name ids) a b → OnlyRemoves ((codes "s/" ++ encode_lower piece) ∷ []) b c → OnlyRemoves (map data_name ids) a c
+OnlyRemoves-next ids left piece a b c are long is first then =
+    let named = subst (λ bytes. OnlyRemoves ((codes "s/" ++ encode_lower bytes) ∷ []) b c) is then in
+    OnlyRemoves-trans (map data_name ids) a b c first
+    (OnlyRemoves-more ((codes "s/" ++ encode_lower (take 16 left)) ∷ []) (map data_name ids) b c (AreLeft-name ids left are long) named)

@@ -1,0 +1,160 @@
+//! Changes of a key: what a change makes of the key's state, and writing it.
+
+ghost use Rattle.std.specs.Prelude.{◌≡◌, ◌⊎◌, ◌<◌, ◌≤◌, IsTrue, false, IfOk, IfErr, IfSome, Err, length, slice_index_or};
+ghost use Rattle.std.specs.Option.{option_map};
+ghost use Rattle.version_list.specs.Naming.{has_id};
+ghost use Rattle.version_list.specs.State.{IsMoment, IsCanonical};
+ghost use Rattle.version_list.specs.Lawful.{IsLawful};
+ghost use Rattle.version_list.specs.Answers.{refusal_of};
+ghost use Rattle.ostore.specs.Drives.{AtEach, SomeDrive};
+ghost use Rattle.ostore.specs.KeyFiles.{key_file, StandsFor, KeyCause};
+ghost use Rattle.ostore.specs.Commits.{Changes, IsPrepared, NamesId};
+ghost use Rattle.ostore.specs.declared.commit.Unprepared.TheVariants.{NoMemory as TheNoMemory, Refused};
+
+use crate::keyfile::{Trouble, read_states};
+use crate::reply;
+use call_types::{Act, Brief, KeyRefusal, Mode, Refusal, Reply};
+use drive_base::Drive;
+use seal_file::{Bytes, seal};
+use stamp_id::{NoMemory, VersionId};
+use std::alloc::Global;
+use version_list::{ActFault, Applied, KeyState, apply, has_id, write};
+
+/// The kind of a key's file.
+const KEY_KIND: [u8; 4] = *b"OKEY";
+
+/// A change that is ready to be written: its reply, the file of the key's new state, none where the state stays, and
+/// the ids of the data that is gone then.
+#[derive(Drop)]
+pub struct Prepared {
+    pub text: Vec<u8>,
+    pub file: Option<Vec<u8>>,
+    pub gone: Bytes,
+}
+
+/// Why a change wasn't prepared.
+#[derive(Clone, Copy, Debug, PartialEq, Eq)]
+pub enum Unprepared {
+    /// Some drive failed, or showed no state, or one that names the change's id already.
+    Refused,
+    /// No memory was found.
+    NoMemory,
+}
+
+impl From<NoMemory> for Unprepared {
+    ghost from_gives = { λ _ why. why ≡ TheNoMemory };
+
+    fn from(_error: NoMemory) -> Unprepared {
+        Unprepared::NoMemory
+    }
+}
+
+/// A refusal of a key as that of a call.
+pub fn refusal_of(why: KeyRefusal) -> Refusal
+    ensures { result ≡ refusal_of why }
+{
+    match why {
+        KeyRefusal::NoSuchKey { marker } => Refusal::NoSuchKey { marker },
+        KeyRefusal::NoSuchVersion => Refusal::NoSuchVersion,
+        KeyRefusal::MarkerNamed { id, modified } => Refusal::MarkerNamed { id, modified },
+        KeyRefusal::VersionLimit => Refusal::VersionLimit,
+        KeyRefusal::NoSuchUpload => Refusal::NoSuchUpload,
+        KeyRefusal::InvalidPart => Refusal::InvalidPart,
+        KeyRefusal::PartOrder => Refusal::PartOrder,
+        KeyRefusal::PartSmall => Refusal::PartSmall,
+        KeyRefusal::UploadLimit => Refusal::UploadLimit,
+    }
+}
+
+/// What a change makes of a key's state.
+fn change(
+    alloc: Global,
+    mode: Mode,
+    now: u64,
+    state: &KeyState,
+    id: VersionId,
+    act: &Act,
+) -> Result<Prepared, Unprepared>
+    requires canonical { IsCanonical state.now }
+    requires fresh { has_id id state.now ≡ false }
+    requires moment { IsMoment now }
+    requires lawful { IsLawful act.now }
+    ensures ok { IfOk result (λ p. Changes mode act.now id now state.now p.text.items (option_map (λ f. f.items) p.file) p.gone) }
+    ensures err { IfErr result (λ why. why ≡ TheNoMemory) }
+{
+    match apply(alloc, state, mode, act, id, now) {
+        Ok(applied) => {
+            let Applied {
+                state: made,
+                done,
+                gone,
+            } = applied;
+            // A change that is done has a reply: no other brief comes.
+            let Brief::Answer(reply) = done else {
+                return Err(Unprepared::NoMemory);
+            };
+            let text = reply::text(alloc, mode, &reply, b"")?;
+            let file = state_file(alloc, &made)?;
+            Ok(Prepared { text, file, gone })
+        }
+        Err(ActFault::Refused(why)) => {
+            let reply = Reply::Refused(refusal_of(why));
+            let text = reply::text(alloc, mode, &reply, b"")?;
+            Ok(Prepared {
+                text,
+                file: None,
+                gone: Bytes::empty(alloc),
+            })
+        }
+        Err(ActFault::NoMemory) => Err(Unprepared::NoMemory),
+    }
+}
+
+/// The file of a new state, where there is one.
+fn state_file(alloc: Global, made: &Option<KeyState>) -> Result<Option<Vec<u8>>, NoMemory>
+    requires { IfSome made.now IsCanonical }
+    ensures { IfOk result (λ file. option_map (λ f. f.items) file ≡ option_map key_file made.now) }
+{
+    match made {
+        None => Ok(None),
+        Some(state) => {
+            let body = write(alloc, state)?;
+            let file = seal(alloc, KEY_KIND, body.as_slice())?;
+            Ok(Some(file))
+        }
+    }
+}
+
+/// What a change makes of the state that the drives show under a key's name.
+pub fn prepare<D: Drive>(
+    alloc: Global,
+    mode: Mode,
+    now: u64,
+    drives: &mut [D],
+    name: &str,
+    id: VersionId,
+    act: &Act,
+) -> Result<Prepared, Unprepared>
+    requires some { 0 < length drives.old }
+    requires moment { IsMoment now }
+    requires lawful { IsLawful act.now }
+    ensures ok { IfOk result (λ p. (d : D) → IsPrepared mode act.now id now
+        (λ state. IsTrue (D.tells (slice_index_or drives.old 0 d)) → StandsFor ((D.files (slice_index_or drives.old 0 d)).shown name.now) state)
+        p.text.items (option_map (λ f. f.items) p.file) p.gone) }
+    ensures refused { result ≡ Err Refused → (d : D)
+        → SomeDrive (λ old new. KeyCause (D.tells old) ((D.files old).shown name.now) (D.count old) (D.count new)) drives.old drives.new
+        ⊎ NamesId id (λ state. IsTrue (D.tells (slice_index_or drives.old 0 d)) → StandsFor ((D.files (slice_index_or drives.old 0 d)).shown name.now) state) }
+    ensures files { AtEach (λ old new. IsTrue (D.tells old) → D.files new ≡ D.files old) drives.old drives.new }
+    ensures tells { AtEach (λ old new. D.tells new ≡ D.tells old) drives.old drives.new }
+    ensures counts { AtEach (λ old new. D.count old ≤ D.count new) drives.old drives.new }
+{
+    let state = match read_states(alloc, drives, name) {
+        Ok(state) => state,
+        Err(Trouble::NoMemory) => return Err(Unprepared::NoMemory),
+        Err(_) => return Err(Unprepared::Refused),
+    };
+    if has_id(&state, id) {
+        return Err(Unprepared::Refused);
+    }
+    change(alloc, mode, now, &state, id, act)
+}

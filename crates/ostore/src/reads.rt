@@ -1,0 +1,160 @@
+//! Serving the requests that read a key: GET.
+
+ghost use Rattle.std.specs.Prelude.{ℕ, List, Option, ◌++◌, ◌≡◌, ◌+◌, ◌≤◌, ◌<◌, length, map, [], slice_index_or, IfOk, OnOk, IsTrue, Err, Ok, false};
+ghost use Rattle.version_list.specs.Naming.{is_marker};
+ghost use Rattle.ostore.specs.Drives.{AllTell, AtEach};
+ghost use Rattle.ostore.specs.Finding.{GivesVersion, LacksBody, FoundOn, UnreadCause};
+ghost use Rattle.ostore.specs.Heads.{IsKey, SpellsGet};
+ghost use Rattle.ostore.specs.KeyFiles.{ReadsData};
+ghost use Rattle.ostore.specs.Objects.{Objects};
+ghost use Rattle.ostore.specs.Session.{TurnOver, Agrees, wires};
+ghost use Rattle.ostore.specs.Slots.{Drawn};
+ghost use Rattle.ostore.specs.Store.{Ready};
+ghost use Rattle.ostore.specs.declared.reads.Unread.TheVariants.{NoMemory as TheNoMemory, Refused};
+ghost use Rattle.ostore.specs.Replies.{reply_text};
+ghost use Rattle.version_list.specs.Answers.{refusal_of};
+ghost use Rattle.call_types.specs.declared.reply.Reply.TheVariants.{Refused as ReplyRefused};
+
+use crate::commit::refusal_of;
+use crate::connection::{ConnectionEnd, Turn};
+use crate::files;
+use crate::keyfile::{Trouble, read_data, read_states};
+use crate::making::answer;
+use crate::reply::{self, unavailable};
+use call_types::{KeyRefusal, Mode, Pick, Reply, Version, What};
+use drive_base::Drive;
+use io_base::Sink;
+use stamp_id::NoMemory;
+use std::alloc::Global;
+use version_list::find;
+
+/// Why a key wasn't read.
+#[derive(Clone, Copy, Debug, PartialEq, Eq)]
+pub enum Unread {
+    /// Some drive failed, or showed no state, or drive 0 didn't show the data of the version with its print.
+    Refused,
+    /// No memory was found.
+    NoMemory,
+}
+
+impl From<NoMemory> for Unread {
+    ghost from_gives = { λ _ why. why ≡ TheNoMemory };
+
+    fn from(_error: NoMemory) -> Unread {
+        Unread::NoMemory
+    }
+}
+
+/// Reads the data under a name from drive 0.
+fn read_first<D: Drive>(
+    alloc: Global,
+    drives: &mut [D],
+    name: &str,
+    print: [u8; 32],
+) -> Result<Vec<u8>, Trouble>
+    requires some { 0 < length drives.old }
+    ensures read { (d : D) → ReadsData (D.tells (slice_index_or drives.old 0 d)) ((D.files (slice_index_or drives.old 0 d)).shown name.now) print result
+        (D.count (slice_index_or drives.old 0 d)) (D.count (slice_index_or drives.new 0 d)) }
+    ensures calm { OnOk result (AtEach (λ old new. D.count new ≡ D.count old) drives.old drives.new) }
+    ensures files { AtEach (λ old new. IsTrue (D.tells old) → D.files new ≡ D.files old) drives.old drives.new }
+    ensures tells { AtEach (λ old new. D.tells new ≡ D.tells old) drives.old drives.new }
+    ensures counts { AtEach (λ old new. D.count old ≤ D.count new) drives.old drives.new }
+{
+    read_data(alloc, &mut drives[0], name, print)
+}
+
+/// The text of the reply to a GET of this version.
+fn found<D: Drive>(
+    alloc: Global,
+    mode: Mode,
+    drives: &mut [D],
+    version: &Version,
+) -> Result<Vec<u8>, Unread>
+    requires some { 0 < length drives.old }
+    requires object { is_marker version.now.what ≡ false }
+    ensures ok { IfOk result (λ text. (d : D) → GivesVersion mode (D.tells (slice_index_or drives.old 0 d)) (D.files (slice_index_or drives.old 0 d)).shown version.now text.items) }
+    ensures calm { OnOk result (AtEach (λ old new. D.count new ≡ D.count old) drives.old drives.new) }
+    ensures refused { result ≡ Err Refused → (d : D) → LacksBody (D.tells (slice_index_or drives.old 0 d)) (D.files (slice_index_or drives.old 0 d)).shown version.now.what
+        (D.count (slice_index_or drives.old 0 d)) (D.count (slice_index_or drives.new 0 d)) }
+    ensures files { AtEach (λ old new. IsTrue (D.tells old) → D.files new ≡ D.files old) drives.old drives.new }
+    ensures tells { AtEach (λ old new. D.tells new ≡ D.tells old) drives.old drives.new }
+    ensures counts { AtEach (λ old new. D.count old ≤ D.count new) drives.old drives.new }
+{
+    match &version.what {
+        What::Marker => unreachable!(),
+        What::Object { data_id, print, .. } => {
+            let Ok(name) = files::data_name(alloc, *data_id) else {
+                return Err(Unread::NoMemory);
+            };
+            match read_first(alloc, drives, name.as_str(), *print) {
+                Ok(body) => Ok(reply::found(alloc, mode, version, body.as_slice())?),
+                Err(Trouble::NoMemory) => Err(Unread::NoMemory),
+                Err(_) => Err(Unread::Refused),
+            }
+        }
+    }
+}
+
+/// The text of the reply to a GET that the key's state refuses.
+fn refused(alloc: Global, mode: Mode, why: KeyRefusal) -> Result<Vec<u8>, NoMemory>
+    ensures { IfOk result (λ text. text.items ≡ reply_text mode (ReplyRefused (refusal_of why)) []) }
+{
+    reply::text(alloc, mode, &Reply::Refused(refusal_of(why)), b"")
+}
+
+/// The text of the reply to a GET of the key whose file has this name.
+fn read_key<D: Drive>(
+    alloc: Global,
+    mode: Mode,
+    drives: &mut [D],
+    name: &str,
+    pick: &Pick,
+) -> Result<Vec<u8>, Unread>
+    requires some { 0 < length drives.old }
+    ensures ok { IfOk result (λ text. FoundOn D.tells D.files D.count mode pick.now name.now text.items drives.old) }
+    ensures calm { OnOk result (AtEach (λ old new. D.count new ≡ D.count old) drives.old drives.new) }
+    ensures refused { result ≡ Err Refused → UnreadCause D.tells D.files D.count pick.now name.now drives.old drives.new }
+    ensures files { AtEach (λ old new. IsTrue (D.tells old) → D.files new ≡ D.files old) drives.old drives.new }
+    ensures tells { AtEach (λ old new. D.tells new ≡ D.tells old) drives.old drives.new }
+    ensures counts { AtEach (λ old new. D.count old ≤ D.count new) drives.old drives.new }
+{
+    let state = match read_states(alloc, drives, name) {
+        Ok(state) => state,
+        Err(Trouble::NoMemory) => return Err(Unread::NoMemory),
+        Err(_) => return Err(Unread::Refused),
+    };
+    match find(&state, pick) {
+        Ok(place) => found(alloc, mode, drives, &state.versions.as_slice()[place]),
+        Err(why) => Ok(refused(alloc, mode, why)?),
+    }
+}
+
+/// Reads the version that is picked, and answers.
+pub fn serve_get<K: Sink, D: Drive>(
+    alloc: Global,
+    mode: Mode,
+    sink: &mut K,
+    drives: &mut [D],
+    key: &[u8],
+    pick: Pick,
+) -> Turn
+    requires some { 0 < length drives.old }
+    requires is_key { IsKey key.now }
+    ensures turn { (clock : Option ℕ) (number : ℕ) (drawn : Drawn) (head : List ℕ) → SpellsGet key.now pick head
+        → (objects : Objects) → Agrees drawn objects → ((slot : ℕ) → drawn slot ≤ number + number)
+        → (AllTell (map D.tells drives.old) → Ready D.files number (number + number) objects drives.old)
+        → (left : Option (List ℕ)) (reads : ℕ)
+        → TurnOver clock mode D.tells D.files D.count number head objects
+        drives.old (wires left (K.given sink.old) reads (K.faults sink.old)) result
+        drives.new (wires left (K.given sink.new) reads (K.faults sink.new)) drawn }
+    ensures tells { map D.tells drives.new ≡ map D.tells drives.old }
+{
+    let Ok(name) = files::name(alloc, key) else {
+        return Turn::Ended(ConnectionEnd::NoMemory);
+    };
+    match read_key(alloc, mode, drives, name.as_str(), &pick) {
+        Ok(text) => answer(sink, text.as_slice()),
+        Err(Unread::Refused) => answer(sink, unavailable()),
+        Err(Unread::NoMemory) => Turn::Ended(ConnectionEnd::NoMemory),
+    }
+}

@@ -1,0 +1,127 @@
+//! Takes data that no version names any more off the drives.
+
+ghost use Rattle.std.specs.Prelude.{◌≡◌, ◌≤◌, ◌++◌, ◌∷◌, [], IsTrue, IfOk, List, codes, map};
+ghost use Rattle.std.specs.List.{flat_map};
+ghost use Rattle.std.specs.String.{string_bytes};
+ghost use Rattle.hex.specs.Hex.{encode_lower};
+ghost use Rattle.stamp_id.specs.VersionId.{id_bytes};
+ghost use Rattle.stamp_id.specs.declared.version.VersionId.{VersionId};
+ghost use Rattle.ostore.specs.Drives.{AtEach};
+ghost use Rattle.ostore.specs.KeyFiles.{data_name};
+ghost use Rattle.ostore.specs.Store.{OnlyRemoves};
+
+use drive_base::Drive;
+use std::alloc::{AllocError, Global};
+
+/// The name of the data of the id with these bytes: `s/` and the bytes in hex.
+fn name_of_id(alloc: Global, id: &[u8; 16]) -> Result<String, AllocError>
+    ensures { IfOk result (λ name. string_bytes name ≡ codes "s/" ++ encode_lower id.now) }
+{
+    let digits = hex::encode(alloc, *id)?;
+    let mut name = String::from_str(alloc, "s/")?;
+    name.push_str(digits.as_str())?;
+    Ok(name)
+}
+
+/// Removes the file of this name from every drive, and passes failures over.
+fn remove_all<D: Drive>(drives: &mut [D], name: &str)
+    ensures removes { AtEach (λ old new. IsTrue (D.tells old) → OnlyRemoves (name.now ∷ []) (D.files old) (D.files new)) drives.old drives.new }
+    ensures tells { AtEach (λ old new. D.tells new ≡ D.tells old) drives.old drives.new }
+    ensures counts { AtEach (λ old new. D.count old ≤ D.count new) drives.old drives.new }
+{
+    for drive in drives.iter_mut() {
+        let _ = drive.remove(name);
+    }
+}
+
+/// Removes the data of the id with these bytes from every drive. Without memory for its name it removes nothing.
+fn remove_one<D: Drive>(alloc: Global, drives: &mut [D], id: &[u8; 16])
+    ensures removes { AtEach (λ old new. IsTrue (D.tells old)
+        → OnlyRemoves ((codes "s/" ++ encode_lower id.now) ∷ []) (D.files old) (D.files new)) drives.old drives.new }
+    ensures tells { AtEach (λ old new. D.tells new ≡ D.tells old) drives.old drives.new }
+    ensures counts { AtEach (λ old new. D.count old ≤ D.count new) drives.old drives.new }
+{
+    match name_of_id(alloc, id) {
+        Ok(name) => remove_all(drives, name.as_str()),
+        Err(_) => (),
+    }
+}
+
+/// Removes the data of these ids, 16 bytes each, from every drive. A failure is passed over, also want of memory: what is
+/// left then is no longer named by any version.
+pub fn remove_data<D: Drive>(alloc: Global, drives: &mut [D], gone: &[u8])
+    ensures removes { (ids : List VersionId) → gone.now ≡ flat_map id_bytes ids
+        → AtEach (λ old new. IsTrue (D.tells old) → OnlyRemoves (map data_name ids) (D.files old) (D.files new)) drives.old drives.new }
+    ensures tells { AtEach (λ old new. D.tells new ≡ D.tells old) drives.old drives.new }
+    ensures counts { AtEach (λ old new. D.count old ≤ D.count new) drives.old drives.new }
+{
+    let mut left = gone;
+    while let Some((id, rest)) = left.split_first_chunk::<16>() {
+        remove_one(alloc, drives, id);
+        left = rest;
+    }
+}
+
+#[cfg(test)]
+mod tests {
+    use super::remove_data;
+    use crate::files::write_all;
+    use drive_base::{Drive, DriveFault};
+    use drive_memory::MemDrive;
+    use std::test::Fail;
+
+    const FIRST: &str = "s/01010101010101010101010101010101";
+
+    const SECOND: &str = "s/abababababababababababababababab";
+
+    const OTHER: &str = "s/02020202020202020202020202020202";
+
+    /// The bytes of the ids whose data is `FIRST` and `SECOND`.
+    fn gone() -> [u8; 32] {
+        let mut gone = [0x01; 32];
+        for place in 16..32usize {
+            gone[place] = 0xab;
+        }
+        gone
+    }
+
+    /// What a drive says of the three files: their lengths, or why there is none.
+    fn sizes<D: Drive>(drive: &mut D) -> [Result<u64, DriveFault>; 3] {
+        [drive.size(FIRST), drive.size(SECOND), drive.size(OTHER)]
+    }
+
+    #[test]
+    fn data_is_removed_from_every_drive(rt: HostRuntime) -> Result<(), Fail> {
+        let mut drives = [MemDrive::new(rt.alloc()), MemDrive::new(rt.alloc())];
+        for name in [FIRST, SECOND, OTHER] {
+            prove!(name.len() <= 1129);
+            let written = write_all(&mut drives, "w1", name, b"abc");
+            assert!(rt; written.is_ok());
+        }
+        remove_data(rt.alloc(), &mut drives, &gone());
+        let want = [Err(DriveFault::Absent), Err(DriveFault::Absent), Ok(3)];
+        assert_eq!(rt; sizes(&mut drives[0]), want);
+        assert_eq!(rt; sizes(&mut drives[1]), want);
+        Ok(())
+    }
+
+    #[test]
+    fn lost_drives_and_absent_data_are_passed_over(rt: HostRuntime) -> Result<(), Fail> {
+        let mut drives = [MemDrive::new(rt.alloc()), MemDrive::new(rt.alloc())];
+        for name in [SECOND, OTHER] {
+            prove!(name.len() <= 1129);
+            let written = write_all(&mut drives, "w1", name, b"abc");
+            assert!(rt; written.is_ok());
+        }
+        drives[0].lose();
+        remove_data(rt.alloc(), &mut drives, &gone());
+        drives[0].back();
+        assert_eq!(rt;
+            sizes(&mut drives[0]),
+            [Err(DriveFault::Absent), Ok(3), Ok(3)]
+        );
+        let absent = Err(DriveFault::Absent);
+        assert_eq!(rt; sizes(&mut drives[1]), [absent, absent, Ok(3)]);
+        Ok(())
+    }
+}
