@@ -1,0 +1,4 @@
+pub mod Differences
+pub mod Interpolation
+pub mod CodewordLemmas
+pub mod BlockLemmas
