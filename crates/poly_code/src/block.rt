@@ -1,9 +1,9 @@
 //! The arithmetic of whole blocks.
 
-ghost use Rattle.std.specs.Prelude.{◌≡◌, ℕ, ◌*◌, ◌<◌, length, slice_index, bit_xor};
+ghost use Rattle.std.specs.Prelude.{◌≡◌, ℕ, ◌*◌, ◌<◌, length, slice_index};
 ghost use Rattle.gf256.specs.Field.{product};
 ghost use Rattle.poly_code.specs.Codeword.{AreDistinct};
-ghost use Rattle.poly_code.specs.Columns.{byte_of_block};
+ghost use Rattle.poly_code.specs.Columns.{AddsProduct, byte_of_block};
 ghost use Rattle.poly_code.specs.Lagrange.{IsValueThrough};
 
 use crate::weight::weight_of;
@@ -29,8 +29,29 @@ pub fn fill_block(rows: &[u8], have: &[u8], point: u8, out: &mut [u8])
 /// Adds the product of an element with each byte of a block to the bytes of another.
 pub fn add_product(element: u8, source: &[u8], into: &mut [u8])
     requires { length source.now ≡ length into.old }
-    ensures { (k : ℕ) → k < length into.old →
-        slice_index into.new k ≡ bit_xor (slice_index into.old k) (product element (slice_index source.now k)) }
+    ensures { AddsProduct element source.now into.old into.new }
+{
+    if source.len() < 256 {
+        add_byte_by_byte(element, source, into);
+        return;
+    }
+    add_by_table(element, source, into);
+}
+
+/// The same, with one multiplication a byte: for short blocks.
+fn add_byte_by_byte(element: u8, source: &[u8], into: &mut [u8])
+    requires { length source.now ≡ length into.old }
+    ensures { AddsProduct element source.now into.old into.new }
+{
+    for k in 0..into.len() {
+        into[k] ^= mul(element, source[k]);
+    }
+}
+
+/// The same, with the products of the element looked up.
+fn add_by_table(element: u8, source: &[u8], into: &mut [u8])
+    requires { length source.now ≡ length into.old }
+    ensures { AddsProduct element source.now into.old into.new }
 {
     let products = products_of(element);
     for k in 0..into.len() {
