@@ -1,0 +1,7 @@
+//! SHA-256 of several blocks at once.
+#![tactic(auto)]
+
+mod constants;
+mod rounds;
+mod window;
+mod words;
