@@ -1,10 +1,10 @@
 -- What holds of one of four lanes.
-use Rattle.std.proofs.Common.{◌≡◌, ℕ, zero, suc, ◌+◌, ◌-◌, ◌*◌, ◌%◌, ◌<◌, ◌≤◌, List, [], length, slice_index, slice_set, sym, ◌∙◌, arith}
+use Rattle.std.proofs.Common.{◌≡◌, refl, ℕ, zero, suc, ◌+◌, ◌-◌, ◌*◌, ◌%◌, ◌<◌, ◌≤◌, List, [], length, slice_index, slice_set, sym, ◌∙◌, arith}
 use Rattle.std.proofs.Math.ListN.{get_or-map}
 use Rattle.std.proofs.lemmas.List.{length-map, map-set}
 use Rattle.sha2.specs.Sha256.{IsWindow, add32, round, round_constants, rounds, schedule, window_word, word_at}
 use Rattle.sha2.proofs.Schedule256.{IsWindow_first, IsWindow_next, rounds_next, window_word_at, window_word_place}
-use Rattle.hash_lanes.specs.Lanes.{lane_at, window_of}
+use Rattle.hash_lanes.specs.Lanes.{lane, lane_at, one_of, window_of}
 
 -- a word of one message's window
 pub slice_index-window_of : (vectors : List (List ℕ)) (j k : ℕ) → slice_index (window_of j vectors) k ≡ lane_at vectors k j
@@ -63,3 +63,19 @@ rounds_more vectors chunk h v next j turn place low window held is_round =
     sym (slice_index-window_of vectors j place) ∙ (rw (at, back) at (window.1 place low)) in
     let spelled : 16 * turn + (place + 1) ≡ t + 1 = omega arith in
     rw (is_round, word, held, spelled) (sym (rounds_next h (schedule chunk 48) t))
+
+-- a word of one message's hash value
+pub slice_index-lane : (vectors : List (List ℕ)) (j k : ℕ) → k < 8 → slice_index (lane j vectors) k ≡ lane_at vectors k j
+slice_index-lane vectors j zero low = refl
+slice_index-lane vectors j (suc zero) low = refl
+slice_index-lane vectors j (suc (suc zero)) low = refl
+slice_index-lane vectors j (suc (suc (suc zero))) low = refl
+slice_index-lane vectors j (suc (suc (suc (suc zero)))) low = refl
+slice_index-lane vectors j (suc (suc (suc (suc (suc zero))))) low = refl
+slice_index-lane vectors j (suc (suc (suc (suc (suc (suc zero)))))) low = refl
+slice_index-lane vectors j (suc (suc (suc (suc (suc (suc (suc zero))))))) low = refl
+slice_index-lane vectors j (suc (suc (suc (suc (suc (suc (suc (suc k)))))))) low = absurd (omega arith)
+
+-- what is made of each of four messages is made of the one in a lane
+pub one_of_map : (f : List ℕ → List ℕ) (a b c d : List ℕ) (j : ℕ) → j < 4 → one_of (f a) (f b) (f c) (f d) j ≡ f (one_of a b c d j)
+one_of_map f a b c d = below_four (λ j. one_of (f a) (f b) (f c) (f d) j ≡ f (one_of a b c d j)) refl refl refl refl

@@ -2,6 +2,8 @@
 #![tactic(auto)]
 
 mod constants;
+mod four;
+mod padding;
 mod rounds;
 mod window;
 mod words;
