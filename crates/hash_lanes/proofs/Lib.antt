@@ -1,3 +1,4 @@
+pub mod Fronts
 pub mod LaneLemmas
 pub mod Messages
 pub mod Shifts
