@@ -13,3 +13,6 @@ mod words;
 
 pub use blocks::hash_blocks;
 pub use equal::hash_equal_blocks;
+
+#[cfg(test)]
+mod tests;
