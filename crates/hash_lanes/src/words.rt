@@ -79,13 +79,14 @@ pub(crate) fn ch(x: u32x4, y: u32x4, z: u32x4) -> u32x4
     xor(and(x, y), and(not(x), z))
 }
 
-/// Bits that two or three of the words have.
+/// Bits that two or three of the words have. It takes two operations fewer than the standard's form, since
+/// one round's `x ^ y` is the next round's `y ^ z`.
 #[inline(always)]
 pub(crate) fn maj(x: u32x4, y: u32x4, z: u32x4) -> u32x4
     ensures { (j : ℕ) → j < 4
         → slice_index result j ≡ maj (slice_index x j) (slice_index y j) (slice_index z j) }
 {
-    xor(xor(and(x, y), and(x, z)), and(y, z))
+    xor(y, and(xor(x, y), xor(y, z)))
 }
 
 #[inline(always)]
