@@ -1,9 +1,9 @@
 #!/usr/bin/env bash
-# Times SHA-256 of 1, 4, 6, 8 and 12 blocks of 64 KiB and of 256 KiB: `hash_equal_blocks` and `hash_blocks` of
+# Times SHA-256 of 1, 3, 4, 6, 8 and 12 blocks of 64 KiB and of 256 KiB: `hash_equal_blocks` and `hash_blocks` of
 # hash_lanes, `sha2` block after block, and OpenSSL's one block after another. It makes a temporary repository with a
 # copy of the crate and a small program, proves that, builds it and runs it, which takes some minutes the first time.
-# Each line has MB/s (10^6 bytes of blocks in a second of processor time), the best of five turns that the three take
-# in turn, and the ratios of hash_equal_blocks to `sha2` and to OpenSSL. A word is handed on to `rt run`, as in
+# Each line has MB/s (10^6 bytes of blocks in a second of processor time), each the best of several turns, and the
+# ratios of hash_equal_blocks to `sha2` and to OpenSSL. A word is handed on to `rt run`, as in
 # `bench/hash.sh --cpu=x86-64-v3`.
 set -euo pipefail
 
@@ -32,11 +32,11 @@ const MOST: usize = 12;
 
 const LONGEST: usize = 262_144;
 
-/// The bytes that one measure hashes, at least.
-const WORK: usize = 12_582_912;
+/// The bytes that one measure hashes, or up to one call fewer.
+const WORK: usize = 6_291_456;
 
-/// How many turns each has, of which the best counts.
-const TURNS: usize = 5;
+/// How many turns each of the three has, one after another, of which the best counts.
+const TURNS: usize = 15;
 
 fn main(rt: HostRuntime) -> ExitCode {
     match measure(&rt) {
@@ -54,7 +54,7 @@ fn measure(rt: &HostRuntime) -> Option<()> {
         bytes[i] = (i % 251) as u8;
     }
     for size in [65_536usize, LONGEST] {
-        for count in [1usize, 4, 6, 8, 12] {
+        for count in [1usize, 3, 4, 6, 8, 12] {
             let total = size.checked_mul(count)?;
             let blocks = bytes.get(..total)?;
             measure_blocks(rt, blocks, size, count)?;
@@ -63,7 +63,7 @@ fn measure(rt: &HostRuntime) -> Option<()> {
     Some(())
 }
 
-/// Prints the best times of five turns over `count` blocks of `size` bytes.
+/// Prints the best times of the turns over `count` blocks of `size` bytes.
 fn measure_blocks(rt: &HostRuntime, bytes: &[u8], size: usize, count: usize) -> Option<()>
     requires { length bytes.now ≡ size * count }
 {
@@ -145,20 +145,31 @@ fn time_single(rt: &HostRuntime, bytes: &[u8], size: usize, digests: &mut [[u8; 
 }
 END
 
-speed() {
-    openssl speed -mr -seconds 1 -bytes "$1" -evp sha256 2>/dev/null | awk -F: '$1 == "+F" { printf "%.0f", $NF / 1e6 }'
-}
-
 cd "$work/crates/hash_bench"
 if ! rt run "$@" >"$work/out" 2>"$work/log"; then
     cat "$work/out" "$work/log" >&2
     echo "hash.sh: the program was not proved, built or run" >&2
     exit 1
 fi
+
+# MB/s of OpenSSL over messages of so many bytes, the best of what the file of its speeds has of them.
+best() {
+    awk -v bytes="$1" '$1 == bytes && $2 > best { best = $2 } END { printf "%.0f", best }' "$work/openssl"
+}
+
+speeds() {
+    for bytes in 65536 262144; do
+        openssl speed -mr -seconds 1 -bytes "$bytes" -evp sha256 2>/dev/null |
+            awk -F: -v bytes="$bytes" '$1 == "+F" { print bytes, $NF / 1e6 }' >>"$work/openssl"
+    done
+}
+
+# OpenSSL is timed before the program and after it, so that a load on the machine bears on both.
+speeds
+./out/hash_bench >"$work/out"
+speeds
 echo "blocks   bytes  hash_equal_blocks  hash_blocks  sha2  OpenSSL  to sha2  to OpenSSL"
-small="$(speed 65536)"
-large="$(speed 262144)"
-grep -E '^[0-9]+ [0-9]+ ' "$work/out" | awk -v small="$small" -v large="$large" '{
+awk -v small="$(best 65536)" -v large="$(best 262144)" '{
     openssl = $2 == 65536 ? small : large
     printf "%6d %7d %18d %12d %5d %8d %8.2f %11.2f\n", $1, $2, $3, $4, $5, openssl, $3 / $5, $3 / openssl
-}'
+}' "$work/out"

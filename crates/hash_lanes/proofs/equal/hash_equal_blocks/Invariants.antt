@@ -3,7 +3,5 @@ use Rattle.hash_lanes.specs.Blocks.{block_digests}
 use Rattle.hash_lanes.proofs.equal.hash_equal_blocks.Given as goal
 
 abbrev pub invariant-groups : goal.invariant-groups
-invariant-groups l = take (4 * l.group) l.digests ≡ take (4 * l.group) (block_digests l.size l.bytes (length l.digests))
-
-abbrev pub invariant-rest : goal.invariant-rest
-invariant-rest l = take l.at l.digests ≡ take l.at (block_digests l.size l.bytes (length l.digests))
+invariant-groups l =
+    take (4 * l.group) l.digests ≡ take (4 * l.group) (block_digests l.size l.bytes (length l.fn.digests))
