@@ -15,6 +15,7 @@ get_or-digests_of blocks i default low = get_or-map (λ (block : Bor (List ℕ))
 pub length-digests_of : (blocks : List (Bor (List ℕ))) → length (digests_of blocks) ≡ length blocks
 length-digests_of blocks = length-map blocks (λ (block : Bor (List ℕ)). sha256 block.now)
 
+-- the same, for a buffer of blocks
 pub length-block_digests : (size : ℕ) (bytes : List ℕ) (count : ℕ) → length (block_digests size bytes count) ≡ count
 length-block_digests size bytes count = length-map-range_with_len (λ (j : ℕ). sha256 (block_at size bytes j)) 0 count
 

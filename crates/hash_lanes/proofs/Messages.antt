@@ -61,7 +61,8 @@ end_of_from m copied chunks ys end k r er eend ecopied echunks eys =
     let marked : chunks ≡ rest ++ mark ∷ replicate (127 - r) none =
     echunks ∙ rw (ecopied, drop-replicate r 128 none, zeros) (ap (λ (i : ℕ). slice_set (rest ++ none ∷ replicate (127 - r) none) i mark) (sym long))
     ∙ set-append_seam rest none (replicate (127 - r) none) mark in
-    let total : length chunks ≡ 128 = omega (arith, ap length marked, length-append rest (mark ∷ replicate (127 - r) none), length-replicate (127 - r) none) in
+    let total : length chunks ≡ 128 =
+    omega (arith, ap length marked, length-append rest (mark ∷ replicate (127 - r) none), length-replicate (127 - r) none) in
     let eight : length ys ≡ 8 = rw eys refl in
     let place : end - 8 ≡ length rest + suc z = omega arith in
     let front : take (end - 8) chunks ≡ rest ++ (mark ∷ replicate z none) =

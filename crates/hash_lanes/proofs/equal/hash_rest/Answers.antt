@@ -43,7 +43,13 @@ returns-then-digests-at-eq3 c held =
     let two_long : length two ≡ count = length-set one (at + 1) b ∙ one_long in
     let all_long : length all ≡ count = length-set two (at + 2) d ∙ two_long in
     let second : at + 1 + 1 ≡ at + 2 = omega arith in
-    let first_front = front_one old wanted at a (omega arith) (omega arith) (a_is ∙ sym (get_or-block_digests size bytes count at (omega arith))) held in
-    let second_front = front_one one wanted (at + 1) b (omega arith) (omega arith) (b_is ∙ sym (get_or-block_digests size bytes count (at + 1) (omega arith))) first_front in
-    let third_front = front_one two wanted (at + 2) d (omega arith) (omega arith) (d_is ∙ sym (get_or-block_digests size bytes count (at + 2) (omega arith))) (rw second at second_front) in
+    let first_front =
+    front_one old wanted at a (omega arith) (omega arith)
+    (a_is ∙ sym (get_or-block_digests size bytes count at (omega arith))) held in
+    let second_front =
+    front_one one wanted (at + 1) b (omega arith) (omega arith)
+    (b_is ∙ sym (get_or-block_digests size bytes count (at + 1) (omega arith))) first_front in
+    let third_front =
+    front_one two wanted (at + 2) d (omega arith) (omega arith)
+    (d_is ∙ sym (get_or-block_digests size bytes count (at + 2) (omega arith))) (rw second at second_front) in
     sym (take_all (at + 2 + 1) all (omega arith)) ∙ third_front ∙ take_all (at + 2 + 1) wanted (omega arith)

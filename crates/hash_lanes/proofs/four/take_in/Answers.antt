@@ -16,5 +16,6 @@ chunks-preserved c j low =
     let place : 64 * i ≡ i * 64 = omega arith in
     let chunk : List ℕ → List ℕ = λ m. take (64 * i + 64 - 64 * i) (drop (64 * i) m) in
     let parts = one_of_map chunk c.args.a.now c.args.b.now c.args.c.now c.args.d.now j low in
-    c.compress.ensures j low
-    ∙ rw (parts, width, place, c.chunks.invariant j low, hash_after_next (lane j c.args.hash.now) (one_of c.args.a.now c.args.b.now c.args.c.now c.args.d.now j) i) refl
+    let message = one_of c.args.a.now c.args.b.now c.args.c.now c.args.d.now j in
+    let next = hash_after_next (lane j c.args.hash.now) message i in
+    c.compress.ensures j low ∙ rw (parts, width, place, c.chunks.invariant j low, next) refl
