@@ -1,6 +1,5 @@
 -- How a chain of parts is spelled, where each part keeps a fact and is spelled by a function.
 use Rattle.std.proofs.Common.{◌≡◌, ℕ, ◌^◌, ◌<◌, Bool, true, List, [], ◌++◌, length, refl, sym, ap, subst, ◌∙◌}
-use Rattle.std.proofs.lemmas.List.{append-nil}
 use Rattle.std.specs.Int.{Width, w8, w16, w32, w64}
 use Rattle.field_reader.specs.Format.{Format, ◌>>=◌, done, field, number, with_rule}
 use Rattle.field_reader.specs.Spelling.{IsBytes, number_bytes}
@@ -16,11 +15,11 @@ itself bytes = bytes
 abbrev pub nothing : {A : Type 0} → A → List ℕ
 nothing value = []
 
--- the same spelling, with what is kept told in other words
-pub retold : {A : Type 0} (part : Format A) (P Q : A → Type 0) (p : A → List ℕ) → ((a : A) → P a → Q a) → ((a : A) → Q a → P a) → IsSpelled part (Kept P p) → IsSpelled part (Kept Q p)
-retold part P Q p into out_of one = told_spelled part (Kept P p) (Kept Q p)
-    (λ a text bytes k. record { keeps = into a k.keeps; is = k.is })
-    (λ a text k. record { keeps = out_of a k.keeps; is = k.is })
+-- the same spelling, told in other words
+pub retold : {A : Type 0} (part : Format A) (P Q : A → Type 0) (p q : A → List ℕ) → ((a : A) → P a → Q a) → ((a : A) → Q a → P a) → ((a : A) → p a ≡ q a) → IsSpelled part (Kept P p) → IsSpelled part (Kept Q q)
+retold part P Q p q into out_of same one = told_spelled part (Kept P p) (Kept Q q)
+    (λ a text bytes k. record { keeps = into a k.keeps; is = k.is ∙ same a })
+    (λ a text k. record { keeps = out_of a k.keeps; is = k.is ∙ sym (same a) })
     one
 
 -- so many bytes
@@ -70,14 +69,14 @@ pub record Both {A B : Type 0} (P : A → Type 0) (Q : A → B → Type 0) (firs
 
 -- one part and then the rest, where the value shows the part
 pub then_kept : {A B : Type 0} (part : Format A) (rest : A → Format B) (P : A → Type 0) (p : A → List ℕ) (Q : A → B → Type 0) (q : B → List ℕ) (first : B → A)
-    → IsSpelled part (Kept P p) → ((a : A) → IsSpelled (rest a) (Kept (Q a) q)) → ((a : A) (b : B) → Q a b → a ≡ first b)
+    → IsSpelled part (Kept P p) → ((a : A) → IsSpelled (rest a) (Kept (Q a) q)) → ((a : A) (b : B) → P a → Q a b → a ≡ first b)
     → IsSpelled (part >>= rest) (Kept (Both P Q first) (λ b. p (first b) ++ q b))
 then_kept {A} {B} part rest P p Q q first one others shows =
     let First : A → List ℕ → Type 0 = Kept P p in
     let Rest : A → B → List ℕ → Type 0 = λ a. Kept (Q a) q in
     let New : B → List ℕ → Type 0 = Kept (Both P Q first) (λ b. p (first b) ++ q b) in
     let into : (b : B) (text : List ℕ) → IsBytes text → Then First Rest b text → New b text = λ b text bytes t.
-    let same : t.first ≡ first b = shows t.first b t.is_rest.keeps in
+    let same : t.first ≡ first b = shows t.first b t.is_first.keeps t.is_rest.keeps in
     record {
       keeps = record { part = subst P same t.is_first.keeps; rest = subst (λ (a : A). Q a b) same t.is_rest.keeps };
       is = t.whole ∙ ap (λ (x : List ℕ). x ++ t.back) (t.is_first.is ∙ ap p same) ∙ ap (λ (x : List ℕ). p (first b) ++ x) t.is_rest.is;

@@ -1,5 +1,5 @@
 -- The texts that spell an id, and the id of 16 bytes.
-use Rattle.std.proofs.Common.{All, ◌≡◌, ℕ, ◌/◌, ◌%◌, ◌^◌, ◌<◌, true, List, ◌++◌, length, take, drop, refl, sym, ap, subst, ◌∙◌, arith, inl, inr}
+use Rattle.std.proofs.Common.{All, ◌≡◌, ℕ, ◌/◌, ◌%◌, ◌^◌, ◌<◌, true, List, ◌++◌, length, take, drop, refl, ap, subst, ◌∙◌, arith, inl, inr}
 use Rattle.std.specs.Int.{w64, to_be_bytes, from_be_bytes}
 use Rattle.std.proofs.lemmas.List.{length-take, length-drop, take-append-drop, get_or_past}
 use Rattle.std.proofs.lemmas.Bool.{cases_lt}
