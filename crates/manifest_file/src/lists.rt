@@ -27,6 +27,13 @@ impl Parts {
         Parts(parts)
     }
 
+    /// The parts, with their memory.
+    pub fn into_vec(self) -> Vec<ManifestPart>
+        ensures { result.items ≡ self }
+    {
+        self.0
+    }
+
     /// The parts.
     pub fn as_slice(&self) -> &[ManifestPart]
         ensures { result.now ≡ self.now }
@@ -67,6 +74,13 @@ impl Roots {
         ensures { result ≡ roots.items }
     {
         Roots(roots)
+    }
+
+    /// The roots, with their memory.
+    pub fn into_vec(self) -> Vec<[u8; 32]>
+        ensures { result.items ≡ self }
+    {
+        self.0
     }
 
     /// The roots.

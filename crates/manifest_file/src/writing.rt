@@ -50,12 +50,30 @@ fn put_parts(out: &mut Vec<u8>, parts: &[ManifestPart]) -> Result<(), AllocError
     Ok(())
 }
 
+/// The bytes of a manifest with no name and no part.
+const HEAD_BYTES: usize = 7;
+
+/// The bytes of a part, but for its roots.
+const PART_BYTES: usize = 24;
+
+/// The bytes of a root.
+const ROOT_BYTES: usize = 32;
+
+/// The bytes of the spelling of a manifest.
+fn spelling_size(manifest: &Manifest) -> usize
+    requires { IsCanonical manifest.now }
+    ensures { result ≡ length (spelling manifest.now) }
+{
+    let part = PART_BYTES + ROOT_BYTES * manifest.drives as usize;
+    HEAD_BYTES + manifest.name.len() + part * manifest.parts.len()
+}
+
 /// The spelling of a manifest.
 fn spell(alloc: Global, manifest: &Manifest) -> Result<Vec<u8>, AllocError>
     requires { IsCanonical manifest.now }
     ensures { IfOk result (λ body. body.items ≡ spelling manifest.now) }
 {
-    let mut out = Vec::new(alloc);
+    let mut out = Vec::with_capacity(alloc, spelling_size(manifest))?;
     put_u8(&mut out, 1)?;
     put_name(&mut out, &manifest.name)?;
     put_u8(&mut out, manifest.drives)?;
