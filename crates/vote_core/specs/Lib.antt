@@ -1,3 +1,10 @@
+pub mod Calm
+pub mod History
+pub mod Lane
+pub mod Laws
+pub mod Loops
 pub mod Rank
 pub mod Row
+pub mod Shown
+pub mod Sound
 pub mod Verdict
