@@ -1,7 +1,9 @@
 mod Backing
 mod Counting
+mod Forwarding
 mod Judging
 mod Keeping
+mod Marking
 mod Members
 mod Preparing
 mod Showing

@@ -12,7 +12,7 @@ use Rattle.vote_core.proofs.Backing.{backs_by_base, backs_by_next}
 use Rattle.vote_core.proofs.Keeping.{Fits, keeps, lane_before, base_before}
 
 -- the change, the content and the ballot of equal bases
-change_same : (a b : Base) → a ≡ b → a.change ≡ b.change
+pub change_same : (a b : Base) → a ≡ b → a.change ≡ b.change
 change_same a b same = ap (λ (x : Base). x.change) same
 
 -- a base that stands on sound lanes is that of a lane of theirs, so what holds of that lane's base holds of it
@@ -22,7 +22,7 @@ base_drawn last lanes base drawn stands =
     subst (λ (b : Base). (b.change ≤ b.ballot) × (b.ballot ≤ last)) stands.2 (its.base_own, its.base_drawn)
 
 -- a ballot above all records is above a base that stands
-above_base : (last : ℕ) (lanes : List Lane) (base : Base) (ballot : ℕ) → IsFreshBallot last lanes ballot → Stands lanes base → base.ballot < ballot
+pub above_base : (last : ℕ) (lanes : List Lane) (base : Base) (ballot : ℕ) → IsFreshBallot last lanes ballot → Stands lanes base → base.ballot < ballot
 above_base last lanes base ballot fresh stands = subst (λ (b : Base). b.ballot < ballot) stands.2 (fresh.highest stands.0 stands.1).base
 
 -- the numbers of a prepared record are lawful
@@ -39,7 +39,7 @@ prepared_drawn last later lanes base next up drawn stands parent above own low =
       next_drawn = λ n is. let same : next ≡ n = cc in subst (λ (m : Next). m.ballot ≤ later) same low }
 
 -- a record of a prepared lane is one that stood before, or the prepared change's
-record_before : (lanes new : List Lane) (base : Base) (next : Next) (a : Lane) (c : ℕ) (content : List ℕ) → Leaves (prepared base next) lanes new → Stands lanes base
+pub record_before : (lanes new : List Lane) (base : Base) (next : Next) (a : Lane) (c : ℕ) (content : List ℕ) → Leaves (prepared base next) lanes new → Stands lanes base
     → Contains new a → HasRecord a c content
     → ((old : Lane) × Contains lanes old × HasRecord old c content) ⊎ ((next.change ≡ c) × (next.content ≡ content))
 record_before lanes new base next a c content leaves stands there has = elim (lane_before (prepared base next) lanes new a leaves there) [
@@ -49,7 +49,7 @@ record_before lanes new base next a c content leaves stands there has = elim (la
       | inr by_next ↦ let same : next ≡ by_next.0 = cc in inr (ap (λ (n : Next). n.change) same ∙ by_next.2, ap (λ (n : Next). n.content) same ∙ by_next.3) ] ]
 
 -- a next of a prepared lane was there before, or is the prepared one
-next_before : (lanes new : List Lane) (base : Base) (next : Next) (a : Lane) (n : Next) → Leaves (prepared base next) lanes new
+pub next_before : (lanes new : List Lane) (base : Base) (next : Next) (a : Lane) (n : Next) → Leaves (prepared base next) lanes new
     → Contains new a → HasNext a n → Contains lanes a ⊎ (next ≡ n)
 next_before lanes new base next a n leaves there is = elim (lane_before (prepared base next) lanes new a leaves there) [
     inl was ↦ inl was
@@ -83,7 +83,7 @@ agree_own lanes new base next leaves stands fresh agree = record {
           | inr new_b ↦ ap (λ (k : Next). k.adds) (sym new_a ∙ new_b) ] ] }
 
 -- a value that a loop of writes of its own change can't take away
-base_stays : (c : ℕ) (lanes new : List Lane) (x a : Lane) → Leaves x lanes new → Contains lanes a → a.base.change ≡ c → x.base.change ≡ c
+pub base_stays : (c : ℕ) (lanes new : List Lane) (x a : Lane) → Leaves x lanes new → Contains lanes a → a.base.change ≡ c → x.base.change ≡ c
     → (b : Lane) × Contains new b × (b.base.change ≡ c)
 base_stays c lanes new x a leaves there same x_same =
     let after = member_after (λ before after. (after ≡ before) ⊎ (after ≡ x)) lanes new a leaves there in
@@ -92,7 +92,7 @@ base_stays c lanes new x a leaves there same x_same =
       | inr written ↦ ap (λ (l : Lane). l.base.change) written ∙ x_same ])
 
 -- ballots of lanes after a prepare
-others_below : (later : ℕ) (lanes new : List Lane) (base : Base) (next : Next) → Leaves (prepared base next) lanes new → IsFreshBallot later lanes next.ballot
+pub others_below : (later : ℕ) (lanes new : List Lane) (base : Base) (next : Next) → Leaves (prepared base next) lanes new → IsFreshBallot later lanes next.ballot
     → (a : Lane) → Contains new a → (a ≡ prepared base next) ⊎ BallotsAreBelow next.ballot a
 others_below later lanes new base next leaves fresh a there = elim (lane_before (prepared base next) lanes new a leaves there) [
     inl was ↦ inr (fresh.highest a was)
