@@ -12,8 +12,9 @@ next_backs c ballot (Some next) h = let parts = and_parts _ _ h in (next, refl, 
 pub backs_cases : (c ballot : ℕ) (lane : Lane) → backs c ballot lane ≡ true
     → (lane.base.change ≡ c) ⊎ ((next : Next) × HasNext lane next × (next.change ≡ c) × (ballot ≤ next.ballot))
 backs_cases c ballot lane h = elim (or_cases _ _ h) [
-    inl base ↦ inl (eqb-true _ _ base)
-  | inr next ↦ inr (next_backs c ballot lane.next next) ]
+  | inl base ↦ inl (eqb-true _ _ base)
+  | inr next ↦ inr (next_backs c ballot lane.next next)
+]
 
 -- a base that carries the change backs it under every ballot
 pub backs_by_base : (c ballot : ℕ) (lane : Lane) → lane.base.change ≡ c → backs c ballot lane ≡ true

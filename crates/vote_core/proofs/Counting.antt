@@ -32,8 +32,9 @@ count_no_less p q R up (x ∷ xs) (y ∷ ys) zip =
     let one = count_by-cons p x xs in
     let other = count_by-cons q y ys in
     elim (counts (p x)) [
-        inl yes_here ↦ let passes = up x y zip.0 yes_here.0 in let more : one_if (q y) ≡ 1 = ap one_if passes in let some = yes_here.1 in omega arith
-      | inr none_here ↦ let none = none_here.1 in omega arith ]
+      | inl yes_here ↦ let passes = up x y zip.0 yes_here.0 in let more : one_if (q y) ≡ 1 = ap one_if passes in let some = yes_here.1 in omega arith
+      | inr none_here ↦ let none = none_here.1 in omega arith
+    ]
 
 -- either a good row stands before a lane that passes, or the passing lanes and the good rows are together no more than the lanes
 pub meets : (p : Lane → Bool) (rows : List Row) (lanes : List Lane) → length rows ≡ length lanes
@@ -46,14 +47,18 @@ meets p (row ∷ rows) (lane ∷ lanes) same =
     let other = count_by-cons is_good row rows in
     let rest = meets p rows lanes (omega arith) in
     elim (counts (p lane)) [
-        inl passes ↦ elim (counts (is_good row)) [
-            inl good ↦ inl (zero, record { there = omega arith; good = good.0 }, passes.0)
-          | inr bad ↦ elim rest [
-                inl found ↦ inl (suc found.0, record { there = omega (arith, found.1.there); good = found.1.good }, found.2)
-              | inr few ↦ let h1 = passes.1 in let h2 = bad.1 in inr (omega arith) ] ]
+      | inl passes ↦ elim (counts (is_good row)) [
+        | inl good ↦ inl (zero, record { there = omega arith; good = good.0 }, passes.0)
+        | inr bad ↦ elim rest [
+          | inl found ↦ inl (suc found.0, record { there = omega (arith, found.1.there); good = found.1.good }, found.2)
+          | inr few ↦ let h1 = passes.1 in let h2 = bad.1 in inr (omega arith)
+        ]
+      ]
       | inr fails ↦ elim rest [
-            inl found ↦ inl (suc found.0, record { there = omega (arith, found.1.there); good = found.1.good }, found.2)
-          | inr few ↦ let h1 = fails.1 in elim (counts (is_good row)) [ inl good ↦ let h2 = good.1 in inr (omega arith) | inr bad ↦ let h2 = bad.1 in inr (omega arith) ] ] ]
+        | inl found ↦ inl (suc found.0, record { there = omega (arith, found.1.there); good = found.1.good }, found.2)
+        | inr few ↦ let h1 = fails.1 in elim (counts (is_good row)) [ inl good ↦ let h2 = good.1 in inr (omega arith) | inr bad ↦ let h2 = bad.1 in inr (omega arith) ]
+      ]
+    ]
 
 -- lanes that pass and good rows are together no more than the good rows that pass, and the lanes
 pub holds_on_good : (p : Lane → Bool) (q : Row → Bool) → ((row : Row) (lane : Lane) → ShowsLane row lane → is_good row ≡ true → p lane ≡ true → q row ≡ true)
@@ -67,7 +72,9 @@ holds_on_good p q up (row ∷ rows) (lane ∷ lanes) shown =
     let third = count_by-cons q row rows in
     let rest = holds_on_good p q up rows lanes shown.1 in
     elim (counts (p lane)) [
-        inl passes ↦ let h1 = passes.1 in elim (counts (is_good row)) [
-            inl good ↦ let h2 = good.1 in let h3 : one_if (q row) ≡ 1 = ap one_if (up row lane shown.0 good.0 passes.0) in omega arith
-          | inr bad ↦ let h2 = bad.1 in omega arith ]
-      | inr fails ↦ let h1 = fails.1 in elim (counts (is_good row)) [ inl good ↦ let h2 = good.1 in omega arith | inr bad ↦ let h2 = bad.1 in omega arith ] ]
+      | inl passes ↦ let h1 = passes.1 in elim (counts (is_good row)) [
+        | inl good ↦ let h2 = good.1 in let h3 : one_if (q row) ≡ 1 = ap one_if (up row lane shown.0 good.0 passes.0) in omega arith
+        | inr bad ↦ let h2 = bad.1 in omega arith
+      ]
+      | inr fails ↦ let h1 = fails.1 in elim (counts (is_good row)) [ inl good ↦ let h2 = good.1 in omega arith | inr bad ↦ let h2 = bad.1 in omega arith ]
+    ]

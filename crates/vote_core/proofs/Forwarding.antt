@@ -31,8 +31,9 @@ kept_unread [] x (before ∷ lanes) new k leaves inside bad = absurd leaves
 kept_unread (row ∷ rows) x [] new k leaves inside bad = let no_way : ⊥ = omega arith in absurd no_way
 kept_unread (row ∷ rows) x (before ∷ lanes) [] k leaves inside bad = absurd leaves
 kept_unread (row ∷ rows) x (before ∷ lanes) (after ∷ new) zero leaves inside bad = elim leaves.0 [
-    inl stays ↦ subst (λ (l : Lane). Contains (after ∷ new) l) stays (member_head after new)
-  | inr written ↦ absurd (both_ways (is_good row) bad written.0) ]
+  | inl stays ↦ subst (λ (l : Lane). Contains (after ∷ new) l) stays (member_head after new)
+  | inr written ↦ absurd (both_ways (is_good row) bad written.0)
+]
 kept_unread (row ∷ rows) x (before ∷ lanes) (after ∷ new) (suc k) leaves inside bad =
     member_tail after new _ (kept_unread rows x lanes new k leaves.1 (omega arith) bad)
 
@@ -44,31 +45,35 @@ value_unread rows x lanes new c a leaves there same hidden =
     let place = place_of lanes a there in
     let carries : (lane_at lanes place.0).base.change ≡ c = ap (λ (l : Lane). l.base.change) place.2 ∙ same in
     elim (cases_Bool (is_good (row_at rows place.0))) [
-        inl good ↦ absurd (hidden place.0 (record { there = place.1; good = good }) carries)
-      | inr bad ↦ (lane_at lanes place.0, kept_unread rows x lanes new place.0 leaves place.1 bad, carries) ]
+      | inl good ↦ absurd (hidden place.0 (record { there = place.1; good = good }) carries)
+      | inr bad ↦ (lane_at lanes place.0, kept_unread rows x lanes new place.0 leaves place.1 bad, carries)
+    ]
 
 -- records agree after a change that is there already was proposed again
 agree_again : (later : ℕ) (lanes new : List Lane) (base : Base) (from : Lane) (found next : Next) → Leaves (prepared base next) lanes new → Stands lanes base
     → Contains lanes from → HasNext from found → IsAgain later lanes base found next → RecordsAgree lanes → RecordsAgree new
 agree_again later lanes new base from found next leaves stands there is again agree =
     let stood : (a : Lane) (d : ℕ) (x : List ℕ) → Contains new a → HasRecord a d x → (old : Lane) × Contains lanes old × HasRecord old d x
-        = λ a d x a_there has. elim (record_before lanes new base next a d x leaves stands a_there has) [
-            inl old ↦ old
-          | inr own ↦ (from, there, inr (found, is, sym again.change ∙ own.0, sym again.content ∙ own.1)) ] in
+    = λ a d x a_there has. elim (record_before lanes new base next a d x leaves stands a_there has) [
+      | inl old ↦ old
+      | inr own ↦ (from, there, inr (found, is, sym again.change ∙ own.0, sym again.content ∙ own.1))
+    ] in
     let proposed : (a : Lane) (m : Next) → Contains new a → HasNext a m
-          → (old : Lane) × (k : Next) × Contains lanes old × HasNext old k × (k.change ≡ m.change) × (k.adds ≡ m.adds)
-        = λ a m a_there has. elim (next_before lanes new base next a m leaves a_there has) [
-            inl old ↦ (a, m, old, has, refl, refl)
-          | inr own ↦ (from, found, there, is, sym again.change ∙ ap (λ (k : Next). k.change) own, sym again.adds ∙ ap (λ (k : Next). k.adds) own) ] in
+    → (old : Lane) × (k : Next) × Contains lanes old × HasNext old k × (k.change ≡ m.change) × (k.adds ≡ m.adds)
+    = λ a m a_there has. elim (next_before lanes new base next a m leaves a_there has) [
+      | inl old ↦ (a, m, old, has, refl, refl)
+      | inr own ↦ (from, found, there, is, sym again.change ∙ ap (λ (k : Next). k.change) own, sym again.adds ∙ ap (λ (k : Next). k.adds) own)
+    ] in
     record {
       contents = λ a b d x y a_there b_there has_a has_b.
-        let old_a = stood a d x a_there has_a in
-        let old_b = stood b d y b_there has_b in
-        agree.contents old_a.0 old_b.0 d x y old_a.1 old_b.1 old_a.2 old_b.2;
+          let old_a = stood a d x a_there has_a in
+          let old_b = stood b d y b_there has_b in
+          agree.contents old_a.0 old_b.0 d x y old_a.1 old_b.1 old_a.2 old_b.2;
       data_added = λ a b m n a_there b_there has_m has_n same.
-        let old_a = proposed a m a_there has_m in
-        let old_b = proposed b n b_there has_n in
-        sym old_a.5 ∙ (agree.data_added old_a.0 old_b.0 old_a.1 old_b.1 old_a.2 old_b.2 old_a.3 old_b.3 (old_a.4 ∙ (same ∙ sym old_b.4)) ∙ old_b.5) }
+          let old_a = proposed a m a_there has_m in
+          let old_b = proposed b n b_there has_n in
+          sym old_a.5 ∙ (agree.data_added old_a.0 old_b.0 old_a.1 old_b.1 old_a.2 old_b.2 old_a.3 old_b.3 (old_a.4 ∙ (same ∙ sym old_b.4)) ∙ old_b.5);
+    }
 
 -- the prepare of a forward keeps the value
 pub forward_keeps : (w last later c : ℕ) (content : List ℕ) (lanes new : List Lane) (rows : List Row) (base_lane lane : ℕ) (found next : Next)
@@ -92,25 +97,36 @@ forward_keeps w last later c content lanes new rows base_lane lane found next up
     let agree = agree_again later lanes new base from found next leaves stands from_there finds.next_is again holds.sound.agree in
     let others = others_below later lanes new base next leaves again.ballot in
     elim finds.found [
-        inl own ↦
-        let same : next.change ≡ c = again.change ∙ own.same in
-        let fits : Fits later lanes c x = record {
-          stands = stands;
-          accounted = λ n is. let is_next : next ≡ n = cc in subst (λ (m : Next). IsAccounted lanes c x m) is_next (inl same);
-          drawn = drawn;
-          backing = λ a there carries. let high = (again.ballot.highest a there).base in backs_by_next c a.base.ballot x next refl same (omega arith) } in
-        let stays = value_unread rows x lanes new c value.lane leaves_at value.top.there value.carries own.hidden in
-        (keeps w last later c content lanes new x up holds leaves fits agree stays.0 stays.1 stays.2,
-        record { others = others; over = inl same })
+      | inl own ↦
+          let same : next.change ≡ c = again.change ∙ own.same in
+          let fits : Fits later lanes c x = record {
+            stands = stands;
+            accounted = λ n is. let is_next : next ≡ n = cc in subst (λ (m : Next). IsAccounted lanes c x m) is_next (inl same);
+            drawn = drawn;
+            backing = λ a there carries. let high = (again.ballot.highest a there).base in backs_by_next c a.base.ballot x next refl same (omega arith);
+          } in
+          let stays = value_unread rows x lanes new c value.lane leaves_at value.top.there value.carries own.hidden in (
+            keeps w last later c content lanes new x up holds leaves fits agree stays.0 stays.1 stays.2,
+            record { others = others; over = inl same },
+          )
       | inr other ↦
-        let unmarked : (a : Lane) → Contains lanes a → a.base.change ≢ next.change = λ a there equal. other.unmarked a there (equal ∙ again.change) in
-        let fits : Fits later lanes c x = record {
-          stands = stands;
-          accounted = λ n is. let is_next : next ≡ n = cc in subst (λ (m : Next). IsAccounted lanes c x m) is_next
-            (inr (inl (record { parent = again.parent ∙ other.value; base = other.value; unmarked = unmarked })));
-          drawn = drawn;
-          backing = λ a there carries. backs_by_base c a.base.ballot x other.value } in
-        let stays = base_stays c lanes new x value.lane leaves value.top.there value.carries other.value in
-        (keeps w last later c content lanes new x up holds leaves fits agree stays.0 stays.1 stays.2,
-        record { others = others; over = inr (other.value, λ a there carries.
-          let old = base_before x lanes new a leaves stands there in unmarked old.0 old.1 (change_same _ _ old.2 ∙ carries)) }) ]
+          let unmarked : (a : Lane) → Contains lanes a → a.base.change ≢ next.change = λ a there equal. other.live.unmarked a there (equal ∙ again.change) in
+          let fits : Fits later lanes c x = record {
+            stands = stands;
+            accounted = λ n is. let is_next : next ≡ n = cc in subst (λ (m : Next). IsAccounted lanes c x m) is_next
+                (inr (inl (record { parent = again.parent ∙ other.value; base = other.value; unmarked = unmarked })));
+            drawn = drawn;
+            backing = λ a there carries. backs_by_base c a.base.ballot x other.value;
+          } in
+          let stays = base_stays c lanes new x value.lane leaves value.top.there value.carries other.value in (
+            keeps w last later c content lanes new x up holds leaves fits agree stays.0 stays.1 stays.2,
+            record {
+              others = others;
+              over = inr (
+                other.value,
+                λ a there carries.
+                    let old = base_before x lanes new a leaves stands there in unmarked old.0 old.1 (change_same _ _ old.2 ∙ carries),
+              );
+            },
+          )
+    ]

@@ -29,8 +29,9 @@ backing_read w d last c content lanes rows look =
     let overlap = look.quorums.meet in
     let enough = look.enough in
     elim (meets (backs c value.lane.base.ballot) rows lanes (shown_length rows lanes look.shown)) [
-        inl found ↦ found
-      | inr few ↦ absurd (omega arith) ]
+      | inl found ↦ found
+      | inr few ↦ absurd (omega arith)
+    ]
 
 -- the greatest base stands on a lane that was read
 base_read : (w d last c : ℕ) (content : List ℕ) (lanes : List Lane) (rows : List Row) (b : ℕ) → IsLook w d last c content lanes rows → IsGreatestBase rows b
@@ -75,23 +76,26 @@ found_hidden w d last c content lanes rows b m look greatest newest other =
     let two = (reads_at rows lanes b look.shown at_b).base_up in
     let some = backing_read w d last c content lanes rows look in
     elim (backs_cases c value.lane.base.ballot (lane_at lanes some.0) some.2) [
-        inl by_base ↦ absurd (none some.0 some.1 by_base)
+      | inl by_base ↦ absurd (none some.0 some.1 by_base)
       | inr by_next ↦
-        let its = (reads_at rows lanes some.0 look.shown some.1).next_up by_next.0 by_next.1 in
-        let not_below = by_next.3 in
-        let up : next_height (row_at rows some.0) ≤ next_height (row_at rows m) = newest.1 some.0 Bad (omega (arith, some.1.there)) in
-        let good = good_by_next (row_at rows m) (omega arith) in
-        let read : IsRead rows lanes m = record { there = omega (arith, newest.0); good = good } in
-        let shows = reads_at rows lanes m look.shown read in
-        let there = shows.next_there (omega arith) in
-        let height = shows.next_up there.0 there.1 in
-        let backed = look.holds.sound.backed value.lane value.top.there value.carries in
-        let held = holds_on_good (backs c value.lane.base.ballot) (carries c) (carries_backed c value.lane.base.ballot) rows lanes look.shown in
-        elim (look.holds.sound.accounted (lane_at lanes m) there.0 (member_at lanes m read.there) there.1) [
-            inl same ↦ record { read = read; next = there.0; next_is = there.1; same = same; above = omega arith; enough = omega arith }
-          | inr rest ↦ elim rest [
-                inl live ↦ absurd (none m read live.base)
-              | inr dead ↦ let low = dead value.lane value.top.there value.carries in absurd (omega arith) ] ] ]
+          let its = (reads_at rows lanes some.0 look.shown some.1).next_up by_next.0 by_next.1 in
+          let not_below = by_next.3 in
+          let up : next_height (row_at rows some.0) ≤ next_height (row_at rows m) = newest.1 some.0 Bad (omega (arith, some.1.there)) in
+          let good = good_by_next (row_at rows m) (omega arith) in
+          let read : IsRead rows lanes m = record { there = omega (arith, newest.0); good = good } in
+          let shows = reads_at rows lanes m look.shown read in
+          let there = shows.next_there (omega arith) in
+          let height = shows.next_up there.0 there.1 in
+          let backed = look.holds.sound.backed value.lane value.top.there value.carries in
+          let held = holds_on_good (backs c value.lane.base.ballot) (carries c) (carries_backed c value.lane.base.ballot) rows lanes look.shown in
+          elim (look.holds.sound.accounted (lane_at lanes m) there.0 (member_at lanes m read.there) there.1) [
+            | inl same ↦ record { read = read; next = there.0; next_is = there.1; same = same; above = omega arith; enough = omega arith }
+            | inr rest ↦ elim rest [
+              | inl live ↦ absurd (none m read live.base)
+              | inr dead ↦ let low = dead value.lane value.top.there value.carries in absurd (omega arith)
+            ]
+          ]
+    ]
 
 -- a verdict that is settled has read the value
 pub settled_value : (w d last c : ℕ) (content : List ℕ) (lanes : List Lane) (rows : List Row) (b m : ℕ) → IsLook w d last c content lanes rows → IsGreatestBase rows b
@@ -100,18 +104,21 @@ settled_value w d last c content lanes rows b m look greatest newest settles =
     let read = base_read w d last c content lanes rows b look greatest in
     let shows = reads_at rows lanes b look.shown read in
     elim (cases_eq (lane_at lanes b).base.change c) [
-        inl same ↦ record { read = read; change_is = same; content_is = look.holds.contents (lane_at lanes b) (member_at lanes b read.there) same }
+      | inl same ↦ record { read = read; change_is = same; content_is = look.holds.contents (lane_at lanes b) (member_at lanes b read.there) same }
       | inr other ↦
-        let found = found_hidden w d last c content lanes rows b m look greatest newest other in
-        let above = found.above in
-        let enough = found.enough in
-        let its = (reads_at rows lanes m look.shown found.read).next_same found.next found.next_is in
-        let carried : next_change (row_at rows m) ≡ c = its ∙ found.same in
-        absurd (elim settles [
-            inl low ↦ omega arith
-          | inr more ↦ elim more [
-                inl own ↦ other (sym shows.base_same ∙ (sym own ∙ carried))
-              | inr few ↦ let few_of_c : holders c rows + unread_rows rows < w = rw carried at few in omega arith ] ]) ]
+          let found = found_hidden w d last c content lanes rows b m look greatest newest other in
+          let above = found.above in
+          let enough = found.enough in
+          let its = (reads_at rows lanes m look.shown found.read).next_same found.next found.next_is in
+          let carried : next_change (row_at rows m) ≡ c = its ∙ found.same in
+          absurd (elim settles [
+            | inl low ↦ omega arith
+            | inr more ↦ elim more [
+              | inl own ↦ other (sym shows.base_same ∙ (sym own ∙ carried))
+              | inr few ↦ let few_of_c : holders c rows + unread_rows rows < w = rw carried at few in omega arith
+            ]
+          ])
+    ]
 
 -- a verdict that is pending has found the value's change, or one that may become the value
 pub pending_found : (w d last c : ℕ) (content : List ℕ) (lanes : List Lane) (rows : List Row) (b m : ℕ) → IsLook w d last c content lanes rows → IsGreatestBase rows b
@@ -121,22 +128,31 @@ pending_found w d last c content lanes rows b m look greatest newest pending =
     let read = base_read w d last c content lanes rows b look greatest in
     let shows = reads_at rows lanes b look.shown read in
     elim (cases_eq (lane_at lanes b).base.change c) [
-        inl same ↦
-        let above = pending.above in
-        let good = good_by_next (row_at rows m) (omega arith) in
-        let at_m : IsRead rows lanes m = record { there = omega (arith, newest.0); good = good } in
-        let told = reads_at rows lanes m look.shown at_m in
-        let there = told.next_there (omega arith) in
-        let height = told.next_up there.0 there.1 in
-        let carried = told.next_same there.0 there.1 in
-        let base = shows.base_up in
-        let found = elim (look.holds.sound.accounted (lane_at lanes m) there.0 (member_at lanes m at_m.there) there.1) as (λ _. FindsOther lanes c (lane_at lanes b).base there.0) [
-            inl value ↦ absurd (pending.other (carried ∙ (value ∙ (sym same ∙ sym shows.base_same))))
-          | inr rest ↦ elim rest [
-                inl live ↦ record { value = same; parent = live.parent; unmarked = live.unmarked }
-              | inr dead ↦ let low = dead (lane_at lanes b) (member_at lanes b read.there) same in absurd (omega arith) ] ] in
-        (there.0, record { base_read = read; next_read = at_m; next_is = there.1; found = inr found })
+      | inl same ↦
+          let above = pending.above in
+          let good = good_by_next (row_at rows m) (omega arith) in
+          let at_m : IsRead rows lanes m = record { there = omega (arith, newest.0); good = good } in
+          let told = reads_at rows lanes m look.shown at_m in
+          let there = told.next_there (omega arith) in
+          let height = told.next_up there.0 there.1 in
+          let carried = told.next_same there.0 there.1 in
+          let base = shows.base_up in
+          let found = elim (look.holds.sound.accounted (lane_at lanes m) there.0 (member_at lanes m at_m.there) there.1) as (λ _. FindsOther lanes c (lane_at lanes b) (lane_at lanes m) there.0) [
+            | inl value ↦ absurd (pending.other (carried ∙ (value ∙ (sym same ∙ sym shows.base_same))))
+            | inr rest ↦ elim rest [
+              | inl live ↦ record { value = same; live = live }
+              | inr dead ↦ let low = dead (lane_at lanes b) (member_at lanes b read.there) same in absurd (omega arith)
+            ]
+          ] in
+          (there.0, record { base_read = read; next_read = at_m; next_is = there.1; found = inr found })
       | inr other ↦
-        let found = found_hidden w d last c content lanes rows b m look greatest newest other in
-        (found.next, record { base_read = read; next_read = found.read; next_is = found.next_is;
-          found = inl (record { same = found.same; hidden = hidden w d last c content lanes rows b look greatest other }) }) ]
+          let found = found_hidden w d last c content lanes rows b m look greatest newest other in (
+            found.next,
+            record {
+              base_read = read;
+              next_read = found.read;
+              next_is = found.next_is;
+              found = inl (record { same = found.same; hidden = hidden w d last c content lanes rows b look greatest other });
+            },
+          )
+    ]

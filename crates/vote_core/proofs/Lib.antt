@@ -5,6 +5,9 @@ mod Judging
 mod Keeping
 mod Marking
 mod Members
+mod Places
 mod Preparing
+mod Ranks
+mod Resting
 mod Showing
 mod VerdictLemmas

@@ -6,7 +6,7 @@ use Rattle.vote_core.specs.Lane.{Base, Lane, Next, HasNext, HasRecord, has_base_
 use Rattle.vote_core.specs.Sound.{RecordsAgree, OthersAreBelow, IsLive, IsAccounted, IsDrawn, LanesAreDrawn, HoldsValue}
 use Rattle.vote_core.specs.Calm.{IsCalm}
 use Rattle.vote_core.specs.History.{IsDead}
-use Rattle.vote_core.specs.Loops.{Leaves, LeavesAt, Have, size, BallotsAreBelow, IsPrepared, prepared, marked}
+use Rattle.vote_core.specs.Loops.{Leaves, LeavesAt, Have, size, Stands, BallotsAreBelow, IsPrepared, prepared, marked}
 use Rattle.vote_core.proofs.Members.{member_head, member_tail}
 use Rattle.vote_core.proofs.Counting.{count_no_less, count_by-cons}
 use Rattle.vote_core.proofs.Backing.{backs_by_base, backs_by_next, has_base}
@@ -35,9 +35,10 @@ took_pass [] x m [] (after ∷ new) p have leaves px pm = absurd leaves
 took_pass [] x m (lane ∷ lanes) new p have leaves px pm = absurd have
 took_pass (has ∷ took) x m [] new p have leaves px pm = absurd have
 took_pass (has ∷ took) x m (lane ∷ lanes) [] p have leaves px pm = absurd leaves
-took_pass (has ∷ took) x m (lane ∷ lanes) (after ∷ new) p have leaves px pm =
-    ((λ true_here. elim leaves.0 [ inl stays ↦ ap p (stays ∙ have.0 true_here) ∙ px | inr written ↦ ap p written.1 ∙ pm ]),
-    took_pass took x m lanes new p have.1 leaves.1 px pm)
+took_pass (has ∷ took) x m (lane ∷ lanes) (after ∷ new) p have leaves px pm = (
+  (λ true_here. elim leaves.0 [ inl stays ↦ ap p (stays ∙ have.0 true_here) ∙ px | inr written ↦ ap p written.1 ∙ pm ]),
+  took_pass took x m lanes new p have.1 leaves.1 px pm,
+)
 
 -- so at least w lanes pass
 took_count : (took : List Bool) (x m : Lane) (lanes new : List Lane) (p : Lane → Bool) → Have took x lanes → LeavesAt took m lanes new → p x ≡ true → p m ≡ true
@@ -54,10 +55,12 @@ mark_or_not [] m (lane ∷ lanes) new leaves = absurd leaves
 mark_or_not (has ∷ took) m [] new leaves = absurd leaves
 mark_or_not (has ∷ took) m (lane ∷ lanes) [] leaves = absurd leaves
 mark_or_not (has ∷ took) m (lane ∷ lanes) (after ∷ new) leaves = elim leaves.0 [
-    inr written ↦ inr (subst (λ (l : Lane). Contains (after ∷ new) l) written.1 (member_head after new))
+  | inr written ↦ inr (subst (λ (l : Lane). Contains (after ∷ new) l) written.1 (member_head after new))
   | inl stays ↦ elim (mark_or_not took m lanes new leaves.1) [
-        inl same ↦ inl (ap (λ (l : Lane). l ∷ new) stays ∙ ap (λ (ls : List Lane). lane ∷ ls) same)
-      | inr there ↦ inr (member_tail after new m there) ] ]
+    | inl same ↦ inl (ap (λ (l : Lane). l ∷ new) stays ∙ ap (λ (ls : List Lane). lane ∷ ls) same)
+    | inr there ↦ inr (member_tail after new m there)
+  ]
+]
 
 -- the numbers of a marked record are lawful
 pub marked_drawn : (last : ℕ) (base : Base) (next : Next) → IsDrawn last (prepared base next) → IsDrawn last (marked next)
@@ -67,29 +70,34 @@ marked_drawn last base next drawn = record {
   base_own = drawn.next_own next refl;
   next_own = λ n is. absurd (let none : None ≡ Some n = is in cc);
   base_drawn = drawn.next_drawn next refl;
-  next_drawn = λ n is. absurd (let none : None ≡ Some n = is in cc) }
+  next_drawn = λ n is. absurd (let none : None ≡ Some n = is in cc);
+}
 
 -- a lane with a next was there before the marks
 pub unmarked_before : (lanes new : List Lane) (next : Next) (a : Lane) (n : Next) → Leaves (marked next) lanes new → Contains new a → HasNext a n → Contains lanes a
 unmarked_before lanes new next a n leaves there is = elim (lane_before (marked next) lanes new a leaves there) [
-    inl was ↦ was
-  | inr written ↦ absurd (let its : None ≡ Some n = ap (λ (l : Lane). l.next) (sym written) ∙ is in cc) ]
+  | inl was ↦ was
+  | inr written ↦ absurd (let its : None ≡ Some n = ap (λ (l : Lane). l.next) (sym written) ∙ is in cc)
+]
 
 -- a record after the marks is one that stood before them
 marked_record : (lanes new : List Lane) (base : Base) (next : Next) (a : Lane) (c : ℕ) (content : List ℕ) → Leaves (marked next) lanes new
     → Contains lanes (prepared base next) → Contains new a → HasRecord a c content → (old : Lane) × Contains lanes old × HasRecord old c content
 marked_record lanes new base next a c content leaves took there has = elim (lane_before (marked next) lanes new a leaves there) [
-    inl was ↦ (a, was, has)
+  | inl was ↦ (a, was, has)
   | inr written ↦ elim (subst (λ (l : Lane). HasRecord l c content) written has) [
-        inl by_base ↦ (prepared base next, took, inr (next, refl, by_base.0, by_base.1))
-      | inr by_next ↦ absurd (let none : None ≡ Some by_next.0 = by_next.1 in cc) ] ]
+    | inl by_base ↦ (prepared base next, took, inr (next, refl, by_base.0, by_base.1))
+    | inr by_next ↦ absurd (let none : None ≡ Some by_next.0 = by_next.1 in cc)
+  ]
+]
 
 -- a base is not above the prepared ballot
 not_above : (last c : ℕ) (lanes : List Lane) (base : Base) (next : Next) (a : Lane) → IsPrepared lanes c base next → IsDrawn last (prepared base next) → Contains lanes a
     → a.base.ballot < next.ballot
 not_above last c lanes base next a prep drawn there = elim (prep.others a there) [
-    inl is ↦ subst (λ (l : Lane). l.base.ballot < next.ballot) (sym is) (drawn.above next refl)
-  | inr low ↦ low.base ]
+  | inl is ↦ subst (λ (l : Lane). l.base.ballot < next.ballot) (sym is) (drawn.above next refl)
+  | inr low ↦ low.base
+]
 
 -- once some lane is marked the change's content is the value
 mark_moves : (w last c : ℕ) (content : List ℕ) (lanes new : List Lane) (base : Base) (next : Next) (took : List Bool)
@@ -104,59 +112,78 @@ mark_moves w last c content lanes new base next took holds prep there have enoug
     let before = λ (a : Lane) (a_there : Contains new a). lane_before m lanes new a leaves a_there in
     let low = λ (a : Lane) (a_there : Contains lanes a). not_above last c lanes base next a prep drawn a_there in
     let up_to : (a : Lane) → Contains new a → a.base.ballot ≤ next.ballot = λ a a_there. elim (before a a_there) [
-        inl was ↦ let below = low a was in omega arith
-      | inr is ↦ let equal : a.base.ballot ≡ next.ballot = ap (λ (l : Lane). l.base.ballot) is in omega arith ] in
+      | inl was ↦ let below = low a was in omega arith
+      | inr is ↦ let equal : a.base.ballot ≡ next.ballot = ap (λ (l : Lane). l.base.ballot) is in omega arith
+    ] in
     let stood = λ (a : Lane) (d : ℕ) (y : List ℕ) (a_there : Contains new a) (has : HasRecord a d y). marked_record lanes new base next a d y leaves there a_there has in
     let below : OthersAreBelow new next.change = λ one other one_there other_there carries differs. elim (before other other_there) [
-        inr is ↦ absurd (differs (ap (λ (l : Lane). l.base.change) is))
+      | inr is ↦ absurd (differs (ap (λ (l : Lane). l.base.change) is))
       | inl other_was ↦ elim (before one one_there) [
-            inr is ↦ let equal : one.base.ballot ≡ next.ballot = ap (λ (l : Lane). l.base.ballot) is in let lower = low other other_was in omega arith
-          | inl one_was ↦ elim prep.over [
-                inl same ↦ holds.sound.below one other one_was other_was (carries ∙ same) (λ (e : other.base.change ≡ c). differs (e ∙ sym same))
-              | inr over ↦ absurd (over.1 one one_was carries) ] ] ] in
+        | inr is ↦ let equal : one.base.ballot ≡ next.ballot = ap (λ (l : Lane). l.base.ballot) is in let lower = low other other_was in omega arith
+        | inl one_was ↦ elim prep.over [
+          | inl same ↦ holds.sound.below one other one_was other_was (carries ∙ same) (λ (e : other.base.change ≡ c). differs (e ∙ sym same))
+          | inr over ↦ absurd (over.1 one one_was carries)
+        ]
+      ]
+    ] in
     let accounted : (a : Lane) (n : Next) → Contains new a → HasNext a n → IsAccounted new next.change a n = λ a n a_there is.
-        let was = unmarked_before lanes new next a n leaves a_there is in
-        elim (prep.others a was) [
-            inl prepared_one ↦ inl (let its : Some n ≡ Some next = sym is ∙ ap (λ (l : Lane). l.next) prepared_one in let same : n ≡ next = cc in ap (λ (k : Next). k.change) same)
-          | inr lower ↦
-            let n_low = lower.next n is in
-            elim prep.over [
-                inr over ↦ inr (inr (λ other other_there carries. elim (before other other_there) [
-                    inl other_was ↦ absurd (over.1 other other_was carries)
-                  | inr marked_one ↦ let equal : other.base.ballot ≡ next.ballot = ap (λ (l : Lane). l.base.ballot) marked_one in omega arith ]))
-              | inl same ↦ elim (holds.sound.accounted a n was is) [
-                    inl own ↦ inl (own ∙ sym same)
-                  | inr rest ↦ elim rest [
-                        inl live ↦ inr (inl (record { parent = live.parent ∙ sym same; base = live.base ∙ sym same; unmarked = λ other other_there equal.
-                          elim (before other other_there) [
-                              inl other_was ↦ live.unmarked other other_was equal
-                            | inr marked_one ↦ live.unmarked a was (live.base ∙ (sym same ∙ (ap (λ (l : Lane). l.base.change) (sym marked_one) ∙ equal))) ] }))
-                      | inr dead ↦ inr (inr (λ other other_there carries. elim (before other other_there) [
-                            inl other_was ↦ dead other other_was (carries ∙ same)
-                          | inr marked_one ↦ let equal : other.base.ballot ≡ next.ballot = ap (λ (l : Lane). l.base.ballot) marked_one in omega arith ])) ] ] ] ] in
+    let was = unmarked_before lanes new next a n leaves a_there is in
+    elim (prep.others a was) [
+      | inl prepared_one ↦ inl (let its : Some n ≡ Some next = sym is ∙ ap (λ (l : Lane). l.next) prepared_one in let same : n ≡ next = cc in ap (λ (k : Next). k.change) same)
+      | inr lower ↦
+          let n_low = lower.next n is in
+          elim prep.over [
+            | inr over ↦ inr (inr (λ other other_there carries. elim (before other other_there) [
+              | inl other_was ↦ absurd (over.1 other other_was carries)
+              | inr marked_one ↦ let equal : other.base.ballot ≡ next.ballot = ap (λ (l : Lane). l.base.ballot) marked_one in omega arith
+            ]))
+            | inl same ↦ elim (holds.sound.accounted a n was is) [
+              | inl own ↦ inl (own ∙ sym same)
+              | inr rest ↦ elim rest [
+                | inl live ↦ inr (inl (record {
+                  parent = live.parent ∙ sym same;
+                  base = live.base ∙ sym same;
+                  unmarked = λ other other_there equal.
+                      elim (before other other_there) [
+                        | inl other_was ↦ live.unmarked other other_was equal
+                        | inr marked_one ↦ live.unmarked a was (live.base ∙ (sym same ∙ (ap (λ (l : Lane). l.base.change) (sym marked_one) ∙ equal)))
+                      ];
+                }))
+                | inr dead ↦ inr (inr (λ other other_there carries. elim (before other other_there) [
+                  | inl other_was ↦ dead other other_was (carries ∙ same)
+                  | inr marked_one ↦ let equal : other.base.ballot ≡ next.ballot = ap (λ (l : Lane). l.base.ballot) marked_one in omega arith
+                ]))
+              ]
+            ]
+          ]
+    ] in
     record {
       sound = record {
         value = value_change new next.change m done refl below;
         agree = record {
           contents = λ a b d y z a_there b_there has_a has_b.
-            let old_a = stood a d y a_there has_a in
-            let old_b = stood b d z b_there has_b in
-            holds.sound.agree.contents old_a.0 old_b.0 d y z old_a.1 old_b.1 old_a.2 old_b.2;
+              let old_a = stood a d y a_there has_a in
+              let old_b = stood b d z b_there has_b in
+              holds.sound.agree.contents old_a.0 old_b.0 d y z old_a.1 old_b.1 old_a.2 old_b.2;
           data_added = λ a b k n a_there b_there has_k has_n same.
-            holds.sound.agree.data_added a b k n (unmarked_before lanes new next a k leaves a_there has_k) (unmarked_before lanes new next b n leaves b_there has_n) has_k has_n same };
+              holds.sound.agree.data_added a b k n (unmarked_before lanes new next a k leaves a_there has_k) (unmarked_before lanes new next b n leaves b_there has_n) has_k has_n same;
+        };
         backed = λ a a_there carries.
-          let high = up_to a a_there in
-          let count = took_count took x m lanes new (backs next.change a.base.ballot) have leaves_at
-              (backs_by_next next.change a.base.ballot x next refl refl high) (backs_by_base next.change a.base.ballot m refl) in
-          omega arith;
+            let high = up_to a a_there in
+            let count = took_count took x m lanes new (backs next.change a.base.ballot) have leaves_at
+            (backs_by_next next.change a.base.ballot x next refl refl high) (backs_by_base next.change a.base.ballot m refl) in
+            omega arith;
         below = below;
         accounted = accounted;
         drawn = λ a a_there. elim (before a a_there) [
-            inl was ↦ holds.sound.drawn a was
-          | inr is ↦ subst (λ (l : Lane). IsDrawn last l) (sym is) (marked_drawn last base next drawn) ] };
+          | inl was ↦ holds.sound.drawn a was
+          | inr is ↦ subst (λ (l : Lane). IsDrawn last l) (sym is) (marked_drawn last base next drawn)
+        ];
+      };
       contents = λ a a_there carries.
-        let old = stood a next.change a.base.content a_there (inl (carries, refl)) in
-        holds.sound.agree.contents old.0 x next.change a.base.content next.content old.1 there old.2 (inr (next, refl, refl, refl)) }
+          let old = stood a next.change a.base.content a_there (inl (carries, refl)) in
+          holds.sound.agree.contents old.0 x next.change a.base.content next.content old.1 there old.2 (inr (next, refl, refl, refl));
+    }
 
 -- marks leave the value or make the change's content the value
 pub mark_keeps : (w last c : ℕ) (content : List ℕ) (lanes new : List Lane) (base : Base) (next : Next) (took : List Bool)
@@ -165,29 +192,36 @@ pub mark_keeps : (w last c : ℕ) (content : List ℕ) (lanes new : List Lane) (
     → HoldsValue w last new c content ⊎ HoldsValue w last new next.change next.content
 mark_keeps w last c content lanes new base next took some holds prep have enough leaves =
     elim (mark_or_not took (marked next) lanes new leaves) [
-        inl same ↦ inl (subst (λ (ls : List Lane). HoldsValue w last ls c content) (sym same) holds)
-      | inr done ↦ inr (mark_moves w last c content lanes new base next took holds prep (have_member took _ lanes have (omega arith)) have enough leaves done) ]
+      | inl same ↦ inl (subst (λ (ls : List Lane). HoldsValue w last ls c content) (sym same) holds)
+      | inr done ↦ inr (mark_moves w last c content lanes new base next took holds prep (have_member took _ lanes have (omega arith)) have enough leaves done)
+    ]
 
 -- where w marks succeeded the change's content is the value
 pub mark_settles : (w last c : ℕ) (content : List ℕ) (lanes new : List Lane) (base : Base) (next : Next) (took done : List Bool)
     → 1 ≤ w → HoldsValue w last lanes c content → IsPrepared lanes c base next
     → Have took (prepared base next) lanes → w ≤ size took → LeavesAt took (marked next) lanes new
     → Have done (marked next) new → w ≤ size done
-    → HoldsValue w last new next.change next.content × (w ≤ count_by (has_base_of next.change) new)
+    → HoldsValue w last new next.change next.content × Stands new (marked next).base × (w ≤ count_by (has_base_of next.change) new)
     × (next.change ≢ c → IsCalm w new next.change)
 mark_settles w last c content lanes new base next took done some holds prep have enough leaves_at marks all =
     let m = marked next in
     let leaves = leaves_any took m lanes new leaves_at in
     let count = have_count done m new (has_base_of next.change) marks (has_base next.change m refl) in
     let held : w ≤ count_by (has_base_of next.change) new = omega arith in
-    (mark_moves w last c content lanes new base next took holds prep (have_member took _ lanes have (omega arith)) have enough leaves_at
-        (have_member done m new marks (omega arith)),
-    held,
-    λ differs. record { held = held; quiet = λ a n there is live.
-      let was = unmarked_before lanes new next a n leaves there is in
-      elim prep.over [
-          inl same ↦ differs same
-        | inr over ↦ over.1 a was live.base ] })
+    let stands = have_member done m new marks (omega arith) in (
+      mark_moves w last c content lanes new base next took holds prep (have_member took _ lanes have (omega arith)) have enough leaves_at stands,
+      (m, stands, refl),
+      held,
+      λ differs. record {
+        held = held;
+        quiet = λ a n there is live.
+            let was = unmarked_before lanes new next a n leaves there is in
+            elim prep.over [
+              | inl same ↦ differs same
+              | inr over ↦ over.1 a was live.base
+            ];
+      },
+    )
 
 -- once another change than the value's is marked no next has it as its parent
 pub mark_kills : (w last c dead : ℕ) (content : List ℕ) (lanes new : List Lane) (base : Base) (next : Next)
@@ -196,8 +230,10 @@ pub mark_kills : (w last c dead : ℕ) (content : List ℕ) (lanes new : List La
 mark_kills w last c dead content lanes new base next holds prep differs leaves other = record {
   other = other;
   orphan = λ a n there is carries parent.
-    let was = unmarked_before lanes new next a n leaves there is in
-    let its = (holds.sound.drawn a was).parent n is in
-    elim prep.over [
-        inl same ↦ differs same
-      | inr over ↦ over.1 a was (sym its ∙ parent) ] }
+      let was = unmarked_before lanes new next a n leaves there is in
+      let its = (holds.sound.drawn a was).parent n is in
+      elim prep.over [
+        | inl same ↦ differs same
+        | inr over ↦ over.1 a was (sym its ∙ parent)
+      ];
+}

@@ -18,18 +18,22 @@ pub member_before : (R : Lane → Lane → Type 0) (xs ys : List Lane) (y : Lane
 member_before R xs ys y zip h =
     let same = length_all_zip R xs ys zip in
     let place = place_of ys y h in
-    let inside : place.0 < length xs = omega arith in
-    (lane_at xs place.0, member_at xs place.0 inside,
-    subst (λ z. R (lane_at xs place.0) z) place.2 (AllZip-get_or R xs ys place.0 blank_lane blank_lane zip inside))
+    let inside : place.0 < length xs = omega arith in (
+      lane_at xs place.0,
+      member_at xs place.0 inside,
+      subst (λ z. R (lane_at xs place.0) z) place.2 (AllZip-get_or R xs ys place.0 blank_lane blank_lane zip inside),
+    )
 
 -- a member of the first list is related to one of the second
 pub member_after : (R : Lane → Lane → Type 0) (xs ys : List Lane) (x : Lane) → AllZip R xs ys → Contains xs x → (y : Lane) × Contains ys y × R x y
 member_after R xs ys x zip h =
     let same = length_all_zip R xs ys zip in
     let place = place_of xs x h in
-    let inside : place.0 < length ys = omega arith in
-    (lane_at ys place.0, member_at ys place.0 inside,
-    subst (λ z. R z (lane_at ys place.0)) place.2 (AllZip-get_or R xs ys place.0 blank_lane blank_lane zip place.1))
+    let inside : place.0 < length ys = omega arith in (
+      lane_at ys place.0,
+      member_at ys place.0 inside,
+      subst (λ z. R z (lane_at ys place.0)) place.2 (AllZip-get_or R xs ys place.0 blank_lane blank_lane zip place.1),
+    )
 
 -- the first element and those of the rest are members, and there are no others
 pub member_head : (x : Lane) (xs : List Lane) → Contains (x ∷ xs) x

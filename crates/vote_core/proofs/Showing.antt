@@ -43,7 +43,8 @@ reads (Good base change next) lane shown good = record {
   base_same = shown.1;
   next_up = λ n is. shown_height next lane.next n shown.2 is;
   next_same = λ n is. shown_change next lane.next n shown.2 is;
-  next_there = λ up. shown_there next lane.next shown.2 up }
+  next_there = λ up. shown_there next lane.next shown.2 up;
+}
 
 -- there are as many rows as lanes
 pub shown_length : (rows : List Row) (lanes : List Lane) → ShowLanes rows lanes → length rows ≡ length lanes
@@ -83,5 +84,6 @@ next_carried c (Some row) (Some other) next shown is same = let one : other ≡ 
 pub carries_backed : (c ballot : ℕ) (row : Row) (lane : Lane) → ShowsLane row lane → is_good row ≡ true → backs c ballot lane ≡ true → carries c row ≡ true
 carries_backed c ballot Bad lane shown good backed = absurd (false≢true good)
 carries_backed c ballot (Good base change next) lane shown good backed = elim (backs_cases c ballot lane backed) [
-    inl by_base ↦ or_left _ _ (eq-eqb _ _ (shown.1 ∙ by_base))
-  | inr by_next ↦ or_right _ _ (next_carried c next lane.next by_next.0 shown.2 by_next.1 by_next.2) ]
+  | inl by_base ↦ or_left _ _ (eq-eqb _ _ (shown.1 ∙ by_base))
+  | inr by_next ↦ or_right _ _ (next_carried c next lane.next by_next.0 shown.2 by_next.1 by_next.2)
+]

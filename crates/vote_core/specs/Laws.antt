@@ -1,16 +1,29 @@
 -- The laws of the commit protocol, over all lists of lanes, where w lanes must take a write and d must answer a read.
-use Rattle.std.specs.Prelude.{◌≡◌, ◌≢◌, ◌⊎◌, ℕ, ◌<◌, ◌≤◌, Bool, List, [], length, map, replicate, count_by, Contains}
+use Rattle.std.specs.Prelude.{◌≡◌, ◌≢◌, ◌⊎◌, ℕ, ◌<◌, ◌≤◌, Bool, false, IsTrue, List, [], slice_index_or, length, map, replicate, count_by, Contains}
+use Rattle.stamp_id.specs.declared.stamp.Ballot.{Ballot}
+use Rattle.vote_core.specs.Rank.{rank_of}
 use Rattle.vote_core.specs.Row.{is_good}
 use Rattle.vote_core.specs.Lane.{Base, Next, Lane, HasNext, lane_at, blank_lane, has_base_of}
 use Rattle.vote_core.specs.Sound.{LanesAreDrawn, HoldsValue}
 use Rattle.vote_core.specs.Calm.{IsCalm}
 use Rattle.vote_core.specs.History.{IsDead}
-use Rattle.vote_core.specs.Shown.{ShowLanes, AreQuorums, FindsPending, FindsSettled}
-use Rattle.vote_core.specs.Loops.{Leaves, LeavesAt, Have, size, prepared, marked, mended, Stands, IsOwn, IsAgain, IsPrepared}
-use Rattle.vote_core.specs.Verdict.{VerdictRule, good_rows}
+use Rattle.vote_core.specs.Shown.{ShowsLane, ShowLanes, AreQuorums, FindsPending, FindsSettled}
+use Rattle.vote_core.specs.Loops.{Leaves, LeavesAt, Have, size, prepared, marked, mended, Stands, BallotsAreBelow, IsFreshBallot, IsFreshChange, IsOwn, IsAgain, IsPrepared}
+use Rattle.vote_core.specs.Verdict.{VerdictRule, good_rows, row_at}
 use Rattle.vote_core.specs.declared.row.Row.{Row}
 use Rattle.vote_core.specs.declared.verdict.Verdict.{Verdict}
 use Rattle.vote_core.specs.declared.verdict.Verdict.TheVariants.{Settled, Pending}
+
+-- the ranks of ballots are one to one, and a ballot of a greater term, or of the same term and a greater sequence number, has the greater rank
+abbrev pub RanksAreOneToOne : Type 0
+RanksAreOneToOne = (a b : Ballot) → rank_of a ≡ rank_of b → a ≡ b
+
+abbrev pub RanksAreInOrder : Type 0
+RanksAreInOrder = (a b : Ballot) → (a.term < b.term) ⊎ ((a.term ≡ b.term) × (a.seq < b.seq)) → rank_of a < rank_of b
+
+-- the rows have one verdict
+abbrev pub OneVerdict : Type 0
+OneVerdict = (w d : ℕ) (rows : List Row) (one other : Verdict) → VerdictRule w d rows one → VerdictRule w d rows other → one ≡ other
 
 -- a verdict that is settled on a lane has read the value there
 abbrev pub SettledIsTheValue : Type 0
@@ -48,14 +61,14 @@ MarkKeeps = (w last c : ℕ) (content : List ℕ) (lanes new : List Lane) (base 
     → Have took (prepared base next) lanes → w ≤ size took → LeavesAt took (marked next) lanes new
     → HoldsValue w last new c content ⊎ HoldsValue w last new next.change next.content
 
--- where w of these marks succeeded the change's content is the value, at least w lanes have it as their base, and where it is another change than the
--- value's was, the register is calm
+-- where w of these marks succeeded the change's content is the value, its base stands, at least w lanes have a base that carries it, and where it is
+-- another change than the value's was, the register is calm
 abbrev pub MarkSettles : Type 0
 MarkSettles = (w last c : ℕ) (content : List ℕ) (lanes new : List Lane) (base : Base) (next : Next) (took done : List Bool)
     → 1 ≤ w → HoldsValue w last lanes c content → IsPrepared lanes c base next
     → Have took (prepared base next) lanes → w ≤ size took → LeavesAt took (marked next) lanes new
     → Have done (marked next) new → w ≤ size done
-    → HoldsValue w last new next.change next.content × (w ≤ count_by (has_base_of next.change) new)
+    → HoldsValue w last new next.change next.content × Stands new (marked next).base × (w ≤ count_by (has_base_of next.change) new)
     × (next.change ≢ c → IsCalm w new next.change)
 
 -- a mend to a base that carries the value's change leaves the value
@@ -63,6 +76,18 @@ abbrev pub MendKeeps : Type 0
 MendKeeps = (w last c : ℕ) (content : List ℕ) (lanes new : List Lane) (base : Base)
     → HoldsValue w last lanes c content → Stands lanes base → base.change ≡ c → Leaves (mended base) lanes new
     → HoldsValue w last new c content
+
+-- a fresh ballot stays fresh through a loop whose record is below it
+abbrev pub FreshBallotStays : Type 0
+FreshBallotStays = (last ballot : ℕ) (lanes new : List Lane) (x : Lane)
+    → IsFreshBallot last lanes ballot → BallotsAreBelow ballot x → Leaves x lanes new
+    → IsFreshBallot last new ballot
+
+-- a fresh change stays fresh through a loop whose record doesn't carry it
+abbrev pub FreshChangeStays : Type 0
+FreshChangeStays = (c : ℕ) (lanes new : List Lane) (x : Lane)
+    → IsFreshChange lanes c → x.base.change ≢ c → ((next : Next) → HasNext x next → next.change ≢ c) → Leaves x lanes new
+    → IsFreshChange new c
 
 -- the numbers of each lane's file stay lawful through a prepare, also where the lanes are not sound
 abbrev pub PrepareStaysDrawn : Type 0
@@ -131,3 +156,27 @@ OneValue = (w last c w' last' c' : ℕ) (content content' : List ℕ) (lanes : L
 abbrev pub DrawingKeeps : Type 0
 DrawingKeeps = (w last later c : ℕ) (content : List ℕ) (lanes : List Lane)
     → last ≤ later → HoldsValue w last lanes c content → HoldsValue w later lanes c content
+
+-- rows show lanes that they show place by place
+abbrev pub ShownByPlaces : Type 0
+ShownByPlaces = (rows : List Row) (lanes : List Lane) → length rows ≡ length lanes
+    → ((k : ℕ) → k < length lanes → ShowsLane (row_at rows k) (lane_at lanes k))
+    → ShowLanes rows lanes
+
+-- what a loop leaves, place by place
+abbrev pub LeftByPlaces : Type 0
+LeftByPlaces = (x : Lane) (lanes new : List Lane) → length new ≡ length lanes
+    → ((k : ℕ) → k < length lanes → (lane_at new k ≡ lane_at lanes k) ⊎ (lane_at new k ≡ x))
+    → Leaves x lanes new
+
+-- what a loop over targets leaves, place by place
+abbrev pub LeftAtByPlaces : Type 0
+LeftAtByPlaces = (targets : List Bool) (x : Lane) (lanes new : List Lane) → length targets ≡ length lanes → length new ≡ length lanes
+    → ((k : ℕ) → k < length lanes → (lane_at new k ≡ lane_at lanes k) ⊎ (IsTrue (slice_index_or targets k false) × (lane_at new k ≡ x)))
+    → LeavesAt targets x lanes new
+
+-- which lanes have a record, place by place
+abbrev pub HadByPlaces : Type 0
+HadByPlaces = (mask : List Bool) (x : Lane) (lanes : List Lane) → length mask ≡ length lanes
+    → ((k : ℕ) → k < length lanes → IsTrue (slice_index_or mask k false) → lane_at lanes k ≡ x)
+    → Have mask x lanes

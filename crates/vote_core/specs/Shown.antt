@@ -4,6 +4,7 @@ use Rattle.std.specs.List.{AllZip}
 use Rattle.vote_core.specs.Rank.{rank_of, change_of}
 use Rattle.vote_core.specs.Row.{is_good}
 use Rattle.vote_core.specs.Lane.{Base, Next, Lane, HasNext, lane_at}
+use Rattle.vote_core.specs.Sound.{IsLive}
 use Rattle.vote_core.specs.Verdict.{row_at}
 use Rattle.vote_core.specs.declared.row.Row.{Row}
 use Rattle.vote_core.specs.declared.row.Row.TheVariants.{Bad, Good}
@@ -44,18 +45,17 @@ pub record FindsValue (rows : List Row) (lanes : List Lane) (c : ℕ) (next : Ne
   pub same : next.change ≡ c
   pub hidden : NoneReads rows lanes c
 
--- another change was found on its way over the value, of which no lane has a base
-pub record FindsOther (lanes : List Lane) (c : ℕ) (base : Base) (next : Next) : Type 0 where
-  pub value : base.change ≡ c
-  pub parent : next.parent ≡ c
-  pub unmarked : (other : Lane) → Contains lanes other → other.base.change ≢ next.change
+-- another change was found on its way over the value, and may become the value
+pub record FindsOther (lanes : List Lane) (c : ℕ) (base_lane lane : Lane) (next : Next) : Type 0 where
+  pub value : base_lane.base.change ≡ c
+  pub live : IsLive lanes c lane next
 
 -- a look read a base on one lane and a next on another, and the next is the value's change, or may become the value
 pub record FindsPending (rows : List Row) (lanes : List Lane) (c : ℕ) (base_lane lane : ℕ) (next : Next) : Type 0 where
   pub base_read : IsRead rows lanes base_lane
   pub next_read : IsRead rows lanes lane
   pub next_is : HasNext (lane_at lanes lane) next
-  pub found : FindsValue rows lanes c next ⊎ FindsOther lanes c (lane_at lanes base_lane).base next
+  pub found : FindsValue rows lanes c next ⊎ FindsOther lanes c (lane_at lanes base_lane) (lane_at lanes lane) next
 
 -- a look read the value on a lane
 pub record FindsSettled (rows : List Row) (lanes : List Lane) (c : ℕ) (content : List ℕ) (lane : ℕ) : Type 0 where

@@ -7,9 +7,14 @@
 //! The crate stands on `stamp_id` for ballots and change ids and on `drive_base` for the plan of a set.
 #![tactic(auto)]
 
+mod laws;
 mod rank;
 mod row;
 mod verdict;
 
+pub use laws::{
+    calm_laws, fresh_laws, history_laws, mark_laws, mend_law, number_laws, place_laws,
+    prepare_laws, value_laws, verdict_laws,
+};
 pub use row::{NextRow, Row};
 pub use verdict::{Onward, Verdict, decide, judge};
