@@ -1,11 +1,11 @@
 -- The prepare of a forward over sound lanes.
-use Rattle.std.proofs.Common.{◌≡◌, ◌≢◌, ◌⊎◌, ◌<◌, ◌≤◌, ◌+◌, ℕ, suc, zero, Bool, true, false, IsTrue, List, [], ◌∷◌, map, Option, None, Some, length, sym, ap, ◌∙◌, subst, inl, inr, arith, refl, Contains}
+use Rattle.std.proofs.Common.{◌≡◌, ◌≢◌, ◌<◌, ◌≤◌, ℕ, suc, zero, Bool, false, List, [], ◌∷◌, map, length, sym, ap, ◌∙◌, subst, inl, inr, arith, refl, Contains}
 use Rattle.std.proofs.lemmas.Bool.{cases_Bool, both_ways}
 use Rattle.vote_core.specs.Row.{is_good}
 use Rattle.vote_core.specs.Lane.{Base, Lane, Next, HasNext, HasRecord, lane_at}
-use Rattle.vote_core.specs.Sound.{RecordsAgree, IsAccounted, IsDrawn, HoldsValue}
+use Rattle.vote_core.specs.Sound.{RecordsAgree, IsAccounted, HoldsValue}
 use Rattle.vote_core.specs.Loops.{Leaves, LeavesAt, Stands, IsAgain, IsPrepared, prepared}
-use Rattle.vote_core.specs.Shown.{IsRead, FindsValue, FindsOther, FindsPending}
+use Rattle.vote_core.specs.Shown.{IsRead, FindsPending}
 use Rattle.vote_core.specs.Verdict.{row_at}
 use Rattle.vote_core.specs.declared.row.Row.{Row}
 use Rattle.vote_core.proofs.Members.{member_at, member_head, member_tail, place_of}

@@ -1,9 +1,9 @@
 -- What loops of writes leave of sound lanes.
-use Rattle.std.proofs.Common.{◌≡◌, ◌≢◌, ◌⊎◌, ◌<◌, ◌≤◌, ◌+◌, ℕ, Bool, true, List, [], ◌∷◌, Option, None, Some, length, sym, ap, ◌∙◌, subst, inl, inr, arith, refl, Contains, count_by}
+use Rattle.std.proofs.Common.{◌≡◌, ◌⊎◌, ◌<◌, ◌≤◌, ℕ, true, List, [], ◌∷◌, length, sym, ap, ◌∙◌, subst, inl, inr, arith, refl, Contains, count_by}
 use Rattle.std.proofs.lemmas.Bool.{cases_eq, cases_lt}
-use Rattle.vote_core.specs.Lane.{Base, Lane, Next, HasNext, HasRecord, lane_at, blank_lane, backs}
-use Rattle.vote_core.specs.Sound.{IsGreatest, IsValueChange, RecordsAgree, OthersAreBelow, IsLive, IsAccounted, IsDrawn, LanesAreDrawn, SoundLanes, HoldsValue}
-use Rattle.vote_core.specs.Loops.{Leaves, Stands, prepared, mended, marked}
+use Rattle.vote_core.specs.Lane.{Base, Lane, Next, HasNext, backs}
+use Rattle.vote_core.specs.Sound.{IsGreatest, IsValueChange, RecordsAgree, OthersAreBelow, IsAccounted, IsDrawn, HoldsValue}
+use Rattle.vote_core.specs.Loops.{Leaves, Stands}
 use Rattle.vote_core.proofs.Members.{member_head, member_tail, member_cases, member_before}
 use Rattle.vote_core.proofs.Counting.{count_no_less}
 

@@ -1,12 +1,11 @@
 -- Marks over prepared lanes.
-use Rattle.std.proofs.Common.{◌≡◌, ◌≢◌, ◌⊎◌, ◌<◌, ◌≤◌, ◌+◌, ℕ, suc, zero, Bool, true, false, IsTrue, List, [], ◌∷◌, Option, None, Some, length, sym, ap, ◌∙◌, subst, inl, inr, arith, refl, Contains, count_by}
+use Rattle.std.proofs.Common.{◌≡◌, ◌≢◌, ◌⊎◌, ◌<◌, ◌≤◌, ℕ, Bool, true, false, IsTrue, List, [], ◌∷◌, None, Some, sym, ap, ◌∙◌, subst, inl, inr, arith, refl, Contains, count_by}
 use Rattle.std.specs.List.{AllZip}
-use Rattle.std.proofs.lemmas.Bool.{cases_Bool, both_ways}
 use Rattle.vote_core.specs.Lane.{Base, Lane, Next, HasNext, HasRecord, has_base_of, backs}
-use Rattle.vote_core.specs.Sound.{RecordsAgree, OthersAreBelow, IsLive, IsAccounted, IsDrawn, LanesAreDrawn, HoldsValue}
+use Rattle.vote_core.specs.Sound.{OthersAreBelow, IsAccounted, IsDrawn, HoldsValue}
 use Rattle.vote_core.specs.Calm.{IsCalm}
 use Rattle.vote_core.specs.History.{IsDead}
-use Rattle.vote_core.specs.Loops.{Leaves, LeavesAt, Have, size, Stands, BallotsAreBelow, IsPrepared, prepared, marked}
+use Rattle.vote_core.specs.Loops.{Leaves, LeavesAt, Have, size, Stands, IsPrepared, prepared, marked}
 use Rattle.vote_core.proofs.Members.{member_head, member_tail}
 use Rattle.vote_core.proofs.Counting.{count_no_less, count_by-cons}
 use Rattle.vote_core.proofs.Backing.{backs_by_base, backs_by_next, has_base}

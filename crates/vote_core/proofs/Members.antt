@@ -1,5 +1,5 @@
 -- Members of lists that stand in a relation place by place.
-use Rattle.std.proofs.Common.{◌≡◌, ◌⊎◌, ◌<◌, ◌≤◌, ℕ, suc, zero, Bool, true, IsTrue, List, [], ◌∷◌, length, get_or, Contains, sym, subst, refl, ap, ◌∙◌, inl, inr, arith, map}
+use Rattle.std.proofs.Common.{◌≡◌, ◌⊎◌, ◌<◌, ℕ, suc, zero, List, ◌∷◌, length, get_or, Contains, subst, refl, ◌∙◌, inl, inr, arith}
 use Rattle.std.specs.List.{AllZip}
 use Rattle.std.proofs.lemmas.List.{get_or_default}
 use Rattle.std.proofs.lemmas.List.Elements.{length_all_zip, AllZip-get_or, Contains-get_or}

@@ -1,5 +1,5 @@
 -- Relations of lists, from what holds place by place.
-use Rattle.std.proofs.Common.{◌≡◌, ◌⊎◌, ◌<◌, ◌≤◌, ℕ, suc, zero, Bool, true, false, IsTrue, List, [], ◌∷◌, length, slice_index_or, arith}
+use Rattle.std.proofs.Common.{◌≡◌, ◌⊎◌, ◌<◌, ℕ, suc, zero, Bool, false, IsTrue, List, [], ◌∷◌, length, slice_index_or, arith}
 use Rattle.vote_core.specs.Lane.{Lane, lane_at}
 use Rattle.vote_core.specs.Shown.{ShowsLane, ShowLanes}
 use Rattle.vote_core.specs.Loops.{Leaves, LeavesAt, Have}

@@ -1,14 +1,10 @@
 -- Prepares and mends over sound lanes.
-use Rattle.std.proofs.Common.{◌≡◌, ◌≢◌, ◌⊎◌, ◌<◌, ◌≤◌, ◌+◌, ℕ, Bool, true, IsTrue, List, [], ◌∷◌, map, Option, None, Some, length, sym, ap, ◌∙◌, subst, inl, inr, arith, refl, Contains, count_by}
-use Rattle.std.proofs.lemmas.Bool.{cases_eq}
-use Rattle.vote_core.specs.Row.{is_good}
-use Rattle.vote_core.specs.Lane.{Base, Lane, Next, HasNext, HasRecord, lane_at, backs}
-use Rattle.vote_core.specs.Sound.{IsGreatest, IsValueChange, RecordsAgree, OthersAreBelow, IsLive, IsAccounted, IsDrawn, LanesAreDrawn, SoundLanes, HoldsValue}
-use Rattle.vote_core.specs.Loops.{Leaves, LeavesAt, Stands, BallotsAreBelow, IsFreshBallot, IsFreshChange, IsOwn, IsAgain, IsPrepared, prepared, mended, marked}
-use Rattle.vote_core.specs.Shown.{IsRead, FindsValue, FindsOther, FindsPending}
-use Rattle.vote_core.specs.declared.row.Row.{Row}
-use Rattle.vote_core.proofs.Members.{member_at, member_before, member_after}
-use Rattle.vote_core.proofs.Backing.{backs_by_base, backs_by_next}
+use Rattle.std.proofs.Common.{◌≡◌, ◌⊎◌, ◌<◌, ◌≤◌, ℕ, List, None, Some, sym, ap, ◌∙◌, subst, inl, inr, arith, Contains}
+use Rattle.vote_core.specs.Lane.{Base, Lane, Next, HasNext, HasRecord}
+use Rattle.vote_core.specs.Sound.{RecordsAgree, IsAccounted, IsDrawn, LanesAreDrawn, HoldsValue}
+use Rattle.vote_core.specs.Loops.{Leaves, Stands, BallotsAreBelow, IsFreshBallot, IsFreshChange, IsOwn, IsPrepared, prepared, mended}
+use Rattle.vote_core.proofs.Members.{member_after}
+use Rattle.vote_core.proofs.Backing.{backs_by_base}
 use Rattle.vote_core.proofs.Keeping.{Fits, keeps, lane_before, base_before}
 
 -- the change, the content and the ballot of equal bases

@@ -1,5 +1,5 @@
 -- Ballots and their ranks.
-use Rattle.std.proofs.Common.{◌≡◌, ◌⊎◌, ◌<◌, ℕ, arith, inl, inr}
+use Rattle.std.proofs.Common.{◌≡◌, ◌⊎◌, ◌<◌, arith}
 use Rattle.vote_core.specs.Rank.{rank_of}
 use Rattle.stamp_id.specs.declared.stamp.Ballot.{Ballot}
 use Rattle.stamp_id.proofs.IdLemmas.{ballot_by_parts}

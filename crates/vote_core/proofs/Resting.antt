@@ -1,29 +1,29 @@
 -- Calm registers, fresh ones, dead changes, and numbers.
-use Rattle.std.proofs.Common.{◌≡◌, ◌≢◌, ◌⊎◌, ◌<◌, ◌≤◌, ◌+◌, ℕ, suc, zero, Bool, true, false, List, [], ◌∷◌, replicate, Option, None, Some, length, sym, ap, ◌∙◌, subst, inl, inr, arith, refl, Contains, count_by}
+use Rattle.std.proofs.Common.{◌≡◌, ◌≢◌, ◌⊎◌, ◌<◌, ◌≤◌, ◌+◌, ℕ, suc, zero, Bool, true, List, [], replicate, None, Some, length, sym, ap, ◌∙◌, subst, inl, inr, arith, refl, Contains, count_by}
 use Rattle.std.proofs.lemmas.Bool.{cases_eq}
 use Rattle.std.proofs.lemmas.List.{length-replicate, get_or-replicate}
 use Rattle.vote_core.specs.Lane.{Base, Lane, Next, HasNext, HasRecord, lane_at, blank_lane, has_base_of, backs}
-use Rattle.vote_core.specs.Sound.{IsValueChange, RecordsAgree, OthersAreBelow, IsLive, IsAccounted, IsDrawn, LanesAreDrawn, HoldsValue}
+use Rattle.vote_core.specs.Sound.{IsDrawn, LanesAreDrawn, HoldsValue}
 use Rattle.vote_core.specs.Calm.{IsCalm}
 use Rattle.vote_core.specs.History.{IsDead}
 use Rattle.vote_core.specs.Loops.{Leaves, Stands, BallotsAreBelow, IsFreshBallot, IsFreshChange, mended, prepared, marked}
-use Rattle.vote_core.specs.Shown.{ShowLanes, AreQuorums, FindsPending}
-use Rattle.vote_core.specs.Verdict.{VerdictRule, good_rows, row_at}
+use Rattle.vote_core.specs.Shown.{ShowLanes}
+use Rattle.vote_core.specs.Verdict.{VerdictRule, good_rows}
 use Rattle.vote_core.specs.declared.row.Row.{Row}
 use Rattle.vote_core.specs.declared.verdict.Verdict.{Verdict}
 use Rattle.vote_core.specs.declared.verdict.Verdict.TheVariants.{TooFew, Settled, Pending}
 use Rattle.vote_core.proofs.Members.{member_at, place_of}
 use Rattle.vote_core.proofs.Counting.{count_no_less, count_by-cons, one_if, meets}
-use Rattle.vote_core.proofs.Backing.{has_base, has_base_is, backs_by_base}
+use Rattle.vote_core.proofs.Backing.{has_base, has_base_is}
 use Rattle.vote_core.proofs.Showing.{shown_length}
-use Rattle.vote_core.proofs.Judging.{IsLook, settled_value, pending_found}
-use Rattle.vote_core.proofs.Keeping.{value_change, lane_before, base_before, drawn_later}
+use Rattle.vote_core.proofs.Judging.{IsLook, pending_found}
+use Rattle.vote_core.proofs.Keeping.{lane_before, drawn_later}
 use Rattle.vote_core.proofs.Preparing.{prepared_drawn, mended_drawn, mend_next}
 use Rattle.vote_core.proofs.Marking.{marked_drawn}
 
 -- on a calm register a look finds nothing on its way
 pub calm_settles : (w d last c : ℕ) (content : List ℕ) (lanes : List Lane) (rows : List Row) (verdict : Verdict)
-    → AreQuorums (length lanes) w d → HoldsValue w last lanes c content → IsCalm w lanes c → ShowLanes rows lanes → d ≤ good_rows rows
+    → length lanes < w + d → HoldsValue w last lanes c content → IsCalm w lanes c → ShowLanes rows lanes → d ≤ good_rows rows
     → VerdictRule w d rows verdict
     → (lane : ℕ) × (verdict ≡ Settled lane)
 calm_settles w d last c content lanes rows (TooFew good) quorums holds calm shown enough rule = let few = rule.0 in absurd (omega arith)
@@ -38,7 +38,7 @@ calm_settles w d last c content lanes rows (Pending base_lane lane k u) quorums 
           absurd (calm.quiet (lane_at lanes lane) next (member_at lanes lane finds.next_read.there) finds.next_is other.live)
       | inl own ↦ elim (meets (has_base_of c) rows lanes (shown_length rows lanes shown)) [
         | inl found ↦ absurd (own.hidden found.0 found.1 (has_base_is c (lane_at lanes found.0) found.2))
-        | inr few ↦ let held = calm.held in let overlap = quorums.meet in absurd (omega arith)
+        | inr few ↦ let held = calm.held in let overlap = quorums in absurd (omega arith)
       ]
     ]
 
@@ -108,7 +108,7 @@ dead_stays_dead c dead lanes new x was other leaves = record {
 
 -- and is never pending
 pub dead_is_never_pending : (w d last c : ℕ) (content : List ℕ) (lanes : List Lane) (rows : List Row) (base_lane lane k u dead : ℕ)
-    → AreQuorums (length lanes) w d → HoldsValue w last lanes c content → ShowLanes rows lanes → IsDead lanes c dead
+    → length lanes < w + d → HoldsValue w last lanes c content → ShowLanes rows lanes → IsDead lanes c dead
     → VerdictRule w d rows (Pending base_lane lane k u)
     → (next : Next) → HasNext (lane_at lanes lane) next → next.change ≢ dead
 dead_is_never_pending w d last c content lanes rows base_lane lane k u dead quorums holds shown gone rule next is carries =

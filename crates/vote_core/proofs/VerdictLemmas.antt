@@ -1,9 +1,9 @@
 -- The cases of the verdict, from what `judge` computes.
-use Rattle.std.proofs.Common.{◌≡◌, ◌≢◌, ◌⊎◌, ℕ, ◌+◌, ◌-◌, ◌<◌, ◌≤◌, List, length, subst, sym, ap, ◌∙◌, inl, inr, arith}
+use Rattle.std.proofs.Common.{◌≡◌, ◌≢◌, ◌⊎◌, ℕ, ◌+◌, ◌<◌, ◌≤◌, List, length, sym, ap, ◌∙◌, inl, inr, arith}
 use Rattle.std.specs.List.{IsFirstMaxByKey}
 use Rattle.std.proofs.lemmas.Bool.{cases_order}
 use Rattle.vote_core.specs.Row.{base_height, next_height, base_change, next_change}
-use Rattle.vote_core.specs.Verdict.{row_at, holders, unread_rows, good_rows, IsSettledAgainst, IsPendingOver, VerdictRule}
+use Rattle.vote_core.specs.Verdict.{row_at, holders, unread_rows, IsSettledAgainst, IsPendingOver, VerdictRule}
 use Rattle.vote_core.specs.declared.row.Row.{Row}
 use Rattle.vote_core.specs.declared.row.Row.TheVariants.{Bad}
 use Rattle.vote_core.specs.declared.verdict.Verdict.{Verdict}

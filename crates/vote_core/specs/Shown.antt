@@ -1,9 +1,9 @@
 -- Rows that show the records of lanes: a bad row shows nothing, and a good row is its lane's record.
-use Rattle.std.specs.Prelude.{◌≡◌, ◌≢◌, ◌⊎◌, ⊤, ℕ, ◌+◌, ◌<◌, ◌≤◌, true, List, Option, None, Some, Contains, length}
+use Rattle.std.specs.Prelude.{◌≡◌, ◌≢◌, ◌⊎◌, ⊤, ℕ, ◌<◌, true, List, Option, None, Some, length}
 use Rattle.std.specs.List.{AllZip}
 use Rattle.vote_core.specs.Rank.{rank_of, change_of}
 use Rattle.vote_core.specs.Row.{is_good}
-use Rattle.vote_core.specs.Lane.{Base, Next, Lane, HasNext, lane_at}
+use Rattle.vote_core.specs.Lane.{Next, Lane, HasNext, lane_at}
 use Rattle.vote_core.specs.Sound.{IsLive}
 use Rattle.vote_core.specs.Verdict.{row_at}
 use Rattle.vote_core.specs.declared.row.Row.{Row}
@@ -25,11 +25,6 @@ ShowsLane (Good base change next) lane = (rank_of base ≡ lane.base.ballot) × 
 -- each row shows the lane of its index
 abbrev pub ShowLanes : List Row → List Lane → Type 0
 ShowLanes rows lanes = AllZip ShowsLane rows lanes
-
--- of n lanes any d meet any w
-pub record AreQuorums (n w d : ℕ) : Type 0 where
-  pub meet : n < w + d
-  pub within : d ≤ n
 
 -- the lane of this index was read
 pub record IsRead (rows : List Row) (lanes : List Lane) (k : ℕ) : Type 0 where

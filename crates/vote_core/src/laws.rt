@@ -26,7 +26,7 @@ pub fn mark_laws()
 
 /// A mend leaves the value.
 pub fn mend_law()
-    ensures value { MendKeeps }
+    ensures { MendKeeps }
 {}
 
 /// What is fresh for a register stays so through loops that don't use it.
