@@ -89,13 +89,13 @@ forward_keeps w last later c content lanes new rows base_lane lane found next up
     let stands : Stands lanes base = (lane_at lanes base_lane, member_at lanes base_lane finds.base_read.there, refl) in
     let from = lane_at lanes lane in
     let from_there = member_at lanes lane finds.next_read.there in
-    let above = above_base later lanes base next.ballot again.ballot stands in
-    let found_below = (again.ballot.highest from from_there).next found finds.next_is in
+    let above = above_base later lanes base next.ballot again.above stands in
+    let found_below = (again.above.highest from from_there).next found finds.next_is in
     let found_own = (holds.sound.drawn from from_there).next_own found finds.next_is in
     let change_is = again.change in
-    let drawn = prepared_drawn last later lanes base next up holds.sound.drawn stands again.parent above (omega arith) again.ballot.drawn in
+    let drawn = prepared_drawn last later lanes base next up holds.sound.drawn stands again.parent above (omega arith) again.above.drawn in
     let agree = agree_again later lanes new base from found next leaves stands from_there finds.next_is again holds.sound.agree in
-    let others = others_below later lanes new base next leaves again.ballot in
+    let others = others_below later lanes new base next leaves again.above in
     elim finds.found [
       | inl own ↦
           let same : next.change ≡ c = again.change ∙ own.same in
@@ -103,7 +103,7 @@ forward_keeps w last later c content lanes new rows base_lane lane found next up
             stands = stands;
             accounted = λ n is. let is_next : next ≡ n = cc in subst (λ (m : Next). IsAccounted lanes c x m) is_next (inl same);
             drawn = drawn;
-            backing = λ a there carries. let high = (again.ballot.highest a there).base in backs_by_next c a.base.ballot x next refl same (omega arith);
+            backing = λ a there carries. let high = (again.above.highest a there).base in backs_by_next c a.base.ballot x next refl same (omega arith);
           } in
           let stays = value_unread rows x lanes new c value.lane leaves_at value.top.there value.carries own.hidden in (
             keeps w last later c content lanes new x up holds leaves fits agree stays.0 stays.1 stays.2,

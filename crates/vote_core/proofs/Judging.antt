@@ -4,7 +4,7 @@ use Rattle.std.proofs.lemmas.Bool.{cases_eq}
 use Rattle.vote_core.specs.Row.{base_height, next_height, next_change, carries}
 use Rattle.vote_core.specs.Lane.{Lane, Next, HasNext, lane_at, backs}
 use Rattle.vote_core.specs.Sound.{HoldsValue}
-use Rattle.vote_core.specs.Shown.{ShowLanes, IsRead, NoneReads, FindsOther, FindsPending, FindsSettled}
+use Rattle.vote_core.specs.Shown.{ShowLanes, Overlap, IsRead, NoneReads, FindsOther, FindsPending, FindsSettled}
 use Rattle.vote_core.specs.Verdict.{row_at, good_rows, unread_rows, holders, IsGreatestBase, IsGreatestNext, IsSettledAgainst, IsPendingOver}
 use Rattle.vote_core.specs.declared.row.Row.{Row}
 use Rattle.vote_core.specs.declared.row.Row.TheVariants.{Bad}
@@ -15,7 +15,7 @@ use Rattle.vote_core.proofs.Showing.{shown_length, reads_at, good_by_base, good_
 
 -- a look over sound lanes in which enough files were good
 pub record IsLook (w d last c : ℕ) (content : List ℕ) (lanes : List Lane) (rows : List Row) : Type 0 where
-  pub quorums : length lanes < w + d
+  pub quorums : Overlap (length lanes) w d
   pub holds : HoldsValue w last lanes c content
   pub shown : ShowLanes rows lanes
   pub enough : d ≤ good_rows rows

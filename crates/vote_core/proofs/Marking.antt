@@ -5,7 +5,7 @@ use Rattle.vote_core.specs.Lane.{Base, Lane, Next, HasNext, HasRecord, has_base_
 use Rattle.vote_core.specs.Sound.{OthersAreBelow, IsAccounted, IsDrawn, HoldsValue}
 use Rattle.vote_core.specs.Calm.{IsCalm}
 use Rattle.vote_core.specs.History.{IsDead}
-use Rattle.vote_core.specs.Loops.{Leaves, LeavesAt, Have, size, Stands, IsPrepared, prepared, marked}
+use Rattle.vote_core.specs.Loops.{Leaves, LeavesAt, Have, AtLeastHave, size, Stands, IsPrepared, prepared, marked}
 use Rattle.vote_core.proofs.Members.{member_head, member_tail}
 use Rattle.vote_core.proofs.Counting.{count_no_less, count_by-cons}
 use Rattle.vote_core.proofs.Backing.{backs_by_base, backs_by_next, has_base}
@@ -101,12 +101,14 @@ not_above last c lanes base next a prep drawn there = elim (prep.others a there)
 -- once some lane is marked the change's content is the value
 mark_moves : (w last c : ℕ) (content : List ℕ) (lanes new : List Lane) (base : Base) (next : Next) (took : List Bool)
     → HoldsValue w last lanes c content → IsPrepared lanes c base next
-    → Contains lanes (prepared base next) → Have took (prepared base next) lanes → w ≤ size took → LeavesAt took (marked next) lanes new → Contains new (marked next)
+    → Contains lanes (prepared base next) → AtLeastHave w took (prepared base next) lanes → LeavesAt took (marked next) lanes new → Contains new (marked next)
     → HoldsValue w last new next.change next.content
-mark_moves w last c content lanes new base next took holds prep there have enough leaves_at done =
+mark_moves w last c content lanes new base next took holds prep there taken leaves_at done =
     let x = prepared base next in
     let m = marked next in
     let leaves = leaves_any took m lanes new leaves_at in
+    let have = taken.have in
+    let enough = taken.enough in
     let drawn = holds.sound.drawn x there in
     let before = λ (a : Lane) (a_there : Contains new a). lane_before m lanes new a leaves a_there in
     let low = λ (a : Lane) (a_there : Contains lanes a). not_above last c lanes base next a prep drawn a_there in
@@ -187,28 +189,31 @@ mark_moves w last c content lanes new base next took holds prep there have enoug
 -- marks leave the value or make the change's content the value
 pub mark_keeps : (w last c : ℕ) (content : List ℕ) (lanes new : List Lane) (base : Base) (next : Next) (took : List Bool)
     → 1 ≤ w → HoldsValue w last lanes c content → IsPrepared lanes c base next
-    → Have took (prepared base next) lanes → w ≤ size took → LeavesAt took (marked next) lanes new
+    → AtLeastHave w took (prepared base next) lanes → LeavesAt took (marked next) lanes new
     → HoldsValue w last new c content ⊎ HoldsValue w last new next.change next.content
-mark_keeps w last c content lanes new base next took some holds prep have enough leaves =
+mark_keeps w last c content lanes new base next took some holds prep taken leaves =
     elim (mark_or_not took (marked next) lanes new leaves) [
       | inl same ↦ inl (subst (λ (ls : List Lane). HoldsValue w last ls c content) (sym same) holds)
-      | inr done ↦ inr (mark_moves w last c content lanes new base next took holds prep (have_member took _ lanes have (omega arith)) have enough leaves done)
+      | inr done ↦ inr (mark_moves w last c content lanes new base next took holds prep (have_member took _ lanes taken.have (omega (arith, taken.enough))) taken leaves done)
     ]
 
 -- where w marks succeeded the change's content is the value
 pub mark_settles : (w last c : ℕ) (content : List ℕ) (lanes new : List Lane) (base : Base) (next : Next) (took done : List Bool)
     → 1 ≤ w → HoldsValue w last lanes c content → IsPrepared lanes c base next
-    → Have took (prepared base next) lanes → w ≤ size took → LeavesAt took (marked next) lanes new
-    → Have done (marked next) new → w ≤ size done
+    → AtLeastHave w took (prepared base next) lanes → LeavesAt took (marked next) lanes new
+    → AtLeastHave w done (marked next) new
     → HoldsValue w last new next.change next.content × Stands new (marked next).base × (w ≤ count_by (has_base_of next.change) new)
     × (next.change ≢ c → IsCalm w new next.change)
-mark_settles w last c content lanes new base next took done some holds prep have enough leaves_at marks all =
+mark_settles w last c content lanes new base next took done some holds prep taken leaves_at marks =
     let m = marked next in
     let leaves = leaves_any took m lanes new leaves_at in
-    let count = have_count done m new (has_base_of next.change) marks (has_base next.change m refl) in
+    let have = taken.have in
+    let enough = taken.enough in
+    let all = marks.enough in
+    let count = have_count done m new (has_base_of next.change) marks.have (has_base next.change m refl) in
     let held : w ≤ count_by (has_base_of next.change) new = omega arith in
-    let stands = have_member done m new marks (omega arith) in (
-      mark_moves w last c content lanes new base next took holds prep (have_member took _ lanes have (omega arith)) have enough leaves_at stands,
+    let stands = have_member done m new marks.have (omega arith) in (
+      mark_moves w last c content lanes new base next took holds prep (have_member took _ lanes have (omega arith)) taken leaves_at stands,
       (m, stands, refl),
       held,
       λ differs. record {

@@ -1,5 +1,5 @@
 -- Calm registers, fresh ones, dead changes, and numbers.
-use Rattle.std.proofs.Common.{◌≡◌, ◌≢◌, ◌⊎◌, ◌<◌, ◌≤◌, ◌+◌, ℕ, suc, zero, Bool, true, List, [], replicate, None, Some, length, sym, ap, ◌∙◌, subst, inl, inr, arith, refl, Contains, count_by}
+use Rattle.std.proofs.Common.{◌≡◌, ◌≢◌, ◌⊎◌, ◌<◌, ◌≤◌, ℕ, suc, zero, Bool, true, List, [], replicate, None, Some, length, sym, ap, ◌∙◌, subst, inl, inr, arith, refl, Contains, count_by}
 use Rattle.std.proofs.lemmas.Bool.{cases_eq}
 use Rattle.std.proofs.lemmas.List.{length-replicate, get_or-replicate}
 use Rattle.vote_core.specs.Lane.{Base, Lane, Next, HasNext, HasRecord, lane_at, blank_lane, has_base_of, backs}
@@ -7,7 +7,7 @@ use Rattle.vote_core.specs.Sound.{IsDrawn, LanesAreDrawn, HoldsValue}
 use Rattle.vote_core.specs.Calm.{IsCalm}
 use Rattle.vote_core.specs.History.{IsDead}
 use Rattle.vote_core.specs.Loops.{Leaves, Stands, BallotsAreBelow, IsFreshBallot, IsFreshChange, mended, prepared, marked}
-use Rattle.vote_core.specs.Shown.{ShowLanes}
+use Rattle.vote_core.specs.Shown.{ShowLanes, Overlap}
 use Rattle.vote_core.specs.Verdict.{VerdictRule, good_rows}
 use Rattle.vote_core.specs.declared.row.Row.{Row}
 use Rattle.vote_core.specs.declared.verdict.Verdict.{Verdict}
@@ -23,7 +23,7 @@ use Rattle.vote_core.proofs.Marking.{marked_drawn}
 
 -- on a calm register a look finds nothing on its way
 pub calm_settles : (w d last c : ℕ) (content : List ℕ) (lanes : List Lane) (rows : List Row) (verdict : Verdict)
-    → length lanes < w + d → HoldsValue w last lanes c content → IsCalm w lanes c → ShowLanes rows lanes → d ≤ good_rows rows
+    → Overlap (length lanes) w d → HoldsValue w last lanes c content → IsCalm w lanes c → ShowLanes rows lanes → d ≤ good_rows rows
     → VerdictRule w d rows verdict
     → (lane : ℕ) × (verdict ≡ Settled lane)
 calm_settles w d last c content lanes rows (TooFew good) quorums holds calm shown enough rule = let few = rule.0 in absurd (omega arith)
@@ -108,7 +108,7 @@ dead_stays_dead c dead lanes new x was other leaves = record {
 
 -- and is never pending
 pub dead_is_never_pending : (w d last c : ℕ) (content : List ℕ) (lanes : List Lane) (rows : List Row) (base_lane lane k u dead : ℕ)
-    → length lanes < w + d → HoldsValue w last lanes c content → ShowLanes rows lanes → IsDead lanes c dead
+    → Overlap (length lanes) w d → HoldsValue w last lanes c content → ShowLanes rows lanes → IsDead lanes c dead
     → VerdictRule w d rows (Pending base_lane lane k u)
     → (next : Next) → HasNext (lane_at lanes lane) next → next.change ≢ dead
 dead_is_never_pending w d last c content lanes rows base_lane lane k u dead quorums holds shown gone rule next is carries =

@@ -1,6 +1,5 @@
--- The laws of the commit protocol, over all lists of lanes, where w lanes must take a write and d must answer a read. Any w lanes meet any d:
--- there are fewer lanes than w + d.
-use Rattle.std.specs.Prelude.{◌≡◌, ◌≢◌, ◌⊎◌, ℕ, ◌+◌, ◌<◌, ◌≤◌, Bool, false, IsTrue, List, [], slice_index_or, length, map, replicate, count_by, Contains}
+-- The laws of the commit protocol, over all lists of lanes, where w lanes must take a write and d must answer a read.
+use Rattle.std.specs.Prelude.{◌≡◌, ◌≢◌, ◌⊎◌, ℕ, ◌<◌, ◌≤◌, Bool, false, IsTrue, List, [], slice_index_or, length, map, replicate, count_by, Contains}
 use Rattle.stamp_id.specs.declared.stamp.Ballot.{Ballot}
 use Rattle.vote_core.specs.Rank.{rank_of}
 use Rattle.vote_core.specs.Row.{is_good}
@@ -8,8 +7,8 @@ use Rattle.vote_core.specs.Lane.{Base, Next, Lane, HasNext, lane_at, blank_lane,
 use Rattle.vote_core.specs.Sound.{LanesAreDrawn, HoldsValue}
 use Rattle.vote_core.specs.Calm.{IsCalm}
 use Rattle.vote_core.specs.History.{IsDead}
-use Rattle.vote_core.specs.Shown.{ShowsLane, ShowLanes, FindsPending, FindsSettled}
-use Rattle.vote_core.specs.Loops.{Leaves, LeavesAt, Have, size, prepared, marked, mended, Stands, BallotsAreBelow, IsFreshBallot, IsFreshChange, IsOwn, IsAgain, IsPrepared}
+use Rattle.vote_core.specs.Shown.{ShowsLane, ShowLanes, Overlap, FindsPending, FindsSettled}
+use Rattle.vote_core.specs.Loops.{Leaves, LeavesAt, Have, AtLeastHave, prepared, marked, mended, Stands, BallotsAreBelow, IsFreshBallot, IsFreshChange, IsOwn, IsAgain, IsPrepared}
 use Rattle.vote_core.specs.Verdict.{VerdictRule, good_rows, row_at}
 use Rattle.vote_core.specs.declared.row.Row.{Row}
 use Rattle.vote_core.specs.declared.verdict.Verdict.{Verdict}
@@ -29,14 +28,14 @@ OneVerdict = (w d : ℕ) (rows : List Row) (one other : Verdict) → VerdictRule
 -- a verdict that is settled on a lane has read the value there
 abbrev pub SettledIsTheValue : Type 0
 SettledIsTheValue = (w d last c : ℕ) (content : List ℕ) (lanes : List Lane) (rows : List Row) (lane : ℕ)
-    → length lanes < w + d → HoldsValue w last lanes c content → ShowLanes rows lanes
+    → Overlap (length lanes) w d → HoldsValue w last lanes c content → ShowLanes rows lanes
     → VerdictRule w d rows (Settled lane)
     → FindsSettled rows lanes c content lane
 
 -- a verdict that is pending has found the value's change on its way, or one that may become the value over the value's base
 abbrev pub PendingIsFound : Type 0
 PendingIsFound = (w d last c : ℕ) (content : List ℕ) (lanes : List Lane) (rows : List Row) (base_lane lane k u : ℕ)
-    → length lanes < w + d → HoldsValue w last lanes c content → ShowLanes rows lanes
+    → Overlap (length lanes) w d → HoldsValue w last lanes c content → ShowLanes rows lanes
     → VerdictRule w d rows (Pending base_lane lane k u)
     → (next : Next) × FindsPending rows lanes c base_lane lane next
 
@@ -59,7 +58,7 @@ ForwardKeeps = (w last later c : ℕ) (content : List ℕ) (lanes new : List Lan
 abbrev pub MarkKeeps : Type 0
 MarkKeeps = (w last c : ℕ) (content : List ℕ) (lanes new : List Lane) (base : Base) (next : Next) (took : List Bool)
     → 1 ≤ w → HoldsValue w last lanes c content → IsPrepared lanes c base next
-    → Have took (prepared base next) lanes → w ≤ size took → LeavesAt took (marked next) lanes new
+    → AtLeastHave w took (prepared base next) lanes → LeavesAt took (marked next) lanes new
     → HoldsValue w last new c content ⊎ HoldsValue w last new next.change next.content
 
 -- where w of these marks succeeded the change's content is the value, its base stands, at least w lanes have a base that carries it, and where it is
@@ -67,8 +66,8 @@ MarkKeeps = (w last c : ℕ) (content : List ℕ) (lanes new : List Lane) (base 
 abbrev pub MarkSettles : Type 0
 MarkSettles = (w last c : ℕ) (content : List ℕ) (lanes new : List Lane) (base : Base) (next : Next) (took done : List Bool)
     → 1 ≤ w → HoldsValue w last lanes c content → IsPrepared lanes c base next
-    → Have took (prepared base next) lanes → w ≤ size took → LeavesAt took (marked next) lanes new
-    → Have done (marked next) new → w ≤ size done
+    → AtLeastHave w took (prepared base next) lanes → LeavesAt took (marked next) lanes new
+    → AtLeastHave w done (marked next) new
     → HoldsValue w last new next.change next.content × Stands new (marked next).base × (w ≤ count_by (has_base_of next.change) new)
     × (next.change ≢ c → IsCalm w new next.change)
 
@@ -113,7 +112,7 @@ MendStaysDrawn = (last : ℕ) (lanes new : List Lane) (base : Base)
 -- on a calm register any d good rows are settled
 abbrev pub CalmSettles : Type 0
 CalmSettles = (w d last c : ℕ) (content : List ℕ) (lanes : List Lane) (rows : List Row) (verdict : Verdict)
-    → length lanes < w + d → HoldsValue w last lanes c content → IsCalm w lanes c → ShowLanes rows lanes → d ≤ good_rows rows
+    → Overlap (length lanes) w d → HoldsValue w last lanes c content → IsCalm w lanes c → ShowLanes rows lanes → d ≤ good_rows rows
     → VerdictRule w d rows verdict
     → (lane : ℕ) × (verdict ≡ Settled lane)
 
@@ -126,7 +125,7 @@ MendStaysCalm = (w last c : ℕ) (content : List ℕ) (lanes new : List Lane) (b
 -- a dead change is never pending
 abbrev pub DeadIsNeverPending : Type 0
 DeadIsNeverPending = (w d last c : ℕ) (content : List ℕ) (lanes : List Lane) (rows : List Row) (base_lane lane k u dead : ℕ)
-    → length lanes < w + d → HoldsValue w last lanes c content → ShowLanes rows lanes → IsDead lanes c dead
+    → Overlap (length lanes) w d → HoldsValue w last lanes c content → ShowLanes rows lanes → IsDead lanes c dead
     → VerdictRule w d rows (Pending base_lane lane k u)
     → (next : Next) → HasNext (lane_at lanes lane) next → next.change ≢ dead
 

@@ -21,6 +21,11 @@ Have mask x lanes = AllZip (λ (has : Bool) lane. IsTrue has → lane ≡ x) mas
 abbrev pub size : List Bool → ℕ
 size mask = count_by (λ has. has) mask
 
+-- the lanes of the mask, of which there are at least w, have exactly this record
+pub record AtLeastHave (w : ℕ) (mask : List Bool) (x : Lane) (lanes : List Lane) : Type 0 where
+  pub have : Have mask x lanes
+  pub enough : w ≤ size mask
+
 -- the record that a prepare writes, that a mark writes, and that a mend writes
 abbrev pub prepared : Base → Next → Lane
 prepared base next = record { base = base; next = Some next }
@@ -63,7 +68,7 @@ pub record IsAgain (last : ℕ) (lanes : List Lane) (base : Base) (found next : 
   pub change : next.change ≡ found.change
   pub content : next.content ≡ found.content
   pub adds : next.adds ≡ found.adds
-  pub ballot : IsFreshBallot last lanes next.ballot
+  pub above : IsFreshBallot last lanes next.ballot
 
 -- the lanes after a prepare, before its mark: each other ballot is below the prepared one, and what is prepared carries the value's change c, or is
 -- proposed over it while no base carries it

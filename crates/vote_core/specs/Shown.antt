@@ -1,5 +1,5 @@
 -- Rows that show the records of lanes: a bad row shows nothing, and a good row is its lane's record.
-use Rattle.std.specs.Prelude.{◌≡◌, ◌≢◌, ◌⊎◌, ⊤, ℕ, ◌<◌, true, List, Option, None, Some, length}
+use Rattle.std.specs.Prelude.{◌≡◌, ◌+◌, ◌≢◌, ◌⊎◌, ⊤, ℕ, ◌<◌, true, List, Option, None, Some, length}
 use Rattle.std.specs.List.{AllZip}
 use Rattle.vote_core.specs.Rank.{rank_of, change_of}
 use Rattle.vote_core.specs.Row.{is_good}
@@ -25,6 +25,10 @@ ShowsLane (Good base change next) lane = (rank_of base ≡ lane.base.ballot) × 
 -- each row shows the lane of its index
 abbrev pub ShowLanes : List Row → List Lane → Type 0
 ShowLanes rows lanes = AllZip ShowsLane rows lanes
+
+-- of n lanes any w have one in common with any d
+abbrev pub Overlap : ℕ → ℕ → ℕ → Type 0
+Overlap n w d = n < w + d
 
 -- the lane of this index was read
 pub record IsRead (rows : List Row) (lanes : List Lane) (k : ℕ) : Type 0 where

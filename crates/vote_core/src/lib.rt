@@ -18,3 +18,6 @@ pub use laws::{
 };
 pub use row::{NextRow, Row};
 pub use verdict::{Onward, Verdict, decide, judge};
+
+#[cfg(test)]
+mod tests;
