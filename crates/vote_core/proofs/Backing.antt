@@ -28,5 +28,6 @@ backs_by_next c ballot lane next is same up = or_right _ _ (ap (is_next_of c bal
 pub has_base : (c : ℕ) (lane : Lane) → lane.base.change ≡ c → has_base_of c lane ≡ true
 has_base c lane h = eq-eqb _ _ h
 
+-- and back
 pub has_base_is : (c : ℕ) (lane : Lane) → has_base_of c lane ≡ true → lane.base.change ≡ c
 has_base_is c lane h = eqb-true _ _ h

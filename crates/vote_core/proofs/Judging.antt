@@ -65,6 +65,7 @@ record FindsHidden (w c : ℕ) (lanes : List Lane) (rows : List Row) (b m : ℕ)
   above : base_height (row_at rows b) < next_height (row_at rows m)
   enough : w ≤ holders c rows + unread_rows rows
 
+-- it carries the value's change, and enough lanes may have it
 found_hidden : (w d last c : ℕ) (content : List ℕ) (lanes : List Lane) (rows : List Row) (b m : ℕ) → IsLook w d last c content lanes rows → IsGreatestBase rows b
     → IsGreatestNext rows m → (lane_at lanes b).base.change ≢ c → FindsHidden w c lanes rows b m
 found_hidden w d last c content lanes rows b m look greatest newest other =

@@ -9,5 +9,6 @@ mod Places
 mod Preparing
 mod Ranks
 mod Resting
+mod Sections
 mod Showing
 mod VerdictLemmas

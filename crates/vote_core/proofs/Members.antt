@@ -39,12 +39,15 @@ member_after R xs ys x zip h =
 pub member_head : (x : Lane) (xs : List Lane) → Contains (x ∷ xs) x
 member_head x xs = (zero, omega arith, refl)
 
+-- a member of the rest is one of the list
 pub member_tail : (x : Lane) (xs : List Lane) (a : Lane) → Contains xs a → Contains (x ∷ xs) a
 member_tail x xs a h = (suc h.0, omega (arith, h.1), h.2)
 
+-- the element at a place of a list
 at_place : (x : Lane) (xs : List Lane) (a : Lane) (k : ℕ) → k < length (x ∷ xs) → get_or (x ∷ xs) k a ≡ a → (x ≡ a) ⊎ Contains xs a
 at_place x xs a zero inside same = inl same
 at_place x xs a (suc k) inside same = inr (k, omega arith, same)
 
+-- a member is the first element or a member of the rest
 pub member_cases : (x : Lane) (xs : List Lane) (a : Lane) → Contains (x ∷ xs) a → (x ≡ a) ⊎ Contains xs a
 member_cases x xs a h = at_place x xs a h.0 h.1 h.2

@@ -6,6 +6,7 @@ use Rattle.vote_core.specs.Loops.{Leaves, LeavesAt, Have}
 use Rattle.vote_core.specs.Verdict.{row_at}
 use Rattle.vote_core.specs.declared.row.Row.{Row}
 
+-- rows that show each lane
 pub shown_by_places : (rows : List Row) (lanes : List Lane) → length rows ≡ length lanes
     → ((k : ℕ) → k < length lanes → ShowsLane (row_at rows k) (lane_at lanes k))
     → ShowLanes rows lanes
@@ -15,6 +16,7 @@ shown_by_places (row ∷ rows) [] same at = let no_way : ⊥ = omega arith in ab
 shown_by_places (row ∷ rows) (lane ∷ lanes) same at =
     (at zero (omega arith), shown_by_places rows lanes (omega arith) (λ k inside. at (suc k) (omega arith)))
 
+-- what a loop leaves at each place
 pub left_by_places : (x : Lane) (lanes new : List Lane) → length new ≡ length lanes
     → ((k : ℕ) → k < length lanes → (lane_at new k ≡ lane_at lanes k) ⊎ (lane_at new k ≡ x))
     → Leaves x lanes new
@@ -24,6 +26,7 @@ left_by_places x (before ∷ lanes) [] same at = let no_way : ⊥ = omega arith 
 left_by_places x (before ∷ lanes) (after ∷ new) same at =
     (at zero (omega arith), left_by_places x lanes new (omega arith) (λ k inside. at (suc k) (omega arith)))
 
+-- what a loop over targets leaves at each place
 pub left_at_by_places : (targets : List Bool) (x : Lane) (lanes new : List Lane) → length targets ≡ length lanes → length new ≡ length lanes
     → ((k : ℕ) → k < length lanes → (lane_at new k ≡ lane_at lanes k) ⊎ (IsTrue (slice_index_or targets k false) × (lane_at new k ≡ x)))
     → LeavesAt targets x lanes new
@@ -35,6 +38,7 @@ left_at_by_places (target ∷ targets) x (before ∷ lanes) [] same_targets same
 left_at_by_places (target ∷ targets) x (before ∷ lanes) (after ∷ new) same_targets same at =
     (at zero (omega arith), left_at_by_places targets x lanes new (omega arith) (omega arith) (λ k inside. at (suc k) (omega arith)))
 
+-- which places have a record
 pub had_by_places : (mask : List Bool) (x : Lane) (lanes : List Lane) → length mask ≡ length lanes
     → ((k : ℕ) → k < length lanes → IsTrue (slice_index_or mask k false) → lane_at lanes k ≡ x)
     → Have mask x lanes

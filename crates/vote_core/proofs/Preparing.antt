@@ -157,6 +157,7 @@ mend_next lanes new base a n leaves there is = elim (lane_before (mended base) l
   | inr written ↦ absurd (let its : None ≡ Some n = ap (λ (l : Lane). l.next) (sym written) ∙ is in cc)
 ]
 
+-- the numbers of a mended record are lawful
 pub mended_drawn : (last : ℕ) (lanes : List Lane) (base : Base) → LanesAreDrawn last lanes → Stands lanes base → IsDrawn last (mended base)
 mended_drawn last lanes base drawn stands =
     let numbers = base_drawn last lanes base drawn stands in

@@ -74,6 +74,7 @@ stays_drawn last later lanes new x up drawn lawful leaves a there = elim (lane_b
   | inr is ↦ subst (λ (l : Lane). IsDrawn later l) (sym is) lawful
 ]
 
+-- so they do through a prepare
 pub prepare_stays_drawn : (last later : ℕ) (lanes new : List Lane) (base : Base) (next : Next)
     → last ≤ later → LanesAreDrawn last lanes → Stands lanes base
     → next.parent ≡ base.change → base.ballot < next.ballot → next.change ≤ next.ballot → next.ballot ≤ later
@@ -82,12 +83,14 @@ pub prepare_stays_drawn : (last later : ℕ) (lanes new : List Lane) (base : Bas
 prepare_stays_drawn last later lanes new base next up drawn stands parent above own low leaves =
     stays_drawn last later lanes new (prepared base next) up drawn (prepared_drawn last later lanes base next up drawn stands parent above own low) leaves
 
+-- through a mark
 pub mark_stays_drawn : (last : ℕ) (lanes new : List Lane) (base : Base) (next : Next)
     → LanesAreDrawn last lanes → Contains lanes (prepared base next) → Leaves (marked next) lanes new
     → LanesAreDrawn last new
 mark_stays_drawn last lanes new base next drawn there leaves =
     stays_drawn last last lanes new (marked next) (omega arith) drawn (marked_drawn last base next (drawn (prepared base next) there)) leaves
 
+-- and through a mend
 pub mend_stays_drawn : (last : ℕ) (lanes new : List Lane) (base : Base)
     → LanesAreDrawn last lanes → Stands lanes base → Leaves (mended base) lanes new
     → LanesAreDrawn last new
@@ -172,16 +175,18 @@ fresh_count (suc n) p passes =
     let more : one_if (p blank_lane) ≡ 1 = ap one_if passes in
     omega arith
 
--- a blank lane has no content and nothing on its way
+-- a blank lane has no content
 blank_record : (a : Lane) (c : ℕ) (content : List ℕ) → blank_lane ≡ a → HasRecord a c content → [] ≡ content
 blank_record a c content is has = elim (subst (λ (l : Lane). HasRecord l c content) (sym is) has) [
   | inl by_base ↦ by_base.1
   | inr by_next ↦ absurd (let none : None ≡ Some by_next.0 = by_next.1 in cc)
 ]
 
+-- it has nothing on its way
 blank_next : (a : Lane) (next : Next) → blank_lane ≡ a → HasNext a next → ⊥
 blank_next a next is has = let none : None ≡ Some next = ap (λ (l : Lane). l.next) is ∙ has in cc
 
+-- its numbers are lawful
 blank_drawn : (last : ℕ) → IsDrawn last blank_lane
 blank_drawn last = record {
   parent = λ n is. absurd (blank_next blank_lane n refl is);
@@ -226,7 +231,7 @@ fresh_is_calm n w last some enough =
       record { held = omega arith; quiet = λ a next there is live. blank_next a next (blank n a there) is },
     )
 
--- what was fresh stays so
+-- a fresh ballot stays fresh
 pub fresh_ballot_stays : (last ballot : ℕ) (lanes new : List Lane) (x : Lane)
     → IsFreshBallot last lanes ballot → BallotsAreBelow ballot x → Leaves x lanes new
     → IsFreshBallot last new ballot
@@ -238,6 +243,7 @@ fresh_ballot_stays last ballot lanes new x fresh below leaves = record {
   drawn = fresh.drawn;
 }
 
+-- so does a fresh change
 pub fresh_change_stays : (c : ℕ) (lanes new : List Lane) (x : Lane)
     → IsFreshChange lanes c → x.base.change ≢ c → ((next : Next) → HasNext x next → next.change ≢ c) → Leaves x lanes new
     → IsFreshChange new c

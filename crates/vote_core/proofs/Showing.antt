@@ -18,24 +18,27 @@ pub record Reads (row : Row) (lane : Lane) : Type 0 where
   pub next_same : (next : Next) → HasNext lane next → next_change row ≡ next.change
   pub next_there : 0 < next_height row → (next : Next) × HasNext lane next
 
--- the next that a row shows
+-- the height of the next that a row shows
 shown_height : (n : Option NextRow) (m : Option Next) (next : Next) → ShowsNext n m → m ≡ Some next → height_of_next n ≡ 1 + next.ballot
 shown_height None None next shown is = cc
 shown_height None (Some other) next shown is = absurd shown
 shown_height (Some row) None next shown is = absurd shown
 shown_height (Some row) (Some other) next shown is = let same : other ≡ next = cc in ap (λ x. 1 + x) (shown.0 ∙ ap (λ (n : Next). n.ballot) same)
 
+-- its change
 shown_change : (n : Option NextRow) (m : Option Next) (next : Next) → ShowsNext n m → m ≡ Some next → change_of_next n ≡ next.change
 shown_change None None next shown is = cc
 shown_change None (Some other) next shown is = absurd shown
 shown_change (Some row) None next shown is = absurd shown
 shown_change (Some row) (Some other) next shown is = let same : other ≡ next = cc in shown.1 ∙ ap (λ (n : Next). n.change) same
 
+-- a next that a row shows is there
 shown_there : (n : Option NextRow) (m : Option Next) → ShowsNext n m → 0 < height_of_next n → (next : Next) × (m ≡ Some next)
 shown_there None m shown up = let no_way : ⊥ = omega arith in absurd no_way
 shown_there (Some row) None shown up = absurd shown
 shown_there (Some row) (Some other) shown up = (other, refl)
 
+-- a good row that shows its lane has its numbers
 pub reads : (row : Row) (lane : Lane) → ShowsLane row lane → is_good row ≡ true → Reads row lane
 reads Bad lane shown good = absurd (false≢true good)
 reads (Good base change next) lane shown good = record {
@@ -70,6 +73,7 @@ pub good_by_base : (row : Row) → 0 < base_height row → is_good row ≡ true
 good_by_base Bad up = let no_way : ⊥ = omega arith in absurd no_way
 good_by_base (Good base change next) up = refl
 
+-- so is a row with a next
 pub good_by_next : (row : Row) → 0 < next_height row → is_good row ≡ true
 good_by_next Bad up = let no_way : ⊥ = omega arith in absurd no_way
 good_by_next (Good base change next) up = refl
@@ -81,6 +85,7 @@ next_carried c None (Some other) next shown is same = absurd shown
 next_carried c (Some row) None next shown is same = absurd shown
 next_carried c (Some row) (Some other) next shown is same = let one : other ≡ next = cc in eq-eqb _ _ (shown.1 ∙ (ap (λ (n : Next). n.change) one ∙ same))
 
+-- so for base and next
 pub carries_backed : (c ballot : ℕ) (row : Row) (lane : Lane) → ShowsLane row lane → is_good row ≡ true → backs c ballot lane ≡ true → carries c row ≡ true
 carries_backed c ballot Bad lane shown good backed = absurd (false≢true good)
 carries_backed c ballot (Good base change next) lane shown good backed = elim (backs_cases c ballot lane backed) [

@@ -44,6 +44,7 @@ never_both w rows base next settles pends = elim settles [
   | inr more ↦ elim more [ inl same ↦ pends.other same | inr few ↦ let enough = pends.enough in omega arith ]
 ]
 
+-- so rows that are settled aren't pending
 settled_or_pending : (w d : ℕ) (rows : List Row) (lane base_lane next k u : ℕ) → VerdictRule w d rows (Settled lane) → VerdictRule w d rows (Pending base_lane next k u) → ⊥
 settled_or_pending w d rows lane base_lane next k u one other =
     let same = one_first base_height rows lane base_lane one.1 other.1 in

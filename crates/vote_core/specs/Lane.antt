@@ -25,10 +25,11 @@ pub record Lane : Type 0 where
   pub base : Base
   pub next : Option Next
 
--- the record of a lane that keeps no file of the register
+-- the base of a lane that keeps no file of the register
 abbrev pub blank_base : Base
 blank_base = record { ballot = 0; change = 0; content = [] }
 
+-- its record
 abbrev pub blank_lane : Lane
 blank_lane = record { base = blank_base; next = None }
 

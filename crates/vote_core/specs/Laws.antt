@@ -7,6 +7,7 @@ use Rattle.vote_core.specs.Lane.{Base, Next, Lane, HasNext, lane_at, blank_lane,
 use Rattle.vote_core.specs.Sound.{LanesAreDrawn, HoldsValue}
 use Rattle.vote_core.specs.Calm.{IsCalm}
 use Rattle.vote_core.specs.History.{IsDead}
+use Rattle.vote_core.specs.Section.{Section, SectionLeaves}
 use Rattle.vote_core.specs.Shown.{ShowsLane, ShowLanes, Overlap, FindsPending, FindsSettled}
 use Rattle.vote_core.specs.Loops.{Leaves, LeavesAt, Have, AtLeastHave, prepared, marked, mended, Stands, BallotsAreBelow, IsFreshBallot, IsFreshChange, IsOwn, IsAgain, IsPrepared}
 use Rattle.vote_core.specs.Verdict.{VerdictRule, good_rows, row_at}
@@ -14,10 +15,11 @@ use Rattle.vote_core.specs.declared.row.Row.{Row}
 use Rattle.vote_core.specs.declared.verdict.Verdict.{Verdict}
 use Rattle.vote_core.specs.declared.verdict.Verdict.TheVariants.{Settled, Pending}
 
--- the ranks of ballots are one to one, and a ballot of a greater term, or of the same term and a greater sequence number, has the greater rank
+-- ballots of one rank are the same
 abbrev pub RanksAreOneToOne : Type 0
 RanksAreOneToOne = (a b : Ballot) → rank_of a ≡ rank_of b → a ≡ b
 
+-- a ballot of a greater term, or of the same term and a greater sequence number, has the greater rank
 abbrev pub RanksAreInOrder : Type 0
 RanksAreInOrder = (a b : Ballot) → (a.term < b.term) ⊎ ((a.term ≡ b.term) × (a.seq < b.seq)) → rank_of a < rank_of b
 
@@ -140,6 +142,14 @@ abbrev pub MarkKills : Type 0
 MarkKills = (w last c dead : ℕ) (content : List ℕ) (lanes new : List Lane) (base : Base) (next : Next)
     → HoldsValue w last lanes c content → IsPrepared lanes c base next → next.change ≢ c → Leaves (marked next) lanes new → dead ≢ next.change
     → IsDead new next.change dead
+
+-- every section keeps the lanes sound. It leaves the value or makes its change's content the value, once and for all: what was the value is dead then,
+-- and what is dead stays so
+abbrev pub SectionKeeps : Type 0
+SectionKeeps = (w d last later c : ℕ) (content : List ℕ) (lanes new : List Lane) (base : Base) (next : Next)
+    → 1 ≤ w → Overlap (length lanes) w d → last ≤ later → HoldsValue w last lanes c content
+    → Section w d later lanes c new base next
+    → SectionLeaves w later lanes c content new next
 
 -- lanes that keep no file hold the empty content, made by no change, and are calm
 abbrev pub FreshIsCalm : Type 0

@@ -5,6 +5,7 @@ pub mod Laws
 pub mod Loops
 pub mod Rank
 pub mod Row
+pub mod Section
 pub mod Shown
 pub mod Sound
 pub mod Verdict

@@ -26,13 +26,15 @@ pub record AtLeastHave (w : ℕ) (mask : List Bool) (x : Lane) (lanes : List Lan
   pub have : Have mask x lanes
   pub enough : w ≤ size mask
 
--- the record that a prepare writes, that a mark writes, and that a mend writes
+-- the record that a prepare writes
 abbrev pub prepared : Base → Next → Lane
 prepared base next = record { base = base; next = Some next }
 
+-- the record that a mark writes: the next as the base
 abbrev pub marked : Next → Lane
 marked next = record { base = record { ballot = next.ballot; change = next.change; content = next.content }; next = None }
 
+-- the record that a mend writes
 abbrev pub mended : Base → Lane
 mended base = record { base = base; next = None }
 

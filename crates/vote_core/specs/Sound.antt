@@ -41,6 +41,7 @@ IsBelowValue lanes c ballot = (other : Lane) → Contains lanes other → other.
 abbrev pub IsAccounted : List Lane → ℕ → Lane → Next → Type 0
 IsAccounted lanes c lane next = (next.change ≡ c) ⊎ (IsLive lanes c lane next ⊎ IsBelowValue lanes c next.ballot)
 
+-- each next is accounted for
 abbrev pub NextsAreAccounted : List Lane → ℕ → Type 0
 NextsAreAccounted lanes c = (a : Lane) (next : Next) → Contains lanes a → HasNext a next → IsAccounted lanes c a next
 
@@ -54,10 +55,11 @@ pub record IsDrawn (last : ℕ) (lane : Lane) : Type 0 where
   pub base_drawn : lane.base.ballot ≤ last
   pub next_drawn : (next : Next) → HasNext lane next → next.ballot ≤ last
 
+-- the numbers of each lane's file are lawful
 abbrev pub LanesAreDrawn : ℕ → List Lane → Type 0
 LanesAreDrawn last lanes = (a : Lane) → Contains lanes a → IsDrawn last a
 
--- the lanes are sound, and c is the change of their value
+-- the lanes are sound, and c is the change of their value. Each single write of a prepare, a mark or a mend keeps this, whether it succeeds or fails
 pub record SoundLanes (w last : ℕ) (lanes : List Lane) (c : ℕ) : Type 0 where
   pub value : IsValueChange lanes c
   pub agree : RecordsAgree lanes

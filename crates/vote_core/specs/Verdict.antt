@@ -13,10 +13,11 @@ use Rattle.vote_core.specs.declared.verdict.Onward.TheVariants.{Forward, Undecid
 abbrev pub row_at : List Row → ℕ → Row
 row_at rows lane = slice_index_or rows lane Bad
 
--- how many rows are good, and how many are not
+-- how many rows are good
 abbrev pub good_rows : List Row → ℕ
 good_rows rows = count_by is_good rows
 
+-- how many rows are not good
 abbrev pub unread_rows : List Row → ℕ
 unread_rows rows = length rows - good_rows rows
 

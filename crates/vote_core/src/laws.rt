@@ -2,7 +2,7 @@
 //!
 //! Each function does nothing and has no arguments. Its contract is the laws, over all lists of lanes, for a caller's proof.
 
-ghost use Rattle.vote_core.specs.Laws.{OneVerdict, SettledIsTheValue, PendingIsFound, PrepareKeeps, ForwardKeeps, MarkKeeps, MarkSettles, MendKeeps, FreshBallotStays, FreshChangeStays, PrepareStaysDrawn, MarkStaysDrawn, MendStaysDrawn, RanksAreOneToOne, RanksAreInOrder, CalmSettles, MendStaysCalm, FreshIsCalm, DeadIsNeverPending, DeadStaysDead, MarkKills, OneValue, DrawingKeeps, ShownByPlaces, LeftByPlaces, LeftAtByPlaces, HadByPlaces};
+ghost use Rattle.vote_core.specs.Laws.{OneVerdict, SettledIsTheValue, PendingIsFound, PrepareKeeps, ForwardKeeps, MarkKeeps, MarkSettles, MendKeeps, FreshBallotStays, FreshChangeStays, PrepareStaysDrawn, MarkStaysDrawn, MendStaysDrawn, RanksAreOneToOne, RanksAreInOrder, CalmSettles, MendStaysCalm, FreshIsCalm, DeadIsNeverPending, DeadStaysDead, MarkKills, SectionKeeps, OneValue, DrawingKeeps, ShownByPlaces, LeftByPlaces, LeftAtByPlaces, HadByPlaces};
 
 /// What a verdict over sound lanes says: a settled lane has the value, and what is pending is the value's change or may become the value. The
 /// rows have one verdict.
@@ -58,6 +58,7 @@ pub fn history_laws()
     ensures pending { DeadIsNeverPending }
     ensures stays { DeadStaysDead }
     ensures mark { MarkKills }
+    ensures section { SectionKeeps }
 {}
 
 /// Sound lanes have one value, and keep it while numbers are drawn.

@@ -1,5 +1,6 @@
 use Rattle.vote_core.proofs.Marking.{mark_kills}
 use Rattle.vote_core.proofs.Resting.{dead_is_never_pending, dead_stays_dead}
+use Rattle.vote_core.proofs.Sections.{section_keeps}
 use Rattle.vote_core.proofs.laws.history_laws.Goals as goal
 
 pub returns-clause-pending : goal.returns-clause-pending
@@ -10,3 +11,6 @@ returns-clause-stays c = dead_stays_dead
 
 pub returns-clause-mark : goal.returns-clause-mark
 returns-clause-mark c = mark_kills
+
+pub returns-clause-section : goal.returns-clause-section
+returns-clause-section c = section_keeps
