@@ -2,7 +2,14 @@
 //!
 //! Each function does nothing and has no arguments. Its contract is the laws, over all lists of lanes, for a caller's proof.
 
-ghost use Rattle.vote_core.specs.Laws.{OneVerdict, SettledIsTheValue, PendingIsFound, PrepareKeeps, ForwardKeeps, MarkKeeps, MarkSettles, MendKeeps, FreshBallotStays, FreshChangeStays, PrepareStaysDrawn, MarkStaysDrawn, MendStaysDrawn, RanksAreOneToOne, RanksAreInOrder, CalmSettles, MendStaysCalm, FreshIsCalm, DeadIsNeverPending, DeadStaysDead, MarkKills, SectionKeeps, OneValue, DrawingKeeps, ShownByPlaces, LeftByPlaces, LeftAtByPlaces, HadByPlaces};
+ghost use Rattle.vote_core.specs.Laws.{OneVerdict, SettledIsTheValue, PendingIsFound};
+ghost use Rattle.vote_core.specs.Laws.{PrepareKeeps, ForwardKeeps, MarkKeeps, MarkSettles, MendKeeps};
+ghost use Rattle.vote_core.specs.Laws.{FreshBallotStays, FreshChangeStays};
+ghost use Rattle.vote_core.specs.Laws.{PrepareStaysDrawn, MarkStaysDrawn, MendStaysDrawn, RanksAreOneToOne, RanksAreInOrder};
+ghost use Rattle.vote_core.specs.Laws.{CalmSettles, MendStaysCalm, FreshIsCalm};
+ghost use Rattle.vote_core.specs.Laws.{DeadIsNeverPending, DeadStaysDead, MarkKills, SectionKeeps};
+ghost use Rattle.vote_core.specs.Laws.{OneValue, DrawingKeeps};
+ghost use Rattle.vote_core.specs.Laws.{ShownByPlaces, LeftByPlaces, LeftAtByPlaces, HadByPlaces};
 
 /// What a verdict over sound lanes says: a settled lane has the value, and what is pending is the value's change or may become the value. The
 /// rows have one verdict.
@@ -53,7 +60,8 @@ pub fn calm_laws()
 {}
 
 /// A change whose parent is no longer the value's change is dead: it is never pending, it stays dead, and each mark of another change makes all
-/// that waited for the old value dead.
+/// that waited for the old value dead. Every section leaves the value or moves it, and what was replaced is dead: so a change whose number is
+/// drawn once becomes the value at most once.
 pub fn history_laws()
     ensures pending { DeadIsNeverPending }
     ensures stays { DeadStaysDead }
