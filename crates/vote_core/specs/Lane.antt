@@ -29,7 +29,7 @@ pub record Lane : Type 0 where
 abbrev pub blank_base : Base
 blank_base = record { ballot = 0; change = 0; content = [] }
 
--- its record
+-- the record of such a lane
 abbrev pub blank_lane : Lane
 blank_lane = record { base = blank_base; next = None }
 
