@@ -1,0 +1,5 @@
+//! Tests against the polynomial by its definition, and worked rows.
+
+mod every_set;
+mod plain;
+mod worked;
