@@ -1,7 +1,7 @@
 -- Where blocks and digests stand in a shard file.
 use Rattle.std.proofs.Common.{◌≡◌, ℕ, zero, suc, ◌+◌, ◌-◌, ◌*◌, ◌/◌, ◌%◌, ◌<◌, ◌≤◌, min, ◌∙◌, List, [], ◌∷◌, ◌++◌, length, slice_index_or, take, drop, map, ap, inl, inr, refl, subst, sym, arith}
 use Rattle.std.specs.List.{concat, range_with_len}
-use Rattle.std.proofs.Math.Nat.{mul-le-mul_left, zero-div, zero-mod}
+use Rattle.std.proofs.Math.Nat.{mul-le-mul_right, zero-div, zero-mod}
 use Rattle.std.proofs.Math.Numerals.{add-one}
 use Rattle.std.proofs.lemmas.Grind.{div_ceil_times}
 use Rattle.std.proofs.lemmas.Bool.{cases_eq, cases_lt}
@@ -11,9 +11,11 @@ use Rattle.std.proofs.lemmas.List.FromFn.{get_or-map-range_with_len, length-map-
 use Rattle.std.proofs.lemmas.Nat.{mul-le}
 use Rattle.sha2.proofs.Facts256.{length-sha256}
 use Rattle.sha2.specs.Sha256.{sha256}
-use Rattle.shard_file.specs.Laws.{ShardFilesHaveLength}
+use Rattle.shard_file.specs.Laws.{BodiesHaveShards, ShardFilesHaveLength}
 use Rattle.shard_file.specs.Shards.{table_of, shard_bytes, AreShardBlocks, HoldsBlock}
-use Rattle.shard_file.specs.Stripes.{stripe_size, stripe_count, stripe_length, stripe_lengths, block_size}
+use Rattle.shard_file.specs.Stripes.{stripe_size, stripe_count, stripe_length, stripe_lengths, stripes, block_size}
+use Rattle.shard_file.proofs.Pieces.{map_map, map_same}
+use Rattle.shard_file.proofs.StripeLemmas.{stripes_have_lengths}
 
 -- a shard has a block for each stripe
 pub length-shard : (d n : ℕ) (blocks : List (List ℕ)) → AreShardBlocks d n blocks → length blocks ≡ stripe_count n
@@ -131,11 +133,11 @@ holds_block d n blocks last k at long digest_at fit below above low at_is long_i
     record {
       size = long_block;
       block = ap (λ (bytes : List ℕ). take long (drop at bytes)) file
-    ∙ ap (take long) (drop_at before (block ++ (after ++ table_of blocks)) at long_before)
-    ∙ take_at block (after ++ table_of blocks) long long_block;
+          ∙ ap (take long) (drop_at before (block ++ (after ++ table_of blocks)) at long_before)
+          ∙ take_at block (after ++ table_of blocks) long long_block;
       digest = ap (take 32) (table_from d n blocks last k digest_at fit below above low digest_is)
-    ∙ ap (λ (rest : List (List ℕ)). take 32 (table_of rest)) (drop_more blocks k [] within)
-    ∙ take_at (sha256 block) (table_of (drop (k + 1) blocks)) 32 (length-sha256 block)
+          ∙ ap (λ (rest : List (List ℕ)). take 32 (table_of rest)) (drop_more blocks k [] within)
+          ∙ take_at (sha256 block) (table_of (drop (k + 1) blocks)) 32 (length-sha256 block);
     }
 
 -- no bytes need a block of none
@@ -146,31 +148,52 @@ block_size-zero d = rw (zero-div d, zero-mod d) refl
 length-blocks_by_rest : (d n : ℕ) (blocks : List (List ℕ)) → AreShardBlocks d n blocks
     → length (concat blocks) ≡ n / stripe_size * block_size d stripe_size + block_size d (n % stripe_size)
 length-blocks_by_rest d n blocks fit = elim (cases_eq (n % stripe_size) 0) [
-    inl none ↦
-    let q = n / stripe_size in
-    let count : stripe_count n ≤ q = omega arith in
-    ap (λ (all : List (List ℕ)). length (concat all)) (sym (take_all q blocks (omega (arith, length-shard d n blocks fit))))
-    ∙ length-front d n blocks q fit (omega arith)
-    ∙ omega (arith, block_size-zero d, ap (block_size d) none)
-    | inr some ↦
-    let q = n / stripe_size in
-    let rest : n - q * stripe_size ≡ n % stripe_size = omega arith in
-    length-blocks d n blocks q fit (omega arith) (omega arith) ∙ omega (arith, ap (block_size d) rest)
-    ]
+  | inl none ↦
+      let q = n / stripe_size in
+      let count : stripe_count n ≤ q = omega arith in
+      ap (λ (all : List (List ℕ)). length (concat all)) (sym (take_all q blocks (omega (arith, length-shard d n blocks fit))))
+      ∙ length-front d n blocks q fit (omega arith)
+      ∙ omega (arith, block_size-zero d, ap (block_size d) none)
+  | inr some ↦
+      let q = n / stripe_size in
+      let rest : n - q * stripe_size ≡ n % stripe_size = omega arith in
+      length-blocks d n blocks q fit (omega arith) (omega arith) ∙ omega (arith, ap (block_size d) rest)
+]
 
 pub shard_files_have_length : ShardFilesHaveLength
 shard_files_have_length d n blocks some fit =
     length-append (concat blocks) (table_of blocks)
     ∙ omega (arith, length-blocks_by_rest d n blocks fit, length-table_of blocks, length-shard d n blocks fit)
 
--- a block of a stripe that is no longer than a whole one has at most half as many bytes
-pub small_block : (d n size : ℕ) → 2 ≤ d → n ≤ 1048576 → d * size < n + d → size ≤ 524288
-small_block d n size enough short few =
-    elim (cases_lt 524288 size) [
-    inl more ↦ absurd (omega (arith, mul-le-mul_left {m = 524289} {n = size} d (omega arith)))
-    | inr within ↦ within
+-- a block has at most half a stripe's bytes, rounded up
+pub half_block : (d n size : ℕ) → 2 ≤ d → d * size < n + d → size + size ≤ n + 1
+half_block d n size enough few =
+    elim (cases_lt (n + 1) (size + size)) [
+      | inl more ↦
+          let before = size - 1 in
+          let one_more : d * size ≡ d * (before + 1) = ap (λ (m : ℕ). d * m) (omega arith) in
+          absurd (omega (arith, one_more, mul-le 2 before d before enough (omega arith)))
+      | inr within ↦ within
     ]
 
 -- the blocks before the last one have fewer than 2^63 bytes
 pub small_front : (last whole : ℕ) → last ≤ 17592186044415 → whole ≤ 524288 → last * whole ≤ 9223372036854251520
 small_front last whole few small = omega (arith, mul-le last whole 17592186044415 524288 few small)
+
+-- a block ends where the next one begins, or where the digests do
+pub block_before_table : (last k whole end long : ℕ) → k ≤ last → (k < last → long ≡ whole) → (k ≡ last → long ≡ end)
+    → k * whole + long ≤ last * whole + end
+block_before_table last k whole end long low inner outer =
+    elim (cases_lt k last) [
+      | inl before ↦ omega (arith, mul-le-mul_right {m = k + 1} {n = last} whole (omega arith), inner before)
+      | inr at ↦
+          let same : k ≡ last = omega arith in
+          omega (arith, outer same, ap (λ (m : ℕ). m * whole) same)
+    ]
+
+pub bodies_have_shards : BodiesHaveShards
+bodies_have_shards d block_of body long =
+    map_map block_of length (stripes body)
+    ∙ map_same (λ stripe. length (block_of stripe)) (λ stripe. block_size d (length stripe)) (stripes body) long
+    ∙ sym (map_map length (block_size d) (stripes body))
+    ∙ ap (map (block_size d)) (stripes_have_lengths body)

@@ -49,7 +49,9 @@ pub data_blocks_have_one_size : DataBlocksHaveOneSize
 data_blocks_have_one_size d stripe some =
     let size = block_size d (length stripe) in
     let long : length (padded d stripe) ≡ size * d = omega (arith, length-padded d stripe some) in
-    let count = length-pieces size d (padded d stripe) in
-    (count, λ k default low.
-    let below : k < d = omega arith in
-    ap length (get_or-pieces size d (padded d stripe) k default below) ∙ length-whole_piece size d (padded d stripe) k below long)
+    let count = length-pieces size d (padded d stripe) in (
+      count,
+      λ k default low.
+          let below : k < d = omega arith in
+          ap length (get_or-pieces size d (padded d stripe) k default below) ∙ length-whole_piece size d (padded d stripe) k below long,
+    )

@@ -31,3 +31,9 @@ abbrev pub ShardFilesHaveLength : Type 0
 ShardFilesHaveLength = (d n : ℕ) (blocks : List (List ℕ)) → 0 < d → AreShardBlocks d n blocks
     → length (shard_bytes blocks)
     ≡ n / stripe_size * block_size d stripe_size + block_size d (n % stripe_size) + 32 * stripe_count n
+
+-- one block for each stripe of a body, of the size that the stripe's length asks for, are a shard's blocks
+abbrev pub BodiesHaveShards : Type 0
+BodiesHaveShards = (d : ℕ) (block_of : List ℕ → List ℕ) (body : List ℕ)
+    → ((stripe : List ℕ) → length (block_of stripe) ≡ block_size d (length stripe))
+    → AreShardBlocks d (length body) (map block_of (stripes body))

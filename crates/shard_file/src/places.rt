@@ -1,6 +1,6 @@
 //! Where blocks and digests stand.
 
-ghost use Rattle.std.specs.Prelude.{◌≡◌, ◌+◌, ◌*◌, ◌<◌, ◌≤◌, ℕ, List, [], drop, slice_index_or};
+ghost use Rattle.std.specs.Prelude.{◌≡◌, ◌+◌, ◌*◌, ◌^◌, ◌<◌, ◌≤◌, ℕ, List, [], drop, slice_index_or};
 ghost use Rattle.drive_base.specs.Plan.{data_drives};
 ghost use Rattle.shard_file.specs.Stripes.{block_size};
 ghost use Rattle.shard_file.specs.Shards.{AreShardBlocks, HoldsBlock, shard_bytes, table_of};
@@ -29,6 +29,7 @@ pub fn block_len(set: &SetPlan, stripe: u64) -> u64
     ensures size { result ≡ block_size (data_drives set.now.drives set.now.parity) stripe }
     ensures enough { stripe ≤ data_drives set.now.drives set.now.parity * result }
     ensures few { data_drives set.now.drives set.now.parity * result < stripe + data_drives set.now.drives set.now.parity }
+    ensures half { result + result ≤ stripe + 1 }
 {
     stripe.div_ceil(set.read_quorum() as u64)
 }
@@ -42,6 +43,8 @@ pub fn layout(set: &SetPlan, length: u64, stripe: u64) -> Place
         HoldsBlock (shard_bytes blocks) (slice_index_or blocks stripe []) result.block result.length result.digest }
     ensures table { (blocks : List (List ℕ)) → AreShardBlocks (data_drives set.now.drives set.now.parity) length blocks →
         drop result.digest (shard_bytes blocks) ≡ table_of (drop stripe blocks) }
+    ensures apart { result.block + result.length ≤ result.digest }
+    ensures fits { result.digest + 32 < 2 ^ 64 }
 {
     let whole = block_len(set, STRIPE);
     let last = (length - 1) / STRIPE;

@@ -1,4 +1,4 @@
-use Rattle.shard_file.proofs.ShardLemmas.{shard_files_have_length}
+use Rattle.shard_file.proofs.ShardLemmas.{bodies_have_shards, shard_files_have_length}
 use Rattle.shard_file.proofs.StripeLemmas.{stripes_are_the_body, stripes_have_lengths, data_blocks_are_padded, data_blocks_are_the_stripe, data_blocks_have_one_size}
 use Rattle.shard_file.proofs.laws.shard_laws.Goals as goal
 
@@ -19,3 +19,6 @@ returns-clause-blocks c = data_blocks_have_one_size
 
 pub returns-clause-file : goal.returns-clause-file
 returns-clause-file c = shard_files_have_length
+
+pub returns-clause-shards : goal.returns-clause-shards
+returns-clause-shards c = bodies_have_shards
