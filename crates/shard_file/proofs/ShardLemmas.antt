@@ -1,9 +1,8 @@
 -- Where blocks and digests stand in a shard file.
-use Rattle.std.proofs.Common.{◌≡◌, ℕ, zero, suc, ◌+◌, ◌-◌, ◌*◌, ◌/◌, ◌%◌, ◌<◌, ◌≤◌, min, ◌∙◌, List, [], ◌∷◌, ◌++◌, length, slice_index_or, take, drop, map, ap, inl, inr, refl, subst, sym, arith}
-use Rattle.std.specs.List.{concat, range_with_len}
+use Rattle.std.proofs.Common.{◌≡◌, ℕ, zero, suc, ◌+◌, ◌-◌, ◌*◌, ◌/◌, ◌%◌, ◌<◌, ◌≤◌, ◌∙◌, List, [], ◌∷◌, ◌++◌, length, slice_index_or, take, drop, map, ap, inl, inr, refl, subst, sym, arith}
+use Rattle.std.specs.List.{concat}
 use Rattle.std.proofs.Math.Nat.{mul-le-mul_right, zero-div, zero-mod}
 use Rattle.std.proofs.Math.Numerals.{add-one}
-use Rattle.std.proofs.lemmas.Grind.{div_ceil_times}
 use Rattle.std.proofs.lemmas.Bool.{cases_eq, cases_lt}
 use Rattle.std.proofs.lemmas.List.{append-nil, append_assoc, drop-drop, drop_at, drop_more, get_or-map, length-append, length-map, length-take-le, map-append, take-append-drop, take_all, take_at, take_more}
 use Rattle.std.proofs.lemmas.List.Folds.{concat-append}

@@ -1,10 +1,10 @@
 -- The stripes of a body, and the data blocks of a stripe.
-use Rattle.std.proofs.Common.{◌≡◌, ℕ, ◌+◌, ◌-◌, ◌*◌, ◌/◌, ◌%◌, ◌<◌, ◌≤◌, min, ◌∙◌, List, ◌++◌, length, take, replicate, ap, refl, sym, arith}
-use Rattle.std.specs.List.{concat, range_with_len}
+use Rattle.std.proofs.Common.{◌≡◌, ℕ, ◌-◌, ◌*◌, ◌<◌, ◌≤◌, ◌∙◌, List, length, take, replicate, ap, refl, arith}
+use Rattle.std.specs.List.{range_with_len}
 use Rattle.std.proofs.lemmas.Grind.{div_ceil_times}
 use Rattle.std.proofs.lemmas.List.{length-append, length-replicate, take_all, take_at}
 use Rattle.shard_file.specs.Laws.{StripesAreTheBody, StripesHaveLengths, DataBlocksArePadded, DataBlocksAreTheStripe, DataBlocksHaveOneSize}
-use Rattle.shard_file.specs.Stripes.{piece, stripe_size, stripe_count, stripe_length, stripes, block_size, padded, data_blocks}
+use Rattle.shard_file.specs.Stripes.{piece, stripe_size, stripe_count, stripe_length, block_size, padded}
 use Rattle.shard_file.proofs.Pieces.{concat-pieces, get_or-pieces, length-piece, length-pieces, length-whole_piece, map_map, map_same}
 
 -- the stripes reach to the body's end

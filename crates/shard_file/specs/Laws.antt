@@ -1,5 +1,5 @@
 -- The laws of stripes, blocks and shard files.
-use Rattle.std.specs.Prelude.{◌≡◌, ℕ, ◌+◌, ◌*◌, ◌/◌, ◌%◌, ◌<◌, ◌≤◌, List, All, length, take, map}
+use Rattle.std.specs.Prelude.{◌≡◌, ℕ, ◌+◌, ◌*◌, ◌/◌, ◌%◌, ◌<◌, List, All, length, take, map}
 use Rattle.std.specs.List.{concat}
 use Rattle.shard_file.specs.Stripes.{stripe_size, stripe_count, stripe_lengths, stripes, block_size, padded, data_blocks}
 use Rattle.shard_file.specs.Shards.{shard_bytes, AreShardBlocks}

@@ -1,5 +1,5 @@
 -- How a body is cut into stripes, and a stripe into data blocks.
-use Rattle.std.specs.Prelude.{ℕ, ◌+◌, ◌-◌, ◌*◌, min, List, ◌++◌, length, take, drop, map, replicate}
+use Rattle.std.specs.Prelude.{ℕ, ◌-◌, ◌*◌, min, List, ◌++◌, length, take, drop, map, replicate}
 use Rattle.std.specs.List.{range_with_len}
 use Rattle.std.specs.Int.{div_ceil}
 

@@ -1,8 +1,6 @@
 //! Places and digests, compared with what `tools/golden_shards.py` of the repository prints: it builds the files byte by
 //! byte.
 
-ghost use Rattle.std.specs.Prelude.{◌≡◌, ◌+◌, ◌*◌, ◌<◌, ◌≤◌};
-
 use super::*;
 use drive_base::SetPlan;
 use seal_file::Damage;

@@ -1,4 +1,4 @@
-use Rattle.std.proofs.Common.{◌≡◌, ℕ, ◌+◌, ◌-◌, ◌*◌, ◌/◌, ◌<◌, ◌≤◌, ◌∙◌, ap, sym, arith}
+use Rattle.std.proofs.Common.{◌≡◌, ℕ, ◌-◌, ◌*◌, ◌/◌, ◌<◌, ◌∙◌, ap, sym, arith}
 use Rattle.drive_base.specs.Plan.{data_drives}
 use Rattle.shard_file.specs.Stripes.{block_size, stripe_length}
 use Rattle.shard_file.proofs.ShardLemmas.{block_before_table, holds_block, small_front, table_from}
