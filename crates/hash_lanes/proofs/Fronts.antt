@@ -1,7 +1,7 @@
 -- A loop that writes digests in order: what it has written is the front of what is to be written.
-use Rattle.std.proofs.Common.{◌≡◌, ℕ, ◌+◌, ◌<◌, ◌≤◌, List, [], ◌∷◌, ◌++◌, length, slice_index_or, slice_set, take, arith, refl}
+use Rattle.std.proofs.Common.{◌≡◌, ℕ, ◌+◌, ◌<◌, ◌≤◌, List, [], ◌∷◌, ◌++◌, length, slice_index_or, slice_set, take, ap, ◌∙◌, arith, refl}
 use Rattle.std.specs.Borrow.{Bor}
-use Rattle.std.proofs.lemmas.List.{append_assoc, get_or-map, length-map, take_more, take_more_set}
+use Rattle.std.proofs.lemmas.List.{append_assoc, get_or-map, get_or_append_left, length-take-le, length-map, take_more, take_more_set}
 use Rattle.std.proofs.lemmas.List.FromFn.{get_or-map-range_with_len, length-map-range_with_len}
 use Rattle.sha2.specs.Sha256.{sha256}
 use Rattle.hash_lanes.specs.Blocks.{block_at, block_digests, digests_of}
@@ -58,3 +58,14 @@ pub front_four : (old new targets : List (List ℕ)) (at : ℕ) (a b c d : List 
     → take (at + 4) new ≡ take (at + 4) targets
 front_four old new targets at a b c d fits ea eb ec ed written held =
     rw (written, take_four targets at fits, held, ea, eb, ec, ed) refl
+
+-- the digest of a block, for a caller that had the first `count` places of an array written
+pub get_or-written : (size : ℕ) (bytes : List ℕ) (count i : ℕ) (old new rest : List (List ℕ)) → count ≤ length old
+    → new ≡ block_digests size bytes (length (take count old)) → i < count
+    → slice_index_or (new ++ rest) i [] ≡ sha256 (block_at size bytes i)
+get_or-written size bytes count i old new rest fits written low =
+    let long : length (take count old) ≡ count = length-take-le count old fits in
+    let wanted : new ≡ block_digests size bytes count = rw long at written in
+    let within : i < length new = omega (arith, ap length wanted, length-block_digests size bytes count) in
+    get_or_append_left new rest [] i within ∙ ap (λ (digests : List (List ℕ)). slice_index_or digests i []) wanted
+    ∙ get_or-block_digests size bytes count i low
