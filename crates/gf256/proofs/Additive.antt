@@ -9,6 +9,7 @@ use Rattle.std.proofs.Math.Nat.{pow-suc}
 abbrev pub IsAdditive : (ℕ → ℕ) → Type 0
 IsAdditive f = (a b : ℕ) → f (bit_xor a b) ≡ bit_xor (f a) (f b)
 
+-- it takes 0 to 0
 pub additive-zero : (f : ℕ → ℕ) → IsAdditive f → f 0 ≡ 0
 additive-zero f adds =
     let e : f 0 ≡ bit_xor (f 0) (f 0) = adds 0 0 in

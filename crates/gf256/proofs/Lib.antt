@@ -2,6 +2,7 @@ pub mod Each
 pub mod BitSums
 pub mod Additive
 pub mod Products
+pub mod Remainders
 pub mod Powers
 pub mod TableLemmas
 pub mod Inverses

@@ -3,23 +3,28 @@ use Rattle.std.proofs.Common.{◌≡◌, ℕ, ◌+◌, ◌*◌, ◌<◌, zero, s
 use Rattle.gf256.specs.Field.{product, power}
 use Rattle.gf256.proofs.Products.{product-lt, product-assoc, product-one_left, product-zero_left}
 
+-- a power is an element
 pub power-lt : (a n : ℕ) → a < 256 → power a n < 256
 unfolding power
 power-lt a zero a_byte = lit< tt
 power-lt a (suc n) a_byte = product-lt a (power a n) a_byte (power-lt a n a_byte)
 
+-- the power of exponent 0
 pub power-zero : (a : ℕ) → power a 0 ≡ 1
 unfolding power
 power-zero a = refl
 
+-- the power of the next exponent
 pub power-suc : (a n : ℕ) → power a (suc n) ≡ product a (power a n)
 unfolding power
 power-suc a n = refl
 
+-- a power of 0
 pub power-of_zero : (n : ℕ) → 0 < n → power 0 n ≡ 0
 power-of_zero zero positive = absurd (omega arith)
 power-of_zero (suc n) positive = power-suc 0 n ∙ product-zero_left (power 0 n)
 
+-- a power of 1
 pub power-of_one : (n : ℕ) → power 1 n ≡ 1
 power-of_one zero = power-zero 1
 power-of_one (suc n) = power-suc 1 n ∙ ap (λ x. product 1 x) (power-of_one n) ∙ product-one_left 1 (lit< tt)

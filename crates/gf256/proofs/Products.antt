@@ -56,18 +56,21 @@ unfolding remainder
 remainder-xor zero a b = refl
 remainder-xor (suc k) a b = ap (remainder k) (without_bit_above-xor k a b) ∙ remainder-xor k (without_bit_above k a) (without_bit_above k b)
 
--- the product distributes over the sum, on both sides
+-- the product of a sum on the left
 pub product-xor_left : (a b c : ℕ) → product (bit_xor a b) c ≡ bit_xor (product a c) (product b c)
 unfolding product
 product-xor_left a b c = ap (remainder 7) (sum_of_copies-xor_left a b c 8) ∙ remainder-xor 7 (sum_of_copies a c 8) (sum_of_copies b c 8)
 
+-- and of a sum on the right
 pub product-xor_right : (a b c : ℕ) → product a (bit_xor b c) ≡ bit_xor (product a b) (product a c)
 unfolding product
 product-xor_right a b c = ap (remainder 7) (sum_of_copies-xor_right a b c 8) ∙ remainder-xor 7 (sum_of_copies a b 8) (sum_of_copies a c 8)
 
+-- 0 times an element
 pub product-zero_left : (a : ℕ) → product 0 a ≡ 0
 product-zero_left a = additive-zero (λ x. product x a) (λ x y. product-xor_left x y a)
 
+-- an element times 0
 pub product-zero_right : (a : ℕ) → product a 0 ≡ 0
 product-zero_right a = additive-zero (λ x. product a x) (product-xor_right a)
 
@@ -113,6 +116,7 @@ product-lt a b a_byte b_byte =
     b b_byte)
     a a_byte
 
+-- the factors change places
 pub product-comm : (a b : ℕ) → a < 256 → b < 256 → product a b ≡ product b a
 product-comm a b a_byte b_byte =
     additive_agree (λ x. product x b) (λ x. product b x) (λ x y. product-xor_left x y b) (product-xor_right b) 8
@@ -147,6 +151,7 @@ basis_assoc_middle i b c i_low b_byte c_byte =
     (λ x y. ap (λ z. product (2 ^ i) z) (product-xor_left x y c) ∙ product-xor_right (2 ^ i) (product x c) (product y c))
     8 (λ j j_low. basis_assoc_last i j c i_low j_low c_byte) b b_byte
 
+-- three factors, in either order
 pub product-assoc : (a b c : ℕ) → a < 256 → b < 256 → c < 256 → product (product a b) c ≡ product a (product b c)
 product-assoc a b c a_byte b_byte c_byte =
     additive_agree (λ x. product (product x b) c) (λ x. product x (product b c))
@@ -154,11 +159,13 @@ product-assoc a b c a_byte b_byte c_byte =
     (λ x y. product-xor_left x y (product b c))
     8 (λ i i_low. basis_assoc_middle i b c i_low b_byte c_byte) a a_byte
 
+-- an element times 1
 pub product-one_right : (a : ℕ) → a < 256 → product a 1 ≡ a
 product-one_right a a_byte =
     additive_agree (λ x. product x 1) (λ x. x) (λ x y. product-xor_left x y 1) (λ x y. refl) 8
     (λ i i_low. eqb-true (product (2 ^ i) 1) (2 ^ i) (all_below-at (λ i. eqb (product (2 ^ i) 1) (2 ^ i)) 8 basis_has_one i i_low))
     a a_byte
 
+-- 1 times an element
 pub product-one_left : (a : ℕ) → a < 256 → product 1 a ≡ a
 product-one_left a a_byte = product-comm 1 a (lit< tt) a_byte ∙ product-one_right a a_byte

@@ -141,6 +141,7 @@ agree_each points p q points_elements apart left right p_length q_length agree =
     (zero-from_roots points (sum_of p q) points_elements apart (sum_of-elements p q left right)
     (length-sum_of p q (omega arith) ∙ p_length) (sum-roots points p q points_elements left right agree))
 
+-- the law, with facts by places
 pub polynomials_agree : AgreeingPolynomialsAreEqual
 polynomials_agree points p q points_elements apart left right p_length q_length agree =
     let byte = λ (x : ℕ). x < 256 in

@@ -38,12 +38,13 @@ logarithms_are_exponents = refl
 logarithms_are_low : all_below (λ i. ltb (get_or LOGARITHMS (suc i) 0) 255) 255 ≡ true
 logarithms_are_low = refl
 
--- the table of logarithms
+-- the table of logarithms: an entry is an exponent below 255
 pub LOGARITHMS-lt : (a : ℕ) → 0 < a → a < 256 → get_or LOGARITHMS a 0 < 255
 LOGARITHMS-lt zero positive a_byte = absurd (omega arith)
 LOGARITHMS-lt (suc i) positive a_byte =
     ltb-true (get_or LOGARITHMS (suc i) 0) 255 (all_below-at (λ i. ltb (get_or LOGARITHMS (suc i) 0) 255) 255 logarithms_are_low i (omega arith))
 
+-- the table of logarithms: the power of an entry is the element
 pub LOGARITHMS-at : (a : ℕ) → 0 < a → a < 256 → power 2 (get_or LOGARITHMS a 0) ≡ a
 LOGARITHMS-at zero positive a_byte = absurd (omega arith)
 LOGARITHMS-at (suc i) positive a_byte =
@@ -60,6 +61,7 @@ logarithm_of a positive a_byte = (get_or LOGARITHMS a 0, (LOGARITHMS-lt a positi
 pub power-two_255 : power 2 255 ≡ 1
 power-two_255 = sym (POWERS-at 255 (lit< tt))
 
+-- so an exponent counts by its remainder
 pub power-two_mod : (n : ℕ) → power 2 (n % 255) ≡ power 2 n
 power-two_mod n =
     let q : ℕ = n / 255 in

@@ -26,8 +26,7 @@ unfoldable pub remainder : ℕ → ℕ → ℕ
 remainder zero x = x
 remainder (suc k) x = remainder k (without_bit_above k x)
 
--- the product of two elements: the sum of the shifted copies of b at the eight bits of a, which has bits up to bit 14,
--- reduced by the modulus
+-- the product of two elements: the sum of the copies of b at the eight bits of a, which has no bit above 14, reduced by the modulus
 unfoldable pub product : ℕ → ℕ → ℕ
 product a b = remainder 7 (sum_of_copies a b 8)
 

@@ -1,12 +1,14 @@
 //! The laws of the field and of polynomials over it, for a caller's proof.
 
 ghost use Rattle.std.specs.Prelude.{◌≡◌, ℕ, ◌<◌, bit_xor};
-ghost use Rattle.gf256.specs.Field.{product, power};
+ghost use Rattle.gf256.specs.Field.{modulus, power, product, sum_of_copies};
 ghost use Rattle.gf256.specs.Polynomial.{AgreeingPolynomialsAreEqual};
 
-/// The elements with the product and exclusive or are a field. An element is its own negative, and the
+/// The product is the remainder of the sum of shifted copies modulo the polynomial: they differ by a multiple of it, and
+/// the product is a byte. The elements with the product and exclusive or are a field. An element is its own negative, and the
 /// powers of 2 are all elements but 0. It does nothing.
 pub fn field_laws()
+    ensures reduced { (a b : ℕ) → (q : ℕ) × (sum_of_copies a b 8 ≡ bit_xor (sum_of_copies q modulus 7) (product a b)) }
     ensures closed { (a b : ℕ) → a < 256 → b < 256 → product a b < 256 }
     ensures associative { (a b c : ℕ) → a < 256 → b < 256 → c < 256 → product (product a b) c ≡ product a (product b c) }
     ensures commutative { (a b : ℕ) → a < 256 → b < 256 → product a b ≡ product b a }

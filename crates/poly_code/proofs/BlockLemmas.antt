@@ -50,6 +50,7 @@ width-unique p v w positive e = sym (width_is (p * v) p v positive refl) ∙ wid
 rows_count : all_below (λ i. eqb (get_or ROWS i 0) i) 16 ≡ true
 rows_count = refl
 
+-- how many numbers d data blocks have
 pub length-data_rows : (d : ℕ) → d ≤ 16 → length (take d ROWS) ≡ d
 length-data_rows d few = length-take-le d ROWS few
 
@@ -58,6 +59,7 @@ pub data_rows-at : (d i : ℕ) → d ≤ 16 → i < d → get_or (take d ROWS) i
 data_rows-at d i few below =
     get_or-take d ROWS i 0 below ∙ eqb-true (get_or ROWS i 0) i (all_below-at (λ i. eqb (get_or ROWS i 0) i) 16 rows_count i (omega arith))
 
+-- no two of them are the same
 pub data_rows-distinct : (d : ℕ) → d ≤ 16 → AreDistinct (take d ROWS)
 data_rows-distinct d few i j x below within e =
     let long : length (take d ROWS) ≡ d = length-data_rows d few in

@@ -16,9 +16,11 @@ use Rattle.poly_code.proofs.Differences.{AreRows, are_rows}
 use Rattle.poly_code.proofs.Interpolation.{Interpolant, interpolated}
 use Rattle.poly_code.proofs.BlockLemmas.{length-data_rows, data_rows-at, data_rows-distinct}
 
+-- a column has a byte of each block
 pub length-column : (count width k : ℕ) (blocks : List ℕ) → length (column count width k blocks) ≡ count
 length-column count width k blocks = length-map-range_with_len (byte_of_block width k blocks) 0 count
 
+-- byte i of a column is that of block i
 pub column-at : (count width k : ℕ) (blocks : List ℕ) (i : ℕ) → i < count → get_or (column count width k blocks) i 0 ≡ byte_of_block width k blocks i
 column-at count width k blocks i below = get_or-map-range_with_len (byte_of_block width k blocks) 0 count i i 0 below (omega arith)
 
@@ -85,6 +87,7 @@ encoded n d p width k blocks out whole few fit parity = record {
     found : Interpolant (take d ROWS) (byte_of_block width k blocks)
     found = interpolated (take d ROWS) (byte_of_block width k blocks) are (λ i below. fit (i * width + k))
 
+-- codewords that agree at as many places as they have coefficients are equal
 pub codewords_agree : AgreeingCodewordsAreEqual
 codewords_agree n d rows y z few count within distinct left right agree =
     let same : left.coefficients ≡ right.coefficients =

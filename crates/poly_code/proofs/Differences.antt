@@ -19,27 +19,32 @@ pub record AreRows (rows : List ℕ) : Type 0 where
   pub bytes : All (λ x. x < 256) rows
   pub distinct : AreDistinct rows
 
+-- rows of bytes that are distinct
 pub are_rows : (rows : List ℕ) → ((i : ℕ) → get_or rows i 0 < 256) → AreDistinct rows → AreRows rows
 are_rows rows bytes distinct = record {
   bytes = λ i d within. subst (λ (v : ℕ). v < 256) (get_or_default rows i 0 d within) (bytes i);
   distinct = distinct;
 }
 
+-- of no row the product is 1
 pub differences-zero : (rows : List ℕ) (i x : ℕ) → differences rows i x 0 ≡ 1
 unfolding differences
 differences-zero rows i x = refl
 
+-- the row that is left out changes nothing
 pub differences-same : (rows : List ℕ) (i x j : ℕ) → j ≡ i → differences rows i x (suc j) ≡ differences rows i x j
 unfolding differences
 differences-same rows i x j e =
     ap (λ b. cond b (differences rows i x j) (product (differences rows i x j) (bit_xor x (get_or rows j 0)))) (eq-eqb j i e)
 
+-- another row is one factor more
 pub differences-other : (rows : List ℕ) (i x j : ℕ) → j ≢ i →
     differences rows i x (suc j) ≡ product (differences rows i x j) (bit_xor x (get_or rows j 0))
 unfolding differences
 differences-other rows i x j ne =
     ap (λ b. cond b (differences rows i x j) (product (differences rows i x j) (bit_xor x (get_or rows j 0)))) (ne_eqb j i ne)
 
+-- the product is a byte
 pub differences-lt : (rows : List ℕ) (i x n : ℕ) → AreRows rows → x < 256 → n ≤ length rows → differences rows i x n < 256
 differences-lt rows i x zero are x_byte within = subst (λ (v : ℕ). v < 256) (sym (differences-zero rows i x)) (lit< tt)
 differences-lt rows i x (suc j) are x_byte within =
@@ -96,6 +101,7 @@ differences-nonzero rows i (suc j) are i_within within =
           rows_apart rows i j are i_within (omega arith) (λ e. ne (sym e)) (xor-cancel x row gap)
     ]
 
+-- an inverse is a byte
 pub inverse_of-lt : (a : ℕ) → a < 256 → inverse_of a < 256
 unfolding inverse_of
 inverse_of-lt a a_byte = power-lt a 254 a_byte

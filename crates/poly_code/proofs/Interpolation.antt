@@ -136,10 +136,12 @@ length-interpolant rows values (suc i) within =
     length-multiple (factor rows values i) (basis rows i (length rows)) ∙ length-basis rows i (length rows) (omega arith) in
     length-sum_of (interpolant rows values i) (multiple (factor rows values i) (basis rows i (length rows))) (omega arith) ∙ before
 
+-- of no row the sum is 0
 pub weighted_sum-zero : (rows : List ℕ) (values : ℕ → ℕ) (x : ℕ) → weighted_sum rows values x 0 ≡ 0
 unfolding weighted_sum
 weighted_sum-zero rows values x = refl
 
+-- one row more is one term more
 pub weighted_sum-suc : (rows : List ℕ) (values : ℕ → ℕ) (x i : ℕ) →
     weighted_sum rows values x (suc i) ≡ bit_xor (weighted_sum rows values x i) (product (weight rows i x) (values i))
 unfolding weighted_sum
@@ -228,6 +230,7 @@ pub record Interpolant (rows : List ℕ) (values : ℕ → ℕ) : Type 0 where
   pub count : length coefficients ≡ length rows
   pub through : (i : ℕ) → i < length rows → value_at coefficients (get_or rows i 0) ≡ values i
 
+-- there is one for any rows and values
 pub interpolated : (rows : List ℕ) (values : ℕ → ℕ) → AreRows rows → ValuesFit rows values → Interpolant rows values
 interpolated rows values are fit = record {
   coefficients = interpolant rows values (length rows);

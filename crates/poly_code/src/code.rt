@@ -8,7 +8,7 @@ ghost use Rattle.poly_code.specs.Columns.{column};
 use crate::block::fill_block;
 use drive_base::SetPlan;
 
-/// The numbers of the data blocks, of which a set has at most 15.
+/// The numbers of the drives of a set. The first D are those of the data blocks.
 static ROWS: [u8; 16] = [0, 1, 2, 3, 4, 5, 6, 7, 8, 9, 10, 11, 12, 13, 14, 15];
 
 /// Makes the parity of a stripe. `blocks` has the D data blocks of a set in their order, of one width, and `out` becomes

@@ -2,4 +2,5 @@
 
 mod every_set;
 mod plain;
+mod wide;
 mod worked;

@@ -11,7 +11,7 @@ use super::plain::{encoded, rebuilt};
 use drive_base::SetPlan;
 
 // The set of 4 drives and 2 of parity.
-fn small_set() -> SetPlan
+pub fn small_set() -> SetPlan
     ensures drives { result.drives ≡ 4 }
     ensures parity { result.parity ≡ 2 }
 {

@@ -1,6 +1,7 @@
 use Rattle.std.proofs.lemmas.Nat.{xor_comm, xor_of_8}
 use Rattle.gf256.proofs.Products.{product-lt, product-comm, product-assoc, product-one_right, product-xor_right, product-zero_right}
 use Rattle.gf256.proofs.TableLemmas.{logarithm_of}
+use Rattle.gf256.proofs.Remainders.{product-multiple}
 use Rattle.gf256.proofs.Inverses.{inverse, inverse-unique}
 use Rattle.gf256.proofs.laws.field_laws.Goals as goal
 
@@ -36,3 +37,6 @@ returns-clause-sum_commutative c = xor_comm
 
 pub returns-clause-generator : goal.returns-clause-generator
 returns-clause-generator c = logarithm_of
+
+pub returns-clause-reduced : goal.returns-clause-reduced
+returns-clause-reduced c = product-multiple
