@@ -141,6 +141,7 @@ fn places_of_every_set(rt: HostRuntime) {
 
 #[test]
 fn an_empty_body_has_no_stripe(rt: HostRuntime) {
+    shard_laws();
     let set = plan(4, 2).expect(&rt, "there is such a set");
     assert_eq!(rt; place(&set, 0, 0), None);
     assert_eq!(rt; block_len(&set, 0), 0);
