@@ -18,6 +18,7 @@ abbrev pub is_data : VersionId → What → Bool
 is_data id Marker = false
 is_data id (Object data_id print size md5 parts upload kind) = same_id data_id id
 
+-- the same of a version
 abbrev pub has_data : VersionId → Version → Bool
 has_data id v = is_data id v.what
 

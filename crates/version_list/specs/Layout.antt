@@ -24,9 +24,11 @@ is_no_id bytes = list_all (λ byte. byte == 0) bytes
 unfoldable pub is_among : List (List ℕ) → List ℕ → Bool
 is_among names bytes = list_any (λ name. bytes_eq name bytes) names
 
+-- whether a number is a moment: Unix seconds before the year 10000
 abbrev pub is_moment : ℕ → Bool
 is_moment moment = nat_lt moment 253402300800
 
+-- whether a number is a class of versions: 0 for a marker, 1 for an object
 abbrev pub is_class : ℕ → Bool
 is_class class = nat_lt class 2
 
@@ -34,6 +36,7 @@ is_class class = nat_lt class 2
 abbrev pub upload_rule : ℕ → List ℕ → Bool
 upload_rule parts bytes = if parts == 0 then is_no_id bytes else is_id bytes
 
+-- the fields that an object has and a marker has not
 unfoldable pub object : Format (Option ObjectRow)
 object =
     with_rule is_id (field 16) >>= λ data_id.
@@ -78,6 +81,7 @@ upload is_used =
 abbrev pub version_names : List VersionRow → List (List ℕ)
 version_names versions = map (λ v. v.id) versions
 
+-- the same of uploads
 abbrev pub upload_names : List UploadRow → List (List ℕ)
 upload_names uploads = map (λ u. u.id) uploads
 
@@ -89,6 +93,7 @@ versions count = series count (λ before. version (is_among (version_names befor
 unfoldable pub uploads : (List ℕ → Bool) → ℕ → Format (List UploadRow)
 uploads is_used count = series count (λ before. upload (λ id. is_used id || is_among (upload_names before) id)) []
 
+-- A key has at most 10,000 versions.
 abbrev pub is_version_count : ℕ → Bool
 is_version_count count = nat_le count 10000
 

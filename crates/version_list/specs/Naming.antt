@@ -25,6 +25,7 @@ same_name (Id a) (Id b) = same_id a b
 abbrev pub SameIdIsEquality : Type 0
 SameIdIsEquality = (a b : VersionId) → (same_id a b ≡ true) ↔ (a ≡ b)
 
+-- the same of names
 abbrev pub SameNameIsEquality : Type 0
 SameNameIsEquality = (a b : VersionName) → (same_name a b ≡ true) ↔ (a ≡ b)
 
@@ -41,6 +42,7 @@ is_named (Some name) v = has_name name v
 abbrev pub kept : Option VersionName → List Version → List Version
 kept name versions = filter (λ v. not (is_named name v)) versions
 
+-- whether a version is a delete marker
 abbrev pub is_marker : What → Bool
 is_marker Marker = true
 is_marker (Object data_id print size md5 parts upload kind) = false

@@ -26,11 +26,13 @@ pub record VersionRow : Type 0 where
   pub modified : ℕ
   pub object : Option ObjectRow
 
+-- an open upload
 pub record UploadRow : Type 0 where
   pub id : List ℕ
   pub opened : ℕ
   pub kind : List ℕ
 
+-- all that a key has
 pub record StateRows : Type 0 where
   pub versions : List VersionRow
   pub uploads : List UploadRow
@@ -49,6 +51,7 @@ abbrev pub upload_field : Option VersionId → List ℕ
 upload_field None = no_id
 upload_field (Some id) = id_bytes id
 
+-- what is spelled of a version that is an object
 abbrev pub object_row : What → Option ObjectRow
 object_row Marker = None
 object_row (Object data_id print size md5 parts upload kind) = Some (record {
@@ -61,11 +64,14 @@ object_row (Object data_id print size md5 parts upload kind) = Some (record {
   kind = kind;
 })
 
+-- what is spelled of a version
 abbrev pub version_row : Version → VersionRow
 version_row version = record { id = name_field version.id; modified = version.modified; object = object_row version.what }
 
+-- what is spelled of an upload
 abbrev pub upload_row : Upload → UploadRow
 upload_row upload = record { id = id_bytes upload.id; opened = upload.opened; kind = upload.kind }
 
+-- what is spelled of a state
 abbrev pub rows_of : KeyState → StateRows
 rows_of state = record { versions = map version_row state.versions; uploads = map upload_row state.uploads }

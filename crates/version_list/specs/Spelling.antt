@@ -17,9 +17,11 @@ object_bytes None = []
 object_bytes (Some o) = joined (
     o.data_id ∷ o.print ∷ number_bytes w64 o.size ∷ o.md5 ∷ number_bytes w16 o.parts ∷ o.upload ∷ short_text_bytes o.kind ∷ [])
 
+-- the fields of a version
 abbrev pub version_bytes : VersionRow → List ℕ
 version_bytes v = joined (v.id ∷ number_bytes w8 (class_of v.object) ∷ number_bytes w64 v.modified ∷ object_bytes v.object ∷ [])
 
+-- the fields of an upload
 abbrev pub upload_bytes : UploadRow → List ℕ
 upload_bytes u = joined (u.id ∷ number_bytes w64 u.opened ∷ short_text_bytes u.kind ∷ [])
 

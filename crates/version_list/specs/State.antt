@@ -36,14 +36,17 @@ pub record IsObject (print : List ℕ) (size : ℕ) (md5 : List ℕ) (parts : �
   pub parts_of_upload : (parts ≡ 0) ↔ IsNone upload
   pub kind_short : IsKind kind
 
+-- a marker has no fields, and those of an object are in order
 abbrev pub IsCanonicalWhat : What → Type 0
 IsCanonicalWhat Marker = ⊤
 IsCanonicalWhat (Object data_id print size md5 parts upload kind) = IsObject print size md5 parts upload kind
 
+-- a version in order
 pub record IsCanonicalVersion (version : Version) : Type 0 where
   pub modified : IsMoment version.modified
   pub what : IsCanonicalWhat version.what
 
+-- an upload in order
 pub record IsCanonicalUpload (upload : Upload) : Type 0 where
   pub opened : IsMoment upload.opened
   pub kind_short : IsKind upload.kind

@@ -115,12 +115,14 @@ pub fn close_upload(alloc: Global, state: &KeyState, upload: VersionId) -> Resul
     })
 }
 
+/// A copy of the versions.
 pub fn copied_versions(versions: &Versions) -> Result<Versions, NoMemory>
     ensures { IfOk result (λ copy. copy ≡ versions.now) }
 {
     Ok(versions.clone()?)
 }
 
+/// A copy of the uploads.
 fn copied_uploads(uploads: &Uploads) -> Result<Uploads, NoMemory>
     ensures { IfOk result (λ copy. copy ≡ uploads.now) }
 {

@@ -32,6 +32,7 @@ pub fn gone(
     Ok(Bytes::from_vec(bytes))
 }
 
+/// Appends the id of the data of a version that goes, unless a new version has that data.
 pub fn push_gone(bytes: &mut Vec<u8>, version: &Version, new: &[Version]) -> Result<(), NoMemory>
     ensures { OnOk result (bytes.new.items ≡ bytes.old.items ++ gone_bytes (version.now ∷ []) new.now) }
 {

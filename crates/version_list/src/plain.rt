@@ -225,6 +225,7 @@ fn next(
     }
 }
 
+/// The name of a version that is made with this id.
 fn name_of(mode: Mode, id: VersionId) -> VersionName
     ensures { result ≡ name_of mode id }
 {
@@ -320,6 +321,7 @@ fn reply(state: &KeyState, mode: Mode, act: &Act, id: VersionId) -> Reply
     }
 }
 
+/// The reply to a DELETE of this name.
 fn deleted(state: &KeyState, mode: Mode, name: VersionName) -> Reply
     ensures { result ≡ Reply.Deleted (told mode name)
         (list_any (λ v. has_name name v && is_marker v.what) state.now.versions) }
@@ -330,6 +332,7 @@ fn deleted(state: &KeyState, mode: Mode, name: VersionName) -> Reply
     }
 }
 
+/// The name, where the mode tells names.
 fn shown(mode: Mode, name: VersionName) -> Option<VersionName>
     ensures { result ≡ told mode name }
 {
@@ -362,6 +365,7 @@ fn are_same_uploads(a: &[Upload], b: &[Upload]) -> bool
     }
 }
 
+/// Whether the uploads are the same.
 fn is_same_upload(a: &Upload, b: &Upload) -> bool
     ensures { IsTrue result ↔ (a.now ≡ b.now) }
 {
@@ -407,6 +411,7 @@ pub fn apply(
     })
 }
 
+/// Whether the states are the same.
 pub fn is_same_state(a: &KeyState, b: &KeyState) -> bool
     ensures { IsTrue result ↔ (a.now ≡ b.now) }
 {

@@ -60,6 +60,7 @@ fn is_same_what(a: &What, b: &What) -> bool
     }
 }
 
+/// Whether the uploads that made the versions, if any, are the same.
 fn is_same_upload(a: Option<VersionId>, b: Option<VersionId>) -> bool
     ensures { IsTrue result ↔ (a ≡ b) }
 {
@@ -70,12 +71,14 @@ fn is_same_upload(a: Option<VersionId>, b: Option<VersionId>) -> bool
     }
 }
 
+/// Whether the ids are the same.
 pub fn is_same_id(a: VersionId, b: VersionId) -> bool
     ensures { IsTrue result ↔ (a ≡ b) }
 {
     a == b
 }
 
+/// Whether the texts are the same.
 pub fn is_same_text(a: &Text, b: &Text) -> bool
     ensures { IsTrue result ↔ (a.now ≡ b.now) }
 {

@@ -37,6 +37,7 @@ pub fn apply(
     do_act(alloc, state, mode, act, id, now)
 }
 
+/// The step of `apply`, for any state, moment and act; the new state is canonical where these are as `apply` asks.
 pub fn do_act(
     alloc: Global,
     state: &KeyState,
@@ -106,6 +107,7 @@ pub fn do_act(
     }
 }
 
+/// An object with these fields.
 fn object(
     data_id: VersionId,
     print: [u8; 32],
@@ -129,6 +131,7 @@ fn object(
     }
 }
 
+/// A DELETE that names no version: in mode Never the version `null` goes, and else a marker is put in front.
 fn delete_current(
     alloc: Global,
     state: &KeyState,
@@ -151,6 +154,7 @@ fn delete_current(
     }
 }
 
+/// Puts a delete marker in front, unless the key has all the versions that it may have.
 fn add_marker(
     alloc: Global,
     state: &KeyState,
@@ -177,6 +181,7 @@ fn add_marker(
     }))
 }
 
+/// A DELETE of the version of this name, which goes for good.
 fn delete_named(
     alloc: Global,
     state: &KeyState,
@@ -193,6 +198,7 @@ fn delete_named(
     }))
 }
 
+/// Opens an upload, unless the key has all the uploads that it may have.
 fn create(
     alloc: Global,
     state: &KeyState,
@@ -214,6 +220,7 @@ fn create(
     Ok(outcome.answered(Reply::Opened(id)))
 }
 
+/// Closes an upload, and puts the version that it made in front.
 fn complete(
     alloc: Global,
     state: &KeyState,
@@ -237,6 +244,7 @@ fn complete(
     Ok(outcome.answered(Reply::Completed { etag, id }))
 }
 
+/// Puts a version in front, unless the key has all the versions that it may have.
 fn put(
     alloc: Global,
     state: &KeyState,
@@ -258,6 +266,7 @@ fn put(
     Ok(outcome.answered(Reply::Stored { etag, id }))
 }
 
+/// Closes an upload, whose parts are dropped.
 fn abort(alloc: Global, state: &KeyState, upload: VersionId) -> Result<Applied, ActFault>
     ensures { Answers
         (WithUpload state.now upload (λ opened. Does Reply.Plain state.now.versions (still_open upload state.now.uploads)))

@@ -3,11 +3,14 @@
 
 ghost use Rattle.std.specs.Prelude.{◌<◌};
 
-use super::do_act;
+use super::{apply, do_act};
+use crate::naming::has_id;
 use crate::outcome::{ActFault, Applied};
 use crate::plain;
+use crate::reading::read;
 use crate::reads::find;
 use crate::state::KeyState;
+use crate::writing::write;
 use call_types::{
     Act, Brief, Etag, KeyRefusal, Mode, Pick, Reply, Uploads, Version, VersionName, Versions, What,
 };
@@ -103,6 +106,28 @@ fn acts(alloc: Global) -> Result<Vec<Act>, Fail> {
     })?;
     acts.push(Act::Abort { upload: id(13) })?;
     Ok(acts)
+}
+
+/// The state that a DELETE leaves in mode Enabled: one marker, with the sixth id and the moment NOW.
+const ONE_MARKER: [u8; 33] = [
+    0, 0, 0, 1, 0, 0, 0, 0, 0, 1, 0x80, 0x1c, 0x80, 0, 0, 0, 0, 0, 0, 7, 0, 0, 0, 0, 0, 0x2e, 0xbc,
+    0x98, 0xa1, 0, 0, 0, 0,
+];
+
+#[test]
+fn a_state_that_is_read_is_changed_and_written(rt: HostRuntime) -> Result<(), Fail> {
+    let state = read(rt.alloc(), b"").ok().ok_or("read")?;
+    let id = id(6);
+    assert!(rt; !has_id(&state, id));
+    let act = Act::Delete(Pick::Current);
+    let applied = apply(rt.alloc(), &state, Mode::Enabled, &act, id, NOW);
+    let applied = applied.ok().ok_or("apply")?;
+    let Applied { state: made, .. } = applied;
+    let made = made.ok_or("a new state")?;
+    assert!(rt; has_id(&made, id));
+    let written = write(rt.alloc(), &made)?;
+    assert_eq!(rt; written.as_slice(), ONE_MARKER.as_slice());
+    Ok(())
 }
 
 #[test]

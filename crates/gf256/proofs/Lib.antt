@@ -1,0 +1,10 @@
+pub mod Each
+pub mod BitSums
+pub mod Additive
+pub mod Products
+pub mod Remainders
+pub mod Powers
+pub mod TableLemmas
+pub mod Inverses
+pub mod Polynomials
+pub mod Roots

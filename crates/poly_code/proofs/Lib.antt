@@ -1,0 +1,5 @@
+pub mod Differences
+pub mod Interpolation
+pub mod CodewordLemmas
+pub mod BlockLemmas
+pub mod AddedProducts

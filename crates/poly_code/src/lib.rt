@@ -1,0 +1,23 @@
+//! The erasure code of a set: parity blocks, and any block of a stripe from as many others as it has data blocks.
+//!
+//! A stripe has D data blocks of one width and P parity blocks of that width, N in all. Byte by byte, the N blocks
+//! are the values of one polynomial over the field of 256 elements at the points 0, 1, .. N - 1, with D
+//! coefficients ([`Codeword`] of the specs). So any D blocks determine the others.
+//!
+//! The crate stands on `gf256` for the field and on `drive_base` for the plan of a set. It promises that
+//! [`encode`] gives the parity of which every column is a codeword, that [`rebuild`] gives the block of the one
+//! codeword through the D blocks that it is given, and that this codeword is one ([`codeword_laws`]). It takes no
+//! memory and refuses nothing.
+//!
+//! The weights of a block are worked out once a call. The loops run over whole blocks, source by source.
+#![tactic(auto)]
+
+mod block;
+mod code;
+mod laws;
+#[cfg(test)]
+mod tests;
+mod weight;
+
+pub use code::{encode, rebuild};
+pub use laws::codeword_laws;

@@ -1,0 +1,5 @@
+pub mod Canonical
+pub mod Injective
+pub mod LawProofs
+pub mod Made
+pub mod Texts

@@ -1,0 +1,75 @@
+-- The format of a register's file within its seal: the fields in their order, each with its rule.
+use Rattle.std.specs.Prelude.{ℕ, ◌^◌, List, Option, Some, None, Bool, ◌&&◌, ◌==◌, nat_lt, if◌then◌else◌}
+use Rattle.std.specs.Int.{w8, w32, w64}
+use Rattle.field_reader.specs.Format.{Format, ◌>>=◌, done, field, number, with_rule}
+use Rattle.id_field.specs.Layout.{id_field}
+use Rattle.register_file.specs.Rows.{StampRow, BaseRow, AddsRow, NextRow, FileRow}
+
+-- the one format number
+abbrev pub is_format : ℕ → Bool
+is_format format = format == 1
+
+abbrev pub is_term : ℕ → Bool
+is_term term = nat_lt term (2 ^ 48)
+
+abbrev pub is_seq : ℕ → Bool
+is_seq seq = nat_lt seq (2 ^ 62)
+
+-- 0 where nothing follows, and 1 where a part follows
+abbrev pub is_flag : ℕ → Bool
+is_flag flag = nat_lt flag 2
+
+-- whether the numbers are the same
+abbrev pub is_same_stamp : StampRow → StampRow → Bool
+is_same_stamp a b = a.term == b.term && a.seq == b.seq
+
+-- a ballot or a change: a term and a sequence number, a field each
+unfoldable pub stamp : Format StampRow
+stamp =
+    with_rule is_term (number w64) >>= λ term.
+    with_rule is_seq (number w64) >>= λ seq.
+    done (record { term = term; seq = seq })
+
+-- a length of four bytes, and so many bytes
+unfoldable pub content : Format (List ℕ)
+content = number w32 >>= λ size. field size
+
+-- a part where the flag is not 0
+abbrev pub part_if : {A : Type 0} → Format A → ℕ → Format (Option A)
+part_if part flag = if flag == 0 then done None else (part >>= λ value. done (Some value))
+
+-- a flag, and the part where it is 1
+unfoldable pub optional : {A : Type 0} → Format A → Format (Option A)
+optional part = with_rule is_flag (number w8) >>= λ flag. part_if part flag
+
+unfoldable pub base : Format BaseRow
+base =
+    stamp >>= λ ballot.
+    stamp >>= λ change.
+    content >>= λ content.
+    done (record { ballot = ballot; change = change; content = content })
+
+-- the data that a change adds, and its print
+unfoldable pub adds : Format AddsRow
+adds =
+    id_field >>= λ id.
+    field 32 >>= λ print.
+    done (record { id = id; print = print })
+
+-- a change whose parent is this one
+unfoldable pub next : StampRow → Format NextRow
+next parent =
+    stamp >>= λ ballot.
+    stamp >>= λ change.
+    with_rule (is_same_stamp parent) stamp >>= λ follows.
+    optional adds >>= λ adds.
+    content >>= λ content.
+    done (record { ballot = ballot; change = change; parent = follows; adds = adds; content = content })
+
+-- the format of register files
+unfoldable pub register : Format FileRow
+register =
+    with_rule is_format (number w8) >>= λ format.
+    base >>= λ base.
+    optional (next base.change) >>= λ next.
+    done (record { base = base; next = next })

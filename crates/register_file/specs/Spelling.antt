@@ -1,0 +1,46 @@
+-- The one spelling of each record. Numbers are big-endian.
+use Rattle.std.specs.Prelude.{ℕ, List, [], ◌∷◌, ◌++◌, length, Option, Some, None, codes}
+use Rattle.std.specs.Int.{w8, w32, w64}
+use Rattle.field_reader.specs.Spelling.{number_bytes, joined}
+use Rattle.seal_file.specs.Sealing.{sealed}
+use Rattle.register_file.specs.declared.record.RegFile.{RegFile}
+use Rattle.register_file.specs.Rows.{StampRow, BaseRow, AddsRow, NextRow, FileRow, row_of}
+
+-- a ballot or a change
+abbrev pub stamp_bytes : StampRow → List ℕ
+stamp_bytes stamp = joined (number_bytes w64 stamp.term ∷ number_bytes w64 stamp.seq ∷ [])
+
+-- a content: its length, and its bytes
+abbrev pub content_bytes : List ℕ → List ℕ
+content_bytes content = number_bytes w32 (length content) ++ content
+
+-- a part that may be missing: a flag, and the part where there is one
+abbrev pub optional_bytes : {A : Type 0} → (A → List ℕ) → Option A → List ℕ
+optional_bytes part None = number_bytes w8 0
+optional_bytes part (Some value) = number_bytes w8 1 ++ part value
+
+abbrev pub base_bytes : BaseRow → List ℕ
+base_bytes base = joined (stamp_bytes base.ballot ∷ stamp_bytes base.change ∷ content_bytes base.content ∷ [])
+
+abbrev pub adds_bytes : AddsRow → List ℕ
+adds_bytes adds = joined (adds.id ∷ adds.print ∷ [])
+
+abbrev pub next_bytes : NextRow → List ℕ
+next_bytes next = joined (
+    stamp_bytes next.ballot ∷ stamp_bytes next.change ∷ stamp_bytes next.parent ∷ optional_bytes adds_bytes next.adds ∷ content_bytes next.content ∷ [])
+
+-- the format number 1, the base, and the next where there is one
+abbrev pub row_bytes : FileRow → List ℕ
+row_bytes file = joined (number_bytes w8 1 ∷ base_bytes file.base ∷ optional_bytes next_bytes file.next ∷ [])
+
+-- the spelling of a record
+abbrev pub spelling : RegFile → List ℕ
+spelling file = row_bytes (row_of file)
+
+-- the kind of a register's file
+abbrev pub register_kind : List ℕ
+register_kind = codes "OREG"
+
+-- the file of a record
+abbrev pub file_of : RegFile → List ℕ
+file_of file = sealed register_kind (spelling file)

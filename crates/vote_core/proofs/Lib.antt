@@ -1,0 +1,14 @@
+mod Backing
+mod Counting
+mod Forwarding
+mod Judging
+mod Keeping
+mod Marking
+mod Members
+mod Places
+mod Preparing
+mod Ranks
+mod Resting
+mod Sections
+mod Showing
+mod VerdictLemmas

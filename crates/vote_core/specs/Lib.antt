@@ -1,0 +1,11 @@
+pub mod Calm
+pub mod History
+pub mod Lane
+pub mod Laws
+pub mod Loops
+pub mod Rank
+pub mod Row
+pub mod Section
+pub mod Shown
+pub mod Sound
+pub mod Verdict
