@@ -13,6 +13,7 @@ use Rattle.manifest_file.specs.Spelling.{roots_bytes}
 abbrev pub Cut : Type 0
 Cut = ℕ × List (List ℕ)
 
+-- the cut of a manifest's part
 abbrev pub cut_of : ManifestPart → Cut
 cut_of part = (part.length, part.roots)
 

@@ -4,11 +4,13 @@ use Rattle.stamp_id.specs.VersionId.{id_bytes}
 use Rattle.manifest_file.specs.declared.manifest.Manifest.{Manifest}
 use Rattle.manifest_file.specs.declared.manifest.ManifestPart.{ManifestPart}
 
+-- a part as it is spelled
 pub record PartRow : Type 0 where
   pub id : List ℕ
   pub size : ℕ
   pub roots : List (List ℕ)
 
+-- a manifest as it is spelled
 pub record ManifestRow : Type 0 where
   pub name : List ℕ
   pub drives : ℕ
@@ -19,5 +21,6 @@ pub record ManifestRow : Type 0 where
 abbrev pub part_row : ManifestPart → PartRow
 part_row part = record { id = id_bytes part.id; size = part.length; roots = part.roots }
 
+-- what is spelled of a manifest
 abbrev pub row_of : Manifest → ManifestRow
 row_of m = record { name = m.name; drives = m.drives; parity = m.parity; parts = map part_row m.parts }

@@ -15,6 +15,7 @@ name_bytes name = number_bytes w16 (length name) ++ name
 abbrev pub roots_bytes : List (List ℕ) → List ℕ
 roots_bytes roots = flat_map (λ root. root) roots
 
+-- the fields of a part
 abbrev pub part_bytes : PartRow → List ℕ
 part_bytes part = joined (part.id ∷ number_bytes w64 part.size ∷ roots_bytes part.roots ∷ [])
 

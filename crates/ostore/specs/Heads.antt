@@ -58,9 +58,11 @@ pub record SpellsNamed (method key : List ℕ) (pick : Pick) (head : List ℕ) :
   pub is_key : IsKey key
   pub is : head ≡ method ++ codes " /pic/" ++ key ++ query_of pick ++ codes " HTTP/1.1" ++ blank_line
 
+-- the head of a GET
 abbrev pub SpellsGet : List ℕ → Pick → List ℕ → Type 0
 SpellsGet = SpellsNamed (codes "GET")
 
+-- the head of a DELETE
 abbrev pub SpellsDelete : List ℕ → Pick → List ℕ → Type 0
 SpellsDelete = SpellsNamed (codes "DELETE")
 

@@ -31,10 +31,11 @@ abbrev pub StandsFor : Option (List ℕ) → KeyState → Type 0
 StandsFor None state = state ≡ empty_state
 StandsFor (Some bytes) state = bytes ≡ key_file state
 
--- the name of the data of this id, and the loose name under which it is written
+-- the name of the data of this id
 abbrev pub data_name : VersionId → List ℕ
 data_name id = codes "s/" ++ encode_lower (id_bytes id)
 
+-- the loose name under which the data of this id is written
 abbrev pub data_loose : VersionId → List ℕ
 data_loose id = codes "s" ++ encode_lower (id_bytes id)
 

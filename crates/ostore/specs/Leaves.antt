@@ -24,6 +24,7 @@ pub record Sides : Type 0 where
   pub faults : ℕ
   pub drawn : Drawn
 
+-- both sides, from their parts
 abbrev pub sides : Option (List ℕ) → ℕ → Drawn → Sides
 sides given faults drawn = record { given = given; faults = faults; drawn = drawn }
 

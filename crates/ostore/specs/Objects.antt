@@ -47,6 +47,7 @@ abbrev pub answer_text : Mode → Answer → List ℕ
 answer_text mode (replied reply body) = reply_text mode reply body
 answer_text mode unavailable = unavailable_text
 
+-- the versioned objects of the one bucket
 pub record Objects : Type 0 where
   -- the versions of each key
   pub states : List ℕ → KeyState

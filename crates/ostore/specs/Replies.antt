@@ -14,9 +14,11 @@ use Rattle.call_types.specs.declared.reply.Reply.{Reply}
 use Rattle.call_types.specs.declared.reply.Reply.TheVariants.{Stored, Found, Deleted, Refused}
 use Rattle.version_list.specs.Step.{told}
 
+-- the first line of a head, with a status and its phrase
 abbrev pub status_line : List ℕ → List ℕ
 status_line status = codes "HTTP/1.1 " ++ status ++ codes "\r\n"
 
+-- the line that tells the length of the body
 abbrev pub length_line : ℕ → List ℕ
 length_line n = codes "Content-Length: " ++ decimal n ++ codes "\r\n"
 
@@ -24,6 +26,7 @@ length_line n = codes "Content-Length: " ++ decimal n ++ codes "\r\n"
 abbrev pub etag_text : List ℕ → ℕ → List ℕ
 etag_text md5 parts = encode_lower md5 ++ (if parts == 0 then [] else codes "-" ++ decimal parts)
 
+-- the line of an entity tag
 abbrev pub etag_line : List ℕ → ℕ → List ℕ
 etag_line md5 parts = codes "ETag: \"" ++ etag_text md5 parts ++ codes "\"\r\n"
 
@@ -32,14 +35,17 @@ abbrev pub etag_of : What → List ℕ
 etag_of Marker = []
 etag_of (Object data_id print size md5 parts upload kind) = etag_line md5 parts
 
+-- the text of a version's name
 abbrev pub name_text : VersionName → List ℕ
 name_text Null = codes "null"
 name_text (Id id) = id_text id
 
+-- the line that tells a version's name, where one is told
 abbrev pub id_line : Option VersionName → List ℕ
 id_line None = []
 id_line (Some name) = codes "x-amz-version-id: " ++ name_text name ++ codes "\r\n"
 
+-- the line that tells of a delete marker
 abbrev pub marker_line : Bool → List ℕ
 marker_line true = codes "x-amz-delete-marker: true\r\n"
 marker_line false = []
@@ -77,9 +83,10 @@ reply_head mode n _ = plain_head (codes "200 OK") n
 abbrev pub reply_text : Mode → Reply → List ℕ → List ℕ
 reply_text mode reply body = reply_head mode (length body) reply ++ body
 
--- the refusal of a head, and the reply where a drive failed
+-- the refusal of a head
 abbrev pub bad_request : List ℕ
 bad_request = plain_head (codes "400 Bad Request") 0
 
+-- the reply where a drive failed
 abbrev pub unavailable_text : List ℕ
 unavailable_text = plain_head (codes "503 Service Unavailable") 0

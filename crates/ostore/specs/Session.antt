@@ -115,6 +115,7 @@ pub record Wires : Type 0 where
   pub read_faults : ℕ
   pub write_faults : ℕ
 
+-- wires, from what they show
 abbrev pub wires : Option (List ℕ) → Option (List ℕ) → ℕ → ℕ → Wires
 wires left given read_faults write_faults = record { left = left; given = given; read_faults = read_faults; write_faults = write_faults }
 
@@ -168,8 +169,7 @@ pub record Session (clock : Option ℕ) (mode : Mode) (tells : List Bool) (old :
   pub ends : EndsSo mode end exchanges tail out before after ⊎ IsAtLimit mode end exchanges tail out
   pub few : length exchanges ≤ 1000000
 
--- what one request leads to: an answer, or the end of the connection
--- `front` are the bytes of the request that were read before
+-- an answer, after which the next request may be read; `front` are the bytes of the request that were read before
 pub record TurnAnswers (clock : Option ℕ) (mode : Mode) (tells : List Bool) (front : List ℕ) (old : Moment) (before : Wires) (new : Moment) (after : Wires) : Type 0 where
   pub exchange : Exchange
   pub step : Step clock mode tells old exchange new
@@ -177,6 +177,7 @@ pub record TurnAnswers (clock : Option ℕ) (mode : Mode) (tells : List Bool) (f
   pub is : exchange.bytes ≡ front ++ part
   pub moved : Moved part (answer_text mode exchange.answer) before after
 
+-- the end of the connection, in this request
 pub record TurnEnds (clock : Option ℕ) (mode : Mode) (tells : List Bool) (front : List ℕ) (old : Moment) (before : Wires) (end : ConnectionEnd) (new : Moment) (after : Wires) : Type 0 where
   pub exchanges : List Exchange
   pub tail : List ℕ
@@ -190,6 +191,7 @@ pub record TurnEnds (clock : Option ℕ) (mode : Mode) (tells : List Bool) (fron
   pub ends : EndsSo mode end exchanges tail out before after
   pub few : length exchanges ≤ 1
 
+-- what one request leads to, by how its turn ended
 abbrev pub Turns : Option ℕ → Mode → List Bool → List ℕ → Moment → Wires → Turn → Moment → Wires → Type 0
 Turns clock mode tells front old before Answered new after = TurnAnswers clock mode tells front old before new after
 Turns clock mode tells front old before (Ended end) new after = TurnEnds clock mode tells front old before end new after

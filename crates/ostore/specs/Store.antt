@@ -29,6 +29,7 @@ pub record HasData (drawn : Drawn) (owner : List ℕ → List ℕ) (bodies : Nam
   pub is : bodies (data_name id) ≡ Some body
   pub printed : sha256 body ≡ print
 
+-- the same of a version; a marker has no data
 abbrev pub HasDataOf : Drawn → (List ℕ → List ℕ) → Named (List ℕ) → List ℕ → What → Type 0
 HasDataOf drawn owner bodies key Marker = ⊤
 HasDataOf drawn owner bodies key (Object data_id print size md5 parts upload kind) = HasData drawn owner bodies key data_id print

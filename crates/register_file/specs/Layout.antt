@@ -9,9 +9,11 @@ use Rattle.register_file.specs.Rows.{StampRow, BaseRow, AddsRow, NextRow, FileRo
 abbrev pub is_format : ℕ → Bool
 is_format format = format == 1
 
+-- a term is below 2^48
 abbrev pub is_term : ℕ → Bool
 is_term term = nat_lt term (2 ^ 48)
 
+-- a sequence number is below 2^62
 abbrev pub is_seq : ℕ → Bool
 is_seq seq = nat_lt seq (2 ^ 62)
 
@@ -42,6 +44,7 @@ part_if part flag = if flag == 0 then done None else (part >>= λ value. done (S
 unfoldable pub optional : {A : Type 0} → Format A → Format (Option A)
 optional part = with_rule is_flag (number w8) >>= λ flag. part_if part flag
 
+-- the ballot, the change and the content of a base
 unfoldable pub base : Format BaseRow
 base =
     stamp >>= λ ballot.

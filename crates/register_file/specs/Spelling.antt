@@ -19,12 +19,15 @@ abbrev pub optional_bytes : {A : Type 0} → (A → List ℕ) → Option A → L
 optional_bytes part None = number_bytes w8 0
 optional_bytes part (Some value) = number_bytes w8 1 ++ part value
 
+-- the fields of a base
 abbrev pub base_bytes : BaseRow → List ℕ
 base_bytes base = joined (stamp_bytes base.ballot ∷ stamp_bytes base.change ∷ content_bytes base.content ∷ [])
 
+-- the fields of the data that a change adds
 abbrev pub adds_bytes : AddsRow → List ℕ
 adds_bytes adds = joined (adds.id ∷ adds.print ∷ [])
 
+-- the fields of a next
 abbrev pub next_bytes : NextRow → List ℕ
 next_bytes next = joined (
     stamp_bytes next.ballot ∷ stamp_bytes next.change ∷ stamp_bytes next.parent ∷ optional_bytes adds_bytes next.adds ∷ content_bytes next.content ∷ [])
