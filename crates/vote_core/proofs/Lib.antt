@@ -9,6 +9,7 @@ mod Places
 mod Preparing
 mod Ranks
 mod Resting
+mod Searching
 mod Sections
 mod Showing
 mod VerdictLemmas

@@ -1,6 +1,7 @@
 //! The verdicts of worked stories, and of all small patterns of lanes.
 
 mod patterns;
+mod plain;
 mod stories;
 
 ghost use Rattle.std.specs.Prelude.{◌≤◌};

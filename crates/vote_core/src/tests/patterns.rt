@@ -1,8 +1,10 @@
 //! All small patterns of lanes, against a second and plain way to the verdict.
 
-use super::{absent, base, next, verdict};
-use crate::{Row, Verdict, judge};
-use stamp_id::{Ballot, ChangeId};
+ghost use Rattle.std.specs.Prelude.{◌≤◌};
+
+use super::{absent, base, next, plain, verdict};
+use crate::{Row, Verdict};
+use drive_base::SetPlan;
 use std::test::Fail;
 
 /// What a lane may show of two changes, 1 and 3, each proposed under two ballots.
@@ -23,129 +25,12 @@ fn lane_pattern(which: usize) -> Row {
     }
 }
 
-/// A record of a row: its ballot and its change.
-type Record = (Ballot, ChangeId);
-
-/// The base of a good row.
-fn base_of(row: &Row) -> Option<Record> {
-    match row {
-        Row::Bad => None,
-        Row::Good { base, change, .. } => Some((*base, *change)),
-    }
-}
-
-/// The next of a good row.
-fn next_of(row: &Row) -> Option<Record> {
-    match row {
-        Row::Good {
-            next: Some(next),
-            ..
-        } => Some((next.ballot, next.change)),
-        _ => None,
-    }
-}
-
-/// Whether the record is there and carries the change.
-fn is_of(record: Option<Record>, change: ChangeId) -> bool {
-    match record {
-        Some((_, carried)) => carried == change,
-        None => false,
-    }
-}
-
-/// Whether the first record is above the second. A record is above one that isn't there.
-fn is_above(one: Option<Record>, other: Option<Record>) -> bool {
-    match (one, other) {
-        (Some((one, _)), Some((other, _))) => one > other,
-        (Some(_), None) => true,
-        (None, _) => false,
-    }
-}
-
-/// Whether no row's base is above this one.
-fn is_greatest_base(rows: &[Row], record: Option<Record>) -> bool {
-    for row in rows {
-        if is_above(base_of(row), record) {
-            return false;
-        }
-    }
-    true
-}
-
-/// Whether no row's next is above this one.
-fn is_greatest_next(rows: &[Row], record: Option<Record>) -> bool {
-    for row in rows {
-        if is_above(next_of(row), record) {
-            return false;
-        }
-    }
-    true
-}
-
-/// How many rows are good, and how many have the change in base or next.
-fn count(rows: &[Row], change: Option<ChangeId>) -> u8 {
-    let mut count = 0u8;
-    for row in rows {
-        let counts = match change {
-            None => base_of(row).is_some(),
-            Some(change) => is_of(base_of(row), change) || is_of(next_of(row), change),
-        };
-        if counts {
-            count = count.saturating_add(1);
-        }
-    }
-    count
-}
-
-/// The verdict by pairs of lanes: the first lane of the greatest base and the first lane of the greatest next tell it.
-fn plain_verdict(rows: [Row; 4], read: u8, write: u8) -> Option<Verdict> {
-    let good = count(&rows, None);
-    if good < read {
-        return Some(Verdict::TooFew { good });
-    }
-    for base_lane in 0..4u8 {
-        for lane in 0..4u8 {
-            let base = base_of(&rows[usize::from(base_lane)]);
-            let next = next_of(&rows[usize::from(lane)]);
-            if is_greatest_base(&rows, base) && is_greatest_next(&rows, next) {
-                return Some(told(
-                    &rows,
-                    base,
-                    next,
-                    base_lane,
-                    lane,
-                    4u8.saturating_sub(good),
-                    write,
-                ));
-            }
-        }
-    }
-    None
-}
-
-/// What a base and a next tell.
-fn told(
-    rows: &[Row],
-    base: Option<Record>,
-    next: Option<Record>,
-    base_lane: u8,
-    lane: u8,
-    u: u8,
-    write: u8,
-) -> Verdict {
-    let Some((_, change)) = next else {
-        return Verdict::Settled { lane: base_lane };
-    };
-    let k = count(rows, Some(change));
-    if !is_above(next, base) || is_of(base, change) || k.saturating_add(u) < write {
-        return Verdict::Settled { lane: base_lane };
-    }
-    Verdict::Pending {
-        base_lane,
-        lane,
-        k,
-        u,
-    }
+/// The verdict over 4 lanes, of which this many are parity, by the plain way.
+fn plain_verdict(parity: u8, rows: [Row; 4]) -> Verdict
+    requires some { 1 ≤ parity }
+    requires few { parity ≤ 2 }
+{
+    plain::judge(&SetPlan::new([0; 16], 4, parity), &rows)
 }
 
 #[test]
@@ -160,8 +45,8 @@ fn every_pattern_of_four_lanes(rt: HostRuntime) -> Result<(), Fail> {
                         lane_pattern(third),
                         lane_pattern(fourth),
                     ];
-                    assert_eq!(rt; Some(verdict(2, rows)), plain_verdict(rows, 2, 3));
-                    assert_eq!(rt; Some(verdict(1, rows)), plain_verdict(rows, 3, 3));
+                    assert_eq!(rt; verdict(2, rows), plain_verdict(2, rows));
+                    assert_eq!(rt; verdict(1, rows), plain_verdict(1, rows));
                 }
             }
         }
