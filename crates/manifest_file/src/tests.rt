@@ -159,6 +159,9 @@ fn reads_what_was_written(rt: HostRuntime) {
     let manifest = read(rt.alloc(), &TWO_PARTS).expect(&rt, "it is a manifest");
     let read = again(rt.alloc(), &manifest).expect(&rt, "it is a manifest");
     assert_eq!(rt; print_of(&read), TWO_PARTS_PRINT);
+    for part in read.parts.into_vec() {
+        assert_eq!(rt; part.roots.into_vec().len(), 4);
+    }
 }
 
 #[test]

@@ -118,8 +118,8 @@ fn absent(alloc: Global) -> RegFile
     }
 }
 
-/// A record with every part.
-fn full(alloc: Global) -> Result<RegFile, NoMemory>
+/// A record with every part, which adds data of this print.
+fn full(alloc: Global, print: [u8; 32]) -> Result<RegFile, NoMemory>
     ensures { IfOk result (λ file. IsCanonical file) }
 {
     let first = ChangeId(Ballot { term: 1, seq: 4 });
@@ -133,7 +133,7 @@ fn full(alloc: Global) -> Result<RegFile, NoMemory>
         parent: first,
         adds: Some(Adds {
             id: VersionId::from_parts(second, 7),
-            print: PRINT,
+            print,
         }),
         content: Bytes::from_slice(alloc, b"xyz")?,
     };
@@ -158,7 +158,7 @@ fn writes_the_smallest_file(rt: HostRuntime) {
 
 #[test]
 fn writes_a_file_with_every_part(rt: HostRuntime) {
-    let file = full(rt.alloc()).expect(&rt, "there is memory");
+    let file = full(rt.alloc(), PRINT).expect(&rt, "there is memory");
     let bytes = write(rt.alloc(), &file).expect(&rt, "there is memory");
     assert_eq!(rt; bytes.as_slice(), FULL.as_slice());
     assert_eq!(rt; read(rt.alloc(), &FULL), Ok(file));
@@ -166,7 +166,7 @@ fn writes_a_file_with_every_part(rt: HostRuntime) {
 
 #[test]
 fn reads_what_was_written(rt: HostRuntime) {
-    let file = full(rt.alloc()).expect(&rt, "there is memory");
+    let file = full(rt.alloc(), PRINT).expect(&rt, "there is memory");
     assert_eq!(rt; again(rt.alloc(), &file), Ok(file));
 }
 
