@@ -1,0 +1,5 @@
+pub mod Clashes
+pub mod Laws
+pub mod Names
+pub mod Prints
+pub mod Shards

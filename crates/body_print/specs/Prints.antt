@@ -1,0 +1,25 @@
+-- The print of a body: a function of its bytes and of how they are cut into parts.
+use Rattle.std.specs.Prelude.{◌≡◌, ℕ, ◌-◌, ◌<◌, List, [], length, slice_index_or}
+use Rattle.std.specs.List.{concat}
+use Rattle.sha2.specs.Sha256.{sha256}
+use Rattle.manifest_file.specs.Print.{Cut, print_text}
+use Rattle.body_print.specs.Shards.{HasRoots}
+
+-- the cut of a part: its length, and the roots of its shards over n drives with p of parity
+abbrev pub IsCutOf : ℕ → ℕ → List ℕ → Cut → Type 0
+IsCutOf n p part cut = (cut.0 ≡ length part) × HasRoots n (n - p) part cut.1
+
+-- the text under the print of a body that is cut into parts
+pub record IsPrintText (n p : ℕ) (parts : List (List ℕ)) (text : List ℕ) : Type 0 where
+  pub cuts : List Cut
+  pub count : length cuts ≡ length parts
+  pub each : (i : ℕ) → i < length parts → IsCutOf n p (slice_index_or parts i []) (slice_index_or cuts i (0, []))
+  pub spells : text ≡ print_text n p cuts
+
+-- a body has a print: that of the body cut into some parts
+pub record HasPrint (n p : ℕ) (body print : List ℕ) : Type 0 where
+  pub parts : List (List ℕ)
+  pub text : List ℕ
+  pub joins : body ≡ concat parts
+  pub under : IsPrintText n p parts text
+  pub hashed : print ≡ sha256 text

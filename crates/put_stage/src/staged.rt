@@ -1,0 +1,60 @@
+//! What a stage answers.
+
+ghost use Rattle.std.specs.Prelude.{◌≡◌};
+ghost use Rattle.put_stage.specs.declared.staged.StageFault.TheVariants.{NoMemory};
+
+use call_types::Whys;
+
+use std::alloc::{AllocError, AllocFailed};
+
+/// A body that is staged.
+#[derive(Clone, Copy, Debug, PartialEq, Eq)]
+pub struct Staged {
+    /// The print of the body.
+    pub print: [u8; 32],
+    /// Its length in bytes.
+    pub length: u64,
+    /// Its MD5 (RFC 1321), or the ETag handed in with a manifest.
+    pub etag: [u8; 16],
+    /// A mask of the drives that took all its files: bit i stands for drive i.
+    pub took: u16,
+}
+
+/// Why a body wasn't staged.
+#[derive(Clone, Copy, Debug, PartialEq, Eq)]
+pub enum StageFault {
+    /// Fewer drives than a write needs did all calls: why, for each drive.
+    WriteQuorum(Whys),
+    /// The MD5 that was stated isn't the body's, which is `computed`. Nothing was put in place.
+    BadDigest { stated: [u8; 16], computed: [u8; 16] },
+    /// The feed ended before the stated length.
+    BodyCut,
+    /// The feed's source failed.
+    ReadFault,
+    /// There was not enough memory. Nothing was put in place.
+    NoMemory,
+}
+
+impl From<AllocError> for StageFault {
+    ghost from_gives = { λ _ error. error ≡ NoMemory };
+
+    fn from(_error: AllocError) -> StageFault {
+        StageFault::NoMemory
+    }
+}
+
+impl From<stamp_id::NoMemory> for StageFault {
+    ghost from_gives = { λ _ error. error ≡ NoMemory };
+
+    fn from(_error: stamp_id::NoMemory) -> StageFault {
+        StageFault::NoMemory
+    }
+}
+
+impl<T: Drop> From<AllocFailed<T>> for StageFault {
+    ghost from_gives = { λ _ error. error ≡ NoMemory };
+
+    fn from(_refused: AllocFailed<T>) -> StageFault {
+        StageFault::NoMemory
+    }
+}
