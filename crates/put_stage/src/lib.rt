@@ -21,6 +21,5 @@ mod whole;
 pub use staged::{StageFault, Staged};
 pub use whole::stage_whole;
 
-
 #[cfg(test)]
 mod tests;

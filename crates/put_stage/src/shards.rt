@@ -62,12 +62,7 @@ pub fn shards_of(alloc: Global, set: SetPlan, body: &[u8]) -> Result<Shards, All
     for shard in 0..drives {
         let table = table_of(alloc, stripes.as_slice(), shard)?;
         roots.push(root(table.as_slice()))?;
-        files.push(file_of(
-            alloc,
-            stripes.as_slice(),
-            shard,
-            table.as_slice(),
-        )?)?;
+        files.push(file_of(alloc, stripes.as_slice(), shard, table.as_slice())?)?;
     }
     Ok(Shards { files, roots })
 }

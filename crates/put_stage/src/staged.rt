@@ -4,7 +4,6 @@ ghost use Rattle.std.specs.Prelude.{◌≡◌};
 ghost use Rattle.put_stage.specs.declared.staged.StageFault.TheVariants.{NoMemory};
 
 use call_types::Whys;
-
 use std::alloc::{AllocError, AllocFailed};
 
 /// A body that is staged.
@@ -26,7 +25,10 @@ pub enum StageFault {
     /// Fewer drives than a write needs did all calls: why, for each drive.
     WriteQuorum(Whys),
     /// The MD5 that was stated isn't the body's, which is `computed`. Nothing was put in place.
-    BadDigest { stated: [u8; 16], computed: [u8; 16] },
+    BadDigest {
+        stated: [u8; 16],
+        computed: [u8; 16],
+    },
     /// The feed ended before the stated length.
     BodyCut,
     /// The feed's source failed.
