@@ -1,5 +1,5 @@
 -- The print of a body: a function of its bytes and of how they are cut into parts.
-use Rattle.std.specs.Prelude.{◌≡◌, ℕ, ◌-◌, ◌<◌, List, [], length, slice_index_or}
+use Rattle.std.specs.Prelude.{◌≡◌, ℕ, ◌-◌, ◌<◌, ◌≤◌, List, [], All, length, slice_index_or}
 use Rattle.std.specs.List.{concat}
 use Rattle.sha2.specs.Sha256.{sha256}
 use Rattle.manifest_file.specs.Print.{Cut, print_text}
@@ -16,9 +16,16 @@ pub record IsPrintText (n p : ℕ) (parts : List (List ℕ)) (text : List ℕ) :
   pub each : (i : ℕ) → i < length parts → IsCutOf n p (slice_index_or parts i []) (slice_index_or cuts i (0, []))
   pub spells : text ≡ print_text n p cuts
 
+-- a body is cut so that a manifest can tell it: into 1 to 10,000 parts of at most 5 GiB
+pub record IsCut (parts : List (List ℕ)) : Type 0 where
+  pub some : 0 < length parts
+  pub few : length parts ≤ 10000
+  pub fits : All (λ part. length part ≤ 5368709120) parts
+
 -- a body has a print: that of the body cut into some parts
 pub record HasPrint (n p : ℕ) (body print : List ℕ) : Type 0 where
   pub parts : List (List ℕ)
+  pub cut : IsCut parts
   pub text : List ℕ
   pub joins : body ≡ concat parts
   pub under : IsPrintText n p parts text
