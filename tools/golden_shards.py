@@ -2,63 +2,22 @@
 """Prints what the tests of shard files compare with, worked out by another way than the store's.
 
 Files are built byte by byte here: a body is cut, blocks are appended one after another, and each place is
-where the file ended when the block or digest was appended. Digests are hashlib's. Parity is interpolated by
-Lagrange's formula over the field of 256 elements modulo 0x11D, with products by long multiplication.
+where the file ended when the block or digest was appended. Digests are hashlib's, and parity is golden_code's.
 """
 
 import hashlib
+
+from golden_code import all_blocks, data_blocks
 
 STRIPE = 1 << 20
 SETS = [(4, 2), (5, 2), (8, 4), (16, 4)]
 LENGTHS = [1, STRIPE - 1, STRIPE, STRIPE + 1, 2 * STRIPE, 16 * STRIPE]
 
 
-def product(a, b):
-    total = 0
-    while b:
-        if b & 1:
-            total ^= a
-        a <<= 1
-        if a & 0x100:
-            a ^= 0x11D
-        b >>= 1
-    return total
-
-
-def inverse(a):
-    return next(b for b in range(1, 256) if product(a, b) == 1)
-
-
-def parity_byte(column, point):
-    total = 0
-    for i, byte in enumerate(column):
-        weight = 1
-        for j in range(len(column)):
-            if j != i:
-                weight = product(weight, product(point ^ j, inverse(i ^ j)))
-        total ^= product(weight, byte)
-    return total
-
-
 def cut(body):
     while body:
         yield body[:STRIPE]
         body = body[STRIPE:]
-
-
-def data_blocks(stripe, data):
-    size = 0
-    while size * data < len(stripe):
-        size += 1
-    filled = stripe + bytes(size * data - len(stripe))
-    return [filled[i * size : (i + 1) * size] for i in range(data)]
-
-
-def all_blocks(stripe, drives, parity):
-    blocks = data_blocks(stripe, drives - parity)
-    for point in range(drives - parity, drives):
-        blocks.append(bytes(parity_byte(column, point) for column in zip(*blocks[: drives - parity])))
-    return blocks
 
 
 def shard(blocks):

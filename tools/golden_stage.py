@@ -1,55 +1,21 @@
 #!/usr/bin/env python3
 """Prints the files that a stage leaves on 4 drives with 2 of parity, and what it answers, as arrays of Rust.
 
-They are worked out from docs/FORMATS.md alone: the field of 256 elements, the code, the shard files and the manifest.
+They are worked out from docs/FORMATS.md alone: the shard files and the manifest here, the code in golden_code.
 They stand in crates/put_stage/src/tests.rt. Run it again with `python3 tools/golden_stage.py`.
 """
 
 import hashlib
 import struct
 
+from golden_code import all_blocks
+
 DRIVES, PARITY, STRIPE = 4, 2, 1048576
 NAME = b"k/pic/a"
 
 
-def times(a, b):
-    """The product in the field of 256 elements by x^8 + x^4 + x^3 + x^2 + 1."""
-    product = 0
-    while b:
-        if b & 1:
-            product ^= a
-        a = a << 1 ^ (0x11D if a & 0x80 else 0)
-        b >>= 1
-    return product
-
-
-def inverse(a):
-    return next(b for b in range(256) if times(a, b) == 1)
-
-
-def value_at(x, data):
-    """The value at x of the polynomial that has these values at 0, 1, .., by Lagrange."""
-    total = 0
-    for i, byte in enumerate(data):
-        weight = 1
-        for j in range(len(data)):
-            if j != i:
-                weight = times(weight, times(x ^ j, inverse(i ^ j)))
-        total ^= times(weight, byte)
-    return total
-
-
-def blocks_of(stripe):
-    d = DRIVES - PARITY
-    size = -(-len(stripe) // d)
-    padded = stripe + bytes(d * size - len(stripe))
-    data = [padded[i * size : (i + 1) * size] for i in range(d)]
-    parity = [bytes(value_at(x, [b[k] for b in data]) for k in range(size)) for x in range(d, DRIVES)]
-    return data + parity
-
-
 def shards_of(body):
-    stripes = [blocks_of(body[at : at + STRIPE]) for at in range(0, len(body), STRIPE)]
+    stripes = [all_blocks(body[at : at + STRIPE], DRIVES, PARITY) for at in range(0, len(body), STRIPE)]
     return [[blocks[r] for blocks in stripes] for r in range(DRIVES)]
 
 
