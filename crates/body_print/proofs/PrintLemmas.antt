@@ -4,7 +4,7 @@ use Rattle.std.proofs.lemmas.List.{get_or_default, same_lists}
 use Rattle.shard_file.specs.Shards.{root_of}
 use Rattle.manifest_file.specs.Print.{Cut, print_text}
 use Rattle.body_print.specs.Laws.{PrintTextsAreOne}
-use Rattle.body_print.specs.Prints.{IsCutOf, IsPrintText}
+use Rattle.body_print.specs.Prints.{IsCutOf}
 use Rattle.body_print.proofs.ShardLemmas.{shards_are_one}
 
 -- two pairs with equal parts are equal

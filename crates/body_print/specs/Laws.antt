@@ -1,5 +1,5 @@
 -- The laws of shards and prints.
-use Rattle.std.specs.Prelude.{◌≡◌, ℕ, ◌-◌, ◌<◌, ◌≤◌, List, [], length, slice_index_or}
+use Rattle.std.specs.Prelude.{◌≡◌, ℕ, ◌<◌, ◌≤◌, List, [], length, slice_index_or}
 use Rattle.shard_file.specs.Shards.{AreShardBlocks}
 use Rattle.body_print.specs.Prints.{IsPrintText}
 use Rattle.body_print.specs.Shards.{AreShards}

@@ -17,3 +17,6 @@ pub fn body_laws()
     ensures blocks { ShardsHaveTheirBlocks }
     ensures texts { PrintTextsAreOne }
 {}
+
+#[cfg(test)]
+mod tests;

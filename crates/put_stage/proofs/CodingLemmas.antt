@@ -1,5 +1,5 @@
 -- The blocks of a stripe as they are coded: the data blocks, then the parity.
-use Rattle.std.proofs.Common.{◌≡◌, ℕ, ◌+◌, ◌-◌, ◌*◌, ◌<◌, ◌≤◌, ◌∙◌, List, [], ◌++◌, length, slice_index, slice_index_or, take, drop, map, replicate, ap, inl, inr, subst, sym, arith}
+use Rattle.std.proofs.Common.{◌≡◌, ℕ, ◌+◌, ◌-◌, ◌*◌, ◌<◌, ◌≤◌, ◌∙◌, List, [], ◌++◌, length, slice_index, take, drop, map, replicate, ap, inl, inr, subst, sym, arith}
 use Rattle.std.proofs.Math.Nat.{mul-le-mul_left}
 use Rattle.std.proofs.lemmas.Bool.{cases_lt}
 use Rattle.std.proofs.lemmas.Grind.{same_number_lists}
@@ -10,7 +10,7 @@ use Rattle.poly_code.specs.Codeword.{Codeword}
 use Rattle.poly_code.specs.Columns.{column}
 use Rattle.shard_file.proofs.Pieces.{get_or-pieces, length-pieces, length-whole_piece}
 use Rattle.shard_file.proofs.StripeLemmas.{blocks_reach, length-padded}
-use Rattle.shard_file.specs.Stripes.{block_size, data_blocks, padded, piece, pieces}
+use Rattle.shard_file.specs.Stripes.{block_size, padded, piece, pieces}
 use Rattle.body_print.specs.Shards.{AreStripeBlocks}
 use Rattle.sha2.specs.Sha256.{sha256}
 use Rattle.put_stage.specs.Coding.{IsCoded}

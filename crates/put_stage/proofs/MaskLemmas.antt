@@ -1,9 +1,8 @@
 -- The mask of the drives that took all, bit by bit.
-use Rattle.std.proofs.Common.{◌≡◌, ◌≢◌, ℕ, ◌+◌, ◌*◌, ◌^◌, ◌%◌, ◌<◌, ◌≤◌, ◌∙◌, Bool, true, false, List, length, slice_index_or, ap, inl, inr, refl, subst, sym, arith, w16}
+use Rattle.std.proofs.Common.{◌≡◌, ℕ, ◌+◌, ◌*◌, ◌^◌, ◌%◌, ◌<◌, ◌∙◌, Bool, true, false, List, length, slice_index_or, ap, inl, inr, refl, subst, sym, arith, w16}
 use Rattle.std.specs.Prelude.{◌↔◌, Some, bit_and, bit_or, slice_get}
 use Rattle.std.proofs.lemmas.Option.{slice_get-get_or}
 use Rattle.std.specs.Int.{IsBitSet, bit_at}
-use Rattle.std.proofs.Math.Pow.{pow_mono}
 use Rattle.std.proofs.lemmas.Bool.{cases_eq}
 use Rattle.std.proofs.lemmas.List.{get_or_default}
 use Rattle.std.proofs.lemmas.Nat.{or_lt, pow_below, pow_pos}

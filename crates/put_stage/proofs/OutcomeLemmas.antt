@@ -7,7 +7,7 @@ use Rattle.sha2.proofs.Facts256.{length-sha256}
 use Rattle.stamp_id.specs.declared.version.VersionId.{VersionId}
 use Rattle.call_types.specs.declared.why.Why.{Why}
 use Rattle.drive_base.specs.Files.{Files}
-use Rattle.drive_base.specs.Plan.{data_drives, write_drives}
+use Rattle.drive_base.specs.Plan.{write_drives}
 use Rattle.drive_base.specs.declared.plan.SetPlan.{SetPlan}
 use Rattle.manifest_file.specs.Canonical.{IsCanonical, IsCanonicalPart, IsRoot}
 use Rattle.manifest_file.specs.declared.manifest.Manifest.{Manifest}
@@ -16,7 +16,7 @@ use Rattle.manifest_file.specs.Spelling.{file_of}
 use Rattle.shard_file.specs.Shards.{root_of, shard_bytes, table_of}
 use Rattle.put_stage.specs.Coding.{IsSharded, all_bytes}
 use Rattle.put_stage.specs.OnDrives.{StagesOn}
-use Rattle.put_stage.specs.Outcomes.{Agrees, Answers, IsMaskOf, IsShort, IsStaged, Stages, Wrote, is_good, manifest_of}
+use Rattle.put_stage.specs.Outcomes.{Agrees, Answers, IsMaskOf, Stages, Wrote, is_good, manifest_of}
 use Rattle.put_stage.specs.Preparing.{IsPrepared}
 use Rattle.put_stage.specs.declared.staged.Staged.{Staged}
 use Rattle.put_stage.specs.declared.staged.StageFault.{StageFault}

@@ -1,5 +1,5 @@
 -- What a stage leaves on each drive, and why a drive did not take it.
-use Rattle.std.specs.Prelude.{◌≡◌, ◌⊎◌, ◌<◌, ℕ, Bool, true, false, IsTrue, bytes_eq, List, [], length, Some, None, slice_index_or}
+use Rattle.std.specs.Prelude.{◌≡◌, ◌⊎◌, ◌<◌, ℕ, Bool, false, IsTrue, bytes_eq, List, [], length, Some, None, slice_index_or}
 use Rattle.std.specs.Int.{IsBitSet}
 use Rattle.stamp_id.specs.declared.version.VersionId.{VersionId}
 use Rattle.call_types.specs.declared.why.FileKind.TheVariants.{Format, Register, Manifest, Shard}

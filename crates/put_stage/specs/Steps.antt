@@ -1,5 +1,5 @@
 -- What each step of a stage leaves on a drive, and why a step did not succeed.
-use Rattle.std.specs.Prelude.{◌≡◌, ◌⊎◌, ℕ, Bool, true, false, List, ◌++◌, bytes_eq, Some, Result, Ok, Err}
+use Rattle.std.specs.Prelude.{◌≡◌, ◌⊎◌, ℕ, true, false, List, ◌++◌, bytes_eq, Some, Result, Ok, Err}
 use Rattle.call_types.specs.declared.why.FileKind.{FileKind}
 use Rattle.call_types.specs.declared.why.FileKind.TheVariants.{Manifest, Shard}
 use Rattle.call_types.specs.declared.why.Why.{Why}

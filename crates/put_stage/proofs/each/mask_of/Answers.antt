@@ -1,4 +1,4 @@
-use Rattle.std.proofs.Common.{◌≡◌, ℕ, ◌+◌, ◌<◌, ◌∙◌, length, subst, sym, arith}
+use Rattle.std.proofs.Common.{◌+◌, ◌<◌, ◌∙◌, length, subst, sym, arith}
 use Rattle.put_stage.proofs.MaskLemmas.{MaskSoFar, looked_up, mask_all, mask_no, mask_yes}
 use Rattle.put_stage.proofs.each.mask_of.Goals as goal
 use Rattle.put_stage.proofs.each.mask_of.Goals.{then-is_good, else-is_good}

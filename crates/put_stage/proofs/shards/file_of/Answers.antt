@@ -1,4 +1,4 @@
-use Rattle.std.proofs.Common.{◌≡◌, ◌<◌, ◌++◌, ◌∙◌, List, ℕ, length, ap, sym, arith}
+use Rattle.std.proofs.Common.{◌<◌, length, arith}
 use Rattle.put_stage.proofs.ShardLemmas.{blocks_more}
 use Rattle.put_stage.proofs.shards.file_of.Goals as goal
 

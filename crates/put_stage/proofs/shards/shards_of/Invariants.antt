@@ -1,8 +1,7 @@
 use Rattle.std.proofs.Common.{◌≡◌, ℕ, map}
 use Rattle.std.specs.List.{range_with_len}
-use Rattle.drive_base.specs.Plan.{data_drives}
 use Rattle.shard_file.specs.Shards.{root_of, shard_bytes}
-use Rattle.put_stage.specs.Coding.{AreCoded, all_bytes, shard_of}
+use Rattle.put_stage.specs.Coding.{all_bytes, shard_of}
 use Rattle.put_stage.proofs.shards.shards_of.Given as goal
 
 abbrev pub invariant-loop-shard : goal.invariant-loop-shard

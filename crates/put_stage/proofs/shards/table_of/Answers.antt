@@ -1,4 +1,4 @@
-use Rattle.std.proofs.Common.{◌≡◌, ◌<◌, ◌++◌, ◌∙◌, List, ℕ, [], length, ap, subst, sym, arith}
+use Rattle.std.proofs.Common.{◌<◌, [], length, subst, sym, arith}
 use Rattle.put_stage.specs.Coding.{HasDigest}
 use Rattle.put_stage.proofs.ShardLemmas.{table_more}
 use Rattle.put_stage.proofs.shards.table_of.Goals as goal

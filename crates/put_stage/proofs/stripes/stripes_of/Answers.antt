@@ -1,4 +1,4 @@
-use Rattle.std.proofs.Common.{◌≡◌, ℕ, ◌-◌, ◌<◌, List, ◌∙◌, length, drop, min, subst, sym, arith}
+use Rattle.std.proofs.Common.{ℕ, ◌-◌, ◌<◌, List, length, drop, subst, sym, arith}
 use Rattle.put_stage.specs.Coding.{IsCoded}
 use Rattle.put_stage.specs.declared.stripes.Stripe.{Stripe}
 use Rattle.put_stage.proofs.ShardLemmas.{SoFar, one_more}

@@ -1,4 +1,4 @@
-use Rattle.std.proofs.Common.{◌∙◌, ◌-◌, arith, length}
+use Rattle.std.proofs.Common.{◌-◌, length}
 use Rattle.put_stage.specs.Coding.{all_bytes}
 use Rattle.put_stage.proofs.OutcomeLemmas.{canonical}
 use Rattle.put_stage.proofs.whole.prepare.Goals as goal
