@@ -17,7 +17,9 @@ mod fault;
 mod plan;
 #[cfg(test)]
 mod tests;
+mod trouble;
 
 pub use drive::{Drive, LONGEST_NAME};
 pub use fault::DriveFault;
 pub use plan::{MOST_DRIVES, SetPlan, usual_parity};
+pub use trouble::Trouble;

@@ -66,6 +66,27 @@ impl Drive for Liar {
     }
 }
 
+/// Makes a drive of fewer faults than these fail once.
+#[derive(Drop)]
+struct Stumble {
+    below: u64,
+}
+
+impl Trouble<Liar> for Stumble {
+    fn strike(&mut self, drive: &mut Liar) -> bool {
+        if drive.faults >= self.below {
+            return false;
+        }
+        drive.faults += 1;
+        true
+    }
+}
+
+/// Strikes a drive twice, as the holder of some drive does.
+fn strike_twice<D: Drive, T: Trouble<D>>(trouble: &mut T, drive: &mut D) -> [bool; 2] {
+    [trouble.strike(drive), trouble.strike(drive)]
+}
+
 /// The length of a file, or 0 where it isn't to be had.
 fn length_of<D: Drive>(drive: &mut D, name: &str) -> u64 {
     drive.size(name).unwrap_or(0)
@@ -88,6 +109,15 @@ fn a_drive_that_lies_is_a_drive(rt: HostRuntime) -> Result<(), Fail> {
         Some(DriveFault::NoMemory)
     );
     assert_eq!(rt; drive.faults(), 1);
+    Ok(())
+}
+
+#[test]
+fn a_trouble_strikes_where_it_can(rt: HostRuntime) -> Result<(), Fail> {
+    let mut drive = Liar { faults: 4 };
+    let mut trouble = Stumble { below: 5 };
+    assert_eq!(rt; strike_twice(&mut trouble, &mut drive), [true, false]);
+    assert_eq!(rt; drive.faults(), 5);
     Ok(())
 }
 

@@ -1,0 +1,19 @@
+//! What befalls a drive between two calls.
+
+ghost use Rattle.std.specs.Prelude.{◌≡◌, ◌≤◌, IsTrue};
+
+use crate::Drive;
+
+/// Something that befalls a drive between two calls: it is lost, comes back, is damaged, or will fail later.
+///
+/// A drive's own type has methods for these, and through this trait they reach a drive that a value of another
+/// type holds. Trouble changes what is shown, never what is kept or being written.
+pub trait Trouble<D: Drive> {
+    /// Befalls the drive, and answers whether it did: `false` where the drive wasn't as the trouble needs it, as
+    /// where damage is to hurt a byte that isn't there.
+    fn strike(&mut self, drive: &mut D) -> bool
+        ensures kept { IsTrue (D.tells drive.old) → (D.files drive.new).kept ≡ (D.files drive.old).kept }
+        ensures loose { IsTrue (D.tells drive.old) → (D.files drive.new).loose ≡ (D.files drive.old).loose }
+        ensures tells { D.tells drive.new ≡ D.tells drive.old }
+        ensures count { D.count drive.old ≤ D.count drive.new };
+}
