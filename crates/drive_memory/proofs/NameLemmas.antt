@@ -1,5 +1,5 @@
 -- Functions from names, after the value of one name is changed.
-use Rattle.std.specs.Prelude.{◌≡◌, ℕ, Bool, true, false, cond, List, ◌++◌, Option, Some, Vec, String, refl}
+use Rattle.std.specs.Prelude.{◌≡◌, ℕ, Bool, true, false, cond, List, ◌++◌, Option, Some, String, refl}
 use Rattle.std.proofs.Common.{ap, ◌∙◌}
 use Rattle.std.proofs.Math.Path.{fun_ext}
 use Rattle.std.proofs.lemmas.Map.Text.{btree_map_updates_text}
@@ -12,8 +12,9 @@ use Rattle.std.specs.Str.{bytes_eq}
 use Rattle.std.specs.String.{string_bytes, string_cmp}
 use Rattle.drive_base.specs.Files.{LooseFile, Named, with_name}
 use Rattle.drive_base.specs.Leaves.{loose_bytes}
-use Rattle.drive_memory.specs.Maps.{loose_file, loose_files, placed_files}
+use Rattle.drive_memory.specs.Maps.{loose_file, loose_files, kept_bytes, kept_files, shown_bytes, shown_files}
 use Rattle.drive_memory.specs.declared.loose.Loose.{Loose}
+use Rattle.drive_memory.specs.declared.placed.PlacedFile.{PlacedFile}
 
 module _ {S T : Type 0} (view : S → T) where
   -- the view of a choice
@@ -44,10 +45,15 @@ pub loose_files-with : {Y : Type 0} (m n : BTreeMap (String Y) Loose) (name : Li
     → get_by_text n ≡ with_name (get_by_text m) name w → loose_files n ≡ with_name (loose_files m) name (option_map loose_file w)
 loose_files-with m n name w e = ap (λ (f : Named Loose). λ (q : List ℕ). option_map loose_file (f q)) e ∙ view-with_name loose_file (get_by_text m) name w
 
--- the placed files after one key was changed
-pub placed_files-with : {Y Z : Type 0} (m n : BTreeMap (String Y) (Vec ℕ Z)) (name : List ℕ) (w : Option (Vec ℕ Z))
-    → get_by_text n ≡ with_name (get_by_text m) name w → placed_files n ≡ with_name (placed_files m) name (option_map (λ v. v.items) w)
-placed_files-with {Z = Z} m n name w e = ap (λ (f : Named (Vec ℕ Z)). λ (q : List ℕ). option_map (λ v. v.items) (f q)) e ∙ view-with_name (λ v. v.items) (get_by_text m) name w
+-- the files in place after one key was changed, as they were put there
+pub kept_files-with : {Y : Type 0} (m n : BTreeMap (String Y) PlacedFile) (name : List ℕ) (w : Option PlacedFile)
+    → get_by_text n ≡ with_name (get_by_text m) name w → kept_files n ≡ with_name (kept_files m) name (option_map kept_bytes w)
+kept_files-with m n name w e = ap (λ (f : Named PlacedFile). λ (q : List ℕ). option_map kept_bytes (f q)) e ∙ view-with_name kept_bytes (get_by_text m) name w
+
+-- the files in place after one key was changed, as reads give them
+pub shown_files-with : {Y : Type 0} (m n : BTreeMap (String Y) PlacedFile) (name : List ℕ) (w : Option PlacedFile)
+    → get_by_text n ≡ with_name (get_by_text m) name w → shown_files n ≡ with_name (shown_files m) name (option_map shown_bytes w)
+shown_files-with m n name w e = ap (λ (f : Named PlacedFile). λ (q : List ℕ). option_map shown_bytes (f q)) e ∙ view-with_name shown_bytes (get_by_text m) name w
 
 -- the loose file that a call wrote through `get_mut` has the bytes and flag that it had
 pub loose_files-kept : {Y : Type 0} (m n : BTreeMap (String Y) Loose) (name : List ℕ) (old new : Loose)

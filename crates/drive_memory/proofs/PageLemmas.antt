@@ -1,5 +1,5 @@
 -- Listings of the names of a map, from what a loop over its keys has seen.
-use Rattle.std.specs.Prelude.{◌≡◌, ◌≢◌, ◌⊎◌, ℕ, ◌≤◌, Bool, true, false, cond, IsSome, List, [], ◌∷◌, ◌++◌, length, map, filter, All, Contains, Option, Some, None, String, Vec, refl, nat_le, ◌&&◌}
+use Rattle.std.specs.Prelude.{◌≡◌, ◌≢◌, ◌⊎◌, ℕ, ◌≤◌, Bool, true, false, cond, IsSome, List, [], ◌∷◌, ◌++◌, length, map, filter, All, Contains, Option, Some, None, String, refl, nat_le, ◌&&◌}
 use Rattle.std.proofs.Common.{sym, ap, ◌∙◌, subst, inl, inr, arith}
 use Rattle.std.proofs.lemmas.Bool.{leb-true, le-leb}
 use Rattle.std.proofs.lemmas.List.{map-append}
@@ -19,8 +19,9 @@ use Rattle.std.specs.declared.cmp.Ordering.{Ordering}
 use Rattle.std.specs.declared.cmp.Ordering.TheVariants.{Less, Equal, Greater}
 use Rattle.drive_base.specs.Files.{Named}
 use Rattle.drive_base.specs.Names.{IsPage, ListsShown, byte_order, IsBefore}
-use Rattle.drive_memory.specs.Maps.{placed_files}
+use Rattle.drive_memory.specs.Maps.{shown_files, shown_bytes}
 use Rattle.drive_memory.specs.Page.{is_listed}
+use Rattle.drive_memory.specs.declared.placed.PlacedFile.{PlacedFile}
 
 module _ {K : Type 0} where
   -- an element of a list with a first element
@@ -179,20 +180,20 @@ module _ (from : List ℕ) (most longest : ℕ) (seen rest : List (List ℕ)) (s
     ];
   }
 
-module _ {Y Z : Type 0} (m : BTreeMap (String Y) (Vec ℕ Z)) where
+module _ {Y : Type 0} (m : BTreeMap (String Y) PlacedFile) where
   -- the names of the keys are the names that are there
-  each_there : All (λ name. IsSome (placed_files m name)) (map string_bytes (keys m))
-  each_there = All-weaker (Contains (map string_bytes (keys m))) (λ name. IsSome (placed_files m name))
-      (λ name i. IsSome-option_map (λ v. v.items) (get_by_text m name) (lookup-from_Contains name m.entries i)) (map string_bytes (keys m)) (All-contains_itself (map string_bytes (keys m)))
+  each_there : All (λ name. IsSome (shown_files m name)) (map string_bytes (keys m))
+  each_there = All-weaker (Contains (map string_bytes (keys m))) (λ name. IsSome (shown_files m name))
+      (λ name i. IsSome-option_map shown_bytes (get_by_text m name) (lookup-from_Contains name m.entries i)) (map string_bytes (keys m)) (All-contains_itself (map string_bytes (keys m)))
 
   -- a name that is there is the name of a key
-  there_has : (name : List ℕ) → IsSome (placed_files m name) → Contains (map string_bytes (keys m)) name
-  there_has name h = Contains-from_lookup name m.entries (IsSome-from_option_map (λ v. v.items) (get_by_text m name) h)
+  there_has : (name : List ℕ) → IsSome (shown_files m name) → Contains (map string_bytes (keys m)) name
+  there_has name h = Contains-from_lookup name m.entries (IsSome-from_option_map shown_bytes (get_by_text m name) h)
 
   -- a listing of the keys that were seen, where all were or the listing is full
   pub page_of_keys : IsOrdered string_cmp m → (from : List ℕ) (most longest : ℕ) (seen rest : List (String Y)) (names : List (List ℕ))
       → keys m ≡ seen ++ rest → names ≡ filter (is_listed from longest) (map string_bytes seen) → length names ≤ most → (rest ≡ []) ⊎ (most ≤ length names)
-      → IsPage from most longest names × ListsShown (placed_files m) from most longest names
+      → IsPage from most longest names × ListsShown (shown_files m) from most longest names
   page_of_keys ordered from most longest seen rest names split is few full =
       let split_names : map string_bytes (keys m) ≡ map string_bytes seen ++ map string_bytes rest = ap (map string_bytes) split ∙ map-append string_bytes seen rest in
       let sorted : IsStrictlySortedBy byte_order (map string_bytes seen ++ map string_bytes rest) = subst (IsStrictlySortedBy byte_order) split_names (sorted-map byte_order string_bytes (keys m) ordered) in
@@ -200,10 +201,10 @@ module _ {Y Z : Type 0} (m : BTreeMap (String Y) (Vec ℕ Z)) where
       let all_or_full : (map string_bytes rest ≡ []) ⊎ (most ≤ length (filter (is_listed from longest) (map string_bytes seen))) =
       elim full as (λ _. (map string_bytes rest ≡ []) ⊎ (most ≤ length (filter (is_listed from longest) (map string_bytes seen))))
       [ inl none ↦ inl (ap (map string_bytes) none) | inr reached ↦ inr (subst (λ names. most ≤ length names) is reached) ] in
-      let P : List (List ℕ) → Type 0 = λ names. IsPage from most longest names × ListsShown (placed_files m) from most longest names in
+      let P : List (List ℕ) → Type 0 = λ names. IsPage from most longest names × ListsShown (shown_files m) from most longest names in
       subst P (sym is) (
         page_of_listed from most longest (map string_bytes seen) (map string_bytes rest) sorted few_listed,
-        shown_of_listed from most longest (map string_bytes seen) (map string_bytes rest) sorted (placed_files m) few_listed all_or_full
-            (subst (All (λ name. IsSome (placed_files m name))) split_names each_there)
+        shown_of_listed from most longest (map string_bytes seen) (map string_bytes rest) sorted (shown_files m) few_listed all_or_full
+            (subst (All (λ name. IsSome (shown_files m name))) split_names each_there)
             (λ name h. subst (λ names. Contains names name) split_names (there_has name h)),
       )

@@ -1,5 +1,10 @@
+pub mod Contents
+pub mod Damage
+pub mod Does
 pub mod Exact
+pub mod Fuses
+pub mod Gates
 pub mod Maps
 pub mod MemDrive
 pub mod Page
-pub mod Placed
+pub mod Reads

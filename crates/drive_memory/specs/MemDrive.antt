@@ -1,12 +1,13 @@
--- What a memory drive holds.
-use Rattle.std.specs.Prelude.{ℕ, Bool}
+-- What a memory drive means.
+use Rattle.std.specs.Prelude.{ℕ, Bool, Option}
 use Rattle.drive_base.specs.Files.{Files}
-use Rattle.drive_memory.specs.Maps.{loose_files, placed_files}
+use Rattle.drive_memory.specs.Contents.{held_files}
 use Rattle.drive_memory.specs.declared.drive.MemDrive.{MemDrive}
+use Rattle.drive_memory.specs.declared.fuse.Fuse.{Fuse}
 
--- the files of the drive: what is in place is kept and shown
-unfoldable pub files_of : MemDrive → Files
-files_of drive = record { kept = placed_files drive.placed; shown = placed_files drive.placed; loose = loose_files drive.loose }
+-- the files of the drive
+abbrev pub files_of : MemDrive → Files
+files_of drive = held_files drive.contents
 
 -- how many calls failed
 abbrev pub fault_count : MemDrive → ℕ
@@ -16,6 +17,10 @@ fault_count drive = drive.faults
 abbrev pub starved_count : MemDrive → ℕ
 starved_count drive = drive.starved
 
--- whether every call fails
+-- whether the drive is lost, and every call fails
 abbrev pub is_lost : MemDrive → Bool
 is_lost drive = drive.lost
+
+-- the fuse as it stands: how many calls are still let through, and whether the next one after these takes effect
+abbrev pub fuse_of : MemDrive → Option Fuse
+fuse_of drive = drive.fuse

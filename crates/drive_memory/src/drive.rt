@@ -1,73 +1,49 @@
 //! The drive.
 
-ghost use Rattle.std.specs.Prelude.{◌≡◌, ◌+◌, ◌≤◌, min, true, false, length, map, IfOk, string_bytes};
-ghost use Rattle.drive_base.specs.Faults.{Rose, Counts, CountsAppend, CountsNames};
+ghost use Rattle.std.specs.Prelude.{◌≡◌, ◌≤◌, true, false, None, length, map, IfOk, string_bytes};
+ghost use Rattle.drive_base.specs.Faults.{Counts, CountsAppend, CountsNames};
 ghost use Rattle.drive_base.specs.Files.{no_files};
-ghost use Rattle.drive_base.specs.Leaves.{ReadBytes, SizeAnswers, ReadAnswers, AppendLeaves, SyncLeaves, RenameLeaves, DiscardLeaves, RemoveLeaves};
+ghost use Rattle.drive_base.specs.Leaves.{SizeAnswers, ReadAnswers, AppendLeaves, SyncLeaves, RenameLeaves, DiscardLeaves, RemoveLeaves};
 ghost use Rattle.drive_base.specs.Names.{IsPage, NamesAnswers};
-ghost use Rattle.drive_memory.specs.Exact.{RoseByOne, FailsIfLost, FailsIfStarved};
-ghost use Rattle.drive_memory.specs.MemDrive.{files_of, fault_count, starved_count, is_lost};
-ghost use Rattle.drive_memory.specs.Placed.{RenamePlaces};
+ghost use Rattle.drive_memory.specs.Does.{AppendDoes, SyncDoes, RenameDoes, DiscardDoes, RemoveDoes};
+ghost use Rattle.drive_memory.specs.Exact.{ReadsExactly, ChangesExactly};
+ghost use Rattle.drive_memory.specs.MemDrive.{files_of, fault_count, starved_count, is_lost, fuse_of};
 
-use crate::loose::{self, Loose};
-use crate::{maps, page};
+use crate::contents::Contents;
+use crate::faults::Gate;
+use crate::fuse::Fuse;
 use drive_base::{Drive, DriveFault, LONGEST_NAME};
 use std::alloc::Global;
-use std::collections::BTreeMap;
 
 /// A drive in memory.
 #[derive(Drop)]
 pub struct MemDrive {
-    alloc: Global,
-    /// The files that are being written.
-    loose: BTreeMap<String, Loose>,
-    /// The files that are in place.
-    placed: BTreeMap<String, Vec<u8>>,
-    lost: bool,
-    faults: u64,
-    starved: u64,
+    pub(crate) contents: Contents,
+    pub(crate) lost: bool,
+    pub(crate) fuse: Option<Fuse>,
+    pub(crate) faults: u64,
+    pub(crate) starved: u64,
 }
 
-#[tactic(auto, unfolding(crate::specs::MemDrive::files_of))]
 impl MemDrive {
-    /// A drive without any file, which isn't lost, and has counted nothing. It takes no memory.
+    /// A drive without any file, which isn't lost, has no fuse, and has counted nothing. It takes no memory.
     pub fn new(alloc: Global) -> MemDrive
         ensures files { files_of result ≡ no_files }
         ensures faults { fault_count result ≡ 0 }
         ensures starved { starved_count result ≡ 0 }
         ensures present { is_lost result ≡ false }
+        ensures fuse { fuse_of result ≡ None }
     {
         MemDrive {
-            alloc,
-            loose: BTreeMap::new(alloc),
-            placed: BTreeMap::new(alloc),
+            contents: Contents::new(alloc),
             lost: false,
+            fuse: None,
             faults: 0,
             starved: 0,
         }
     }
 
-    /// Makes every call fail from now on. No file is changed.
-    pub fn lose(&mut self)
-        ensures lost { is_lost self.new ≡ true }
-        ensures files { files_of self.new ≡ files_of self.old }
-        ensures faults { fault_count self.new ≡ fault_count self.old }
-        ensures starved { starved_count self.new ≡ starved_count self.old }
-    {
-        self.lost = true;
-    }
-
-    /// Ends the loss. The files are those that it had when it was lost.
-    pub fn back(&mut self)
-        ensures present { is_lost self.new ≡ false }
-        ensures files { files_of self.new ≡ files_of self.old }
-        ensures faults { fault_count self.new ≡ fault_count self.old }
-        ensures starved { starved_count self.new ≡ starved_count self.old }
-    {
-        self.lost = false;
-    }
-
-    /// Whether every call fails.
+    /// Whether the drive is lost, and every call fails.
     pub fn is_lost(&self) -> bool
         ensures { result ≡ is_lost self.now }
     {
@@ -80,40 +56,8 @@ impl MemDrive {
     {
         self.starved
     }
-
-    /// Counts a failed call.
-    fn count_fault(&mut self)
-        ensures after { self.new ≡ record self.old { faults = min (self.old.faults + 1) 18446744073709551615 } }
-        ensures rose { Rose self.old.faults self.new.faults }
-    {
-        self.faults = self.faults.saturating_add(1);
-    }
-
-    /// Counts a call that found no memory.
-    fn count_starved(&mut self)
-        ensures after { self.new ≡ record self.old {
-          faults = min (self.old.faults + 1) 18446744073709551615;
-          starved = min (self.old.starved + 1) 18446744073709551615;
-        } }
-        ensures rose { Rose self.old.faults self.new.faults }
-    {
-        self.count_fault();
-        self.starved = self.starved.saturating_add(1);
-    }
 }
 
-/// Copies the bytes from a place on to the front of `into`, and answers how many there were.
-fn copy_from(bytes: &[u8], at: u64, into: &mut [u8]) -> usize
-    ensures { ReadBytes bytes.now at into.old result into.new }
-{
-    let start = at.min(bytes.len() as u64) as usize;
-    let rest = &bytes[start..];
-    let count = rest.len().min(into.len());
-    into[..count].copy_from_slice(&rest[..count]);
-    count
-}
-
-#[tactic(auto, unfolding(crate::specs::MemDrive::files_of))]
 impl Drive for MemDrive {
     ghost tells = { λ _. true };
 
@@ -124,127 +68,103 @@ impl Drive for MemDrive {
     fn size(&mut self, name: &str) -> Result<u64, DriveFault>
         ensures files { SizeAnswers (files_of self.old) name.now result (files_of self.new) }
         ensures count { Counts result (fault_count self.old) (fault_count self.new) }
-        ensures fails { FailsIfLost self.old result self.new }
+        ensures exact { ReadsExactly self.old result self.new }
     {
-        if self.lost {
-            self.count_fault();
+        if !self.opens() {
             return Err(DriveFault::Failed);
         }
-        let Some(bytes) = self.placed.get(name) else {
+        let Some(size) = self.contents.size(name) else {
             return Err(DriveFault::Absent);
         };
-        Ok(bytes.len() as u64)
+        Ok(size)
     }
 
     fn read(&mut self, name: &str, at: u64, into: &mut [u8]) -> Result<usize, DriveFault>
         ensures files { ReadAnswers (files_of self.old) name.now at into.old result into.new (files_of self.new) }
         ensures within { IfOk result (λ n. n ≤ length into.old) }
         ensures count { Counts result (fault_count self.old) (fault_count self.new) }
-        ensures fails { FailsIfLost self.old result self.new }
+        ensures exact { ReadsExactly self.old result self.new }
     {
-        if self.lost {
-            self.count_fault();
+        if !self.opens() {
             return Err(DriveFault::Failed);
         }
-        let Some(bytes) = self.placed.get(name) else {
+        let Some(count) = self.contents.read(name, at, into) else {
             return Err(DriveFault::Absent);
         };
-        Ok(copy_from(bytes, at, into))
+        Ok(count)
     }
 
     fn append(&mut self, loose: &str, bytes: &[u8]) -> Result<(), DriveFault>
         ensures files { AppendLeaves (files_of self.old) loose.now bytes.now result (files_of self.new) }
         ensures count { CountsAppend result (fault_count self.old) (fault_count self.new) }
-        ensures fails { FailsIfStarved self.old result self.new }
+        ensures exact { ChangesExactly (λ done. AppendDoes (files_of self.old) loose.now bytes.now done (files_of self.new)) self.old result self.new }
     {
-        if self.lost {
-            self.count_fault();
+        let Gate::Open { late } = self.meet() else {
             return Err(DriveFault::Failed);
-        }
-        if loose::append(&mut self.loose, self.alloc, loose, bytes).is_err() {
-            self.count_starved();
-            return Err(DriveFault::Failed);
-        }
-        Ok(())
+        };
+        let done = self.contents.append(loose, bytes);
+        self.settle(late, done)
     }
 
     fn sync(&mut self, loose: &str) -> Result<(), DriveFault>
         ensures files { SyncLeaves (files_of self.old) loose.now result (files_of self.new) }
         ensures count { Counts result (fault_count self.old) (fault_count self.new) }
-        ensures fails { FailsIfLost self.old result self.new }
+        ensures exact { ChangesExactly (λ done. SyncDoes (files_of self.old) loose.now done (files_of self.new)) self.old result self.new }
     {
-        if self.lost {
-            self.count_fault();
+        let Gate::Open { late } = self.meet() else {
             return Err(DriveFault::Failed);
-        }
-        if !loose::sync(&mut self.loose, loose) {
-            return Err(DriveFault::Absent);
-        }
-        Ok(())
+        };
+        let done = self.contents.sync(loose);
+        self.settle(late, done)
     }
 
     fn rename(&mut self, loose: &str, name: &str) -> Result<(), DriveFault>
         requires { length name.now ≤ LONGEST_NAME }
         ensures files { RenameLeaves (files_of self.old) loose.now name.now result (files_of self.new) }
-        ensures places { RenamePlaces (files_of self.old) loose.now name.now result (files_of self.new) }
         ensures count { Counts result (fault_count self.old) (fault_count self.new) }
-        ensures fails { FailsIfStarved self.old result self.new }
+        ensures exact { ChangesExactly (λ done. RenameDoes (files_of self.old) loose.now name.now done (files_of self.new)) self.old result self.new }
     {
-        if self.lost {
-            self.count_fault();
+        let Gate::Open { late } = self.meet() else {
             return Err(DriveFault::Failed);
-        }
-        let Some(file) = maps::take(&mut self.loose, loose) else {
-            return Err(DriveFault::Absent);
         };
-        if maps::put(&mut self.placed, self.alloc, name, file.into_placed()).is_err() {
-            self.count_starved();
-            return Err(DriveFault::Failed);
-        }
-        Ok(())
+        let done = self.contents.rename(loose, name);
+        self.settle(late, done)
     }
 
     fn discard(&mut self, loose: &str) -> Result<(), DriveFault>
         ensures files { DiscardLeaves (files_of self.old) loose.now result (files_of self.new) }
         ensures count { Counts result (fault_count self.old) (fault_count self.new) }
-        ensures fails { FailsIfLost self.old result self.new }
+        ensures exact { ChangesExactly (λ done. DiscardDoes (files_of self.old) loose.now done (files_of self.new)) self.old result self.new }
     {
-        if self.lost {
-            self.count_fault();
+        let Gate::Open { late } = self.meet() else {
             return Err(DriveFault::Failed);
-        }
-        let Some(_) = maps::take(&mut self.loose, loose) else {
-            return Err(DriveFault::Absent);
         };
-        Ok(())
+        let done = self.contents.discard(loose);
+        self.settle(late, done)
     }
 
     fn remove(&mut self, name: &str) -> Result<(), DriveFault>
         ensures files { RemoveLeaves (files_of self.old) name.now result (files_of self.new) }
         ensures count { Counts result (fault_count self.old) (fault_count self.new) }
-        ensures fails { FailsIfLost self.old result self.new }
+        ensures exact { ChangesExactly (λ done. RemoveDoes (files_of self.old) name.now done (files_of self.new)) self.old result self.new }
     {
-        if self.lost {
-            self.count_fault();
+        let Gate::Open { late } = self.meet() else {
             return Err(DriveFault::Failed);
-        }
-        let Some(_) = maps::take(&mut self.placed, name) else {
-            return Err(DriveFault::Absent);
         };
-        Ok(())
+        let done = self.contents.remove(name);
+        self.settle(late, done)
     }
 
     fn names(&mut self, alloc: Global, from: &str, most: u32) -> Result<Vec<String>, DriveFault>
         ensures page { IfOk result (λ names. IsPage from.now most LONGEST_NAME (map string_bytes names.items)) }
         ensures files { NamesAnswers (files_of self.old) from.now most LONGEST_NAME result (files_of self.new) }
         ensures count { CountsNames result (fault_count self.old) (fault_count self.new) }
-        ensures fails { FailsIfLost self.old result self.new }
+        ensures exact { ReadsExactly self.old result self.new }
     {
-        if self.lost {
-            self.count_fault();
+        if !self.opens() {
             return Err(DriveFault::Failed);
         }
-        let Ok(names) = page::page(alloc, &self.placed, from, most) else {
+        let Ok(names) = self.contents.names(alloc, from, most) else {
             return Err(DriveFault::NoMemory);
         };
         Ok(names)

@@ -9,11 +9,19 @@
 //! It stands on `drive_base`, which has the trait.
 #![tactic(auto)]
 
+mod contents;
+mod damage;
 mod drive;
+mod faults;
+mod fuse;
 mod loose;
 mod maps;
 mod page;
+mod placed;
 #[cfg(test)]
 mod tests;
+mod troubles;
 
 pub use drive::MemDrive;
+pub use fuse::Fuse;
+pub use troubles::{Back, Hurt, Lose};

@@ -5,7 +5,8 @@ ghost use Rattle.std.specs.Bool.{OnTrue, OnFalse};
 ghost use Rattle.drive_base.specs.Files.{LooseFile, with_name};
 ghost use Rattle.drive_base.specs.Leaves.{loose_bytes};
 ghost use Rattle.drive_memory.specs.Maps.{loose_file, loose_files};
-ghost use Rattle.drive_memory.specs.Placed.{placed_bytes};
+ghost use Rattle.drive_memory.specs.Damage.{synced_only};
+ghost use Rattle.drive_memory.specs.Does.{placed_bytes};
 
 use crate::maps;
 use std::alloc::{AllocError, Global};
@@ -76,4 +77,11 @@ pub(crate) fn sync(files: &mut BTreeMap<String, Loose>, name: &str) -> bool
         }
         None => false,
     }
+}
+
+/// Drops the files that aren't synced.
+pub(crate) fn stop(files: &mut BTreeMap<String, Loose>)
+    ensures { loose_files files.new ≡ (λ name. synced_only (loose_files files.old name)) }
+{
+    files.retain(|_, file| file.synced);
 }

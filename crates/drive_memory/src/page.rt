@@ -2,9 +2,10 @@
 
 ghost use Rattle.std.specs.Prelude.{◌≡◌, map, IfOk, string_bytes};
 ghost use Rattle.drive_base.specs.Names.{IsPage, ListsShown};
-ghost use Rattle.drive_memory.specs.Maps.{placed_files};
+ghost use Rattle.drive_memory.specs.Maps.{shown_files};
 ghost use Rattle.drive_memory.specs.Page.{is_listed};
 
+use crate::placed::PlacedFile;
 use drive_base::LONGEST_NAME;
 use std::alloc::{AllocError, Global};
 use std::collections::BTreeMap;
@@ -19,12 +20,12 @@ fn is_listed(name: &str, from: &str) -> bool
 /// The first `most` names from `from` on.
 pub(crate) fn page(
     alloc: Global,
-    files: &BTreeMap<String, Vec<u8>>,
+    files: &BTreeMap<String, PlacedFile>,
     from: &str,
     most: u32,
 ) -> Result<Vec<String>, AllocError>
     ensures page { IfOk result (λ names. IsPage from.now most LONGEST_NAME (map string_bytes names.items)) }
-    ensures shown { IfOk result (λ names. ListsShown (placed_files files.now) from.now most LONGEST_NAME (map string_bytes names.items)) }
+    ensures shown { IfOk result (λ names. ListsShown (shown_files files.now) from.now most LONGEST_NAME (map string_bytes names.items)) }
 {
     let mut names = Vec::new(alloc);
     for name in files.keys() {

@@ -1,16 +1,20 @@
-use Rattle.std.proofs.Common.{ap, sym, ◌∙◌}
-use Rattle.drive_memory.specs.Maps.{placed_files}
+use Rattle.std.proofs.Common.{rules}
 use Rattle.drive_memory.specs.MemDrive.{files_of}
-use Rattle.drive_memory.proofs.FilesLemmas.{AnyLoose-same, files_at}
-use Rattle.drive_memory.proofs.ResultLemmas.{after_err}
+use Rattle.drive_memory.specs.Does.{AppendDoes}
+use Rattle.drive_memory.specs.Exact.{ChangesExactly}
+use Rattle.drive_memory.proofs.ExactLemmas.{counts_append, append_leaves}
+use Rattle.drive_memory.proofs.FilesLemmas.{AnyLoose-same}
 use Rattle.drive_memory.proofs.drive.MemDriveDrive.append.Goals as goal
 
-pub returns-then-self-clause-files : goal.returns-then-self-clause-files
-unfolding files_of
-returns-then-self-clause-files c = AnyLoose-same (files_of c.args.self.now) (files_of c.count_fault.new.self) c.args.loose.now (ap files_of c.count_fault.ensures.after)
+pub returns-in_default-clause-files : goal.returns-in_default-clause-files
+returns-in_default-clause-files c = AnyLoose-same (files_of c.args.self.now) (files_of c.meet.new.self) c.args.loose.now (search rules)
 
-pub returns-then-is_err-clause-files : goal.returns-then-is_err-clause-files
-unfolding files_of
-returns-then-is_err-clause-files c = AnyLoose-same (files_of c.args.self.now) (files_of c.count_starved.new.self) c.args.loose.now
-    (ap files_of c.count_starved.ensures.after
-    ∙ ap (files_at (placed_files c.args.self.now.placed)) (after_err c.append.result (sym c.is_err.ensures.value ∙ c.if-is_err.true) c.append.ensures.err))
+-- what the call does and when it fails
+exact : (c : goal.After-settle) → ChangesExactly (λ done. AppendDoes (files_of c.args.self.now) c.args.loose.now c.args.bytes.now done (files_of c.settle.new.self)) c.args.self.now c.settle.result c.settle.new.self
+exact c = search rules
+
+pub returns-clause-count : goal.returns-clause-count
+returns-clause-count c = counts_append (λ done. AppendDoes (files_of c.args.self.now) c.args.loose.now c.args.bytes.now done (files_of c.settle.new.self)) c.args.self.now c.settle.new.self (λ h. h) c.settle.result (exact c)
+
+pub returns-clause-files : goal.returns-clause-files
+returns-clause-files c = append_leaves c.args.self.now c.settle.new.self c.args.loose.now c.args.bytes.now c.settle.result (exact c)

@@ -1,20 +1,13 @@
-use Rattle.std.proofs.Common.{ap, sym, None}
-use Rattle.std.specs.Option.{option_map}
-use Rattle.drive_memory.specs.Maps.{loose_files}
+use Rattle.std.proofs.Common.{rules}
 use Rattle.drive_memory.specs.MemDrive.{files_of}
-use Rattle.drive_memory.proofs.FilesLemmas.{files_at, files-with_placed}
+use Rattle.drive_memory.specs.Does.{RemoveDoes}
+use Rattle.drive_memory.specs.Exact.{ChangesExactly}
+use Rattle.drive_memory.proofs.ExactLemmas.{counts_changes}
 use Rattle.drive_memory.proofs.drive.MemDriveDrive.remove.Goals as goal
 
-pub returns-in_default-clause-files : goal.returns-in_default-clause-files
-unfolding files_of
-returns-in_default-clause-files c = (
-  ap (option_map (λ v. v.items)) (sym c.in_default.ensures.value),
-  ap (λ f. files_at (λ q. option_map (λ v. v.items) (f q)) (loose_files c.args.self.now.loose)) c.in_default.ensures.absent,
-)
+-- what the call does and when it fails
+exact : (c : goal.After-settle) → ChangesExactly (λ done. RemoveDoes (files_of c.args.self.now) c.args.name.now done (files_of c.settle.new.self)) c.args.self.now c.settle.result c.settle.new.self
+exact c = search rules
 
-pub returns-clause-files : goal.returns-clause-files
-unfolding files_of
-returns-clause-files c = (
-  (c.in-Some.field-0.items, ap (option_map (λ v. v.items)) (sym c.in-Some.ensures.value)),
-  files-with_placed (loose_files c.args.self.now.loose) c.args.self.now.placed c.take.new.map c.args.name.now None c.take.ensures.rest,
-)
+pub returns-clause-count : goal.returns-clause-count
+returns-clause-count c = counts_changes (λ done. RemoveDoes (files_of c.args.self.now) c.args.name.now done (files_of c.settle.new.self)) c.args.self.now c.settle.new.self c.settle.result (exact c)
