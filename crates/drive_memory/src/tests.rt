@@ -8,6 +8,8 @@ use drive_base::{Drive, DriveFault, LONGEST_NAME};
 use std::alloc::{AllocError, Global};
 use std::test::Fail;
 
+mod troubles;
+
 /// A drive as a caller at this very type sees it.
 fn fresh(alloc: Global) -> MemDrive
     ensures files { ⟦<MemDrive as Drive>⟧.files result ≡ no_files }
