@@ -1,12 +1,17 @@
 //! A drive in memory, for tests and drills.
 //!
 //! [`MemDrive`] keeps its files in maps and tells all that it holds, so each clause of `Drive` on files
-//! holds of it. It can be lost and come back, and keeps its files over that. What a caller may rely on
-//! besides the trait: it fails exactly where it is lost or where it finds no memory, which it counts
-//! (`starved`), and each failed call raises its count of faults by one. A file that is put in place
-//! before it was synced is zeros from then on, so that a forgotten `sync` shows.
+//! holds of it. It can be lost and come back, be hurt in one shown byte, be stopped, and have a fuse that lets
+//! some calls pass and then fails each; [`Lose`], [`Back`], [`Hurt`] and [`Fuse`] do so to a drive that
+//! another type holds.
 //!
-//! It stands on `drive_base`, which has the trait.
+//! What a caller may rely on besides the trait: a call fails exactly where the drive is lost, where its fuse
+//! fails it, or where it finds no memory, which is counted (`starved`), and each failed call raises the
+//! count of faults by one. A call that a late fuse fails did all that it does; a call that a spent fuse fails
+//! did nothing. A file that is put in place before it was synced is zeros from then on, so that a forgotten
+//! `sync` shows.
+//!
+//! It stands on `drive_base`, which has the traits.
 #![tactic(auto)]
 
 mod contents;
