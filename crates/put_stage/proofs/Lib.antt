@@ -1,5 +1,5 @@
 pub mod CodingLemmas
+pub mod ManifestLemmas
 pub mod MaskLemmas
 pub mod NameLemmas
-pub mod OutcomeLemmas
 pub mod ShardLemmas

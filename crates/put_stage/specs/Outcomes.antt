@@ -16,7 +16,7 @@ use Rattle.manifest_file.specs.declared.manifest.Manifest.{Manifest}
 use Rattle.manifest_file.specs.declared.manifest.ManifestPart.{ManifestPart}
 use Rattle.shard_file.specs.Shards.{root_of, shard_bytes}
 use Rattle.body_print.specs.Shards.{AreShards}
-use Rattle.put_stage.specs.OnDrives.{StagesOn}
+use Rattle.put_stage.specs.OnDrives.{StagedFile, StagesOn, manifest_and_shard}
 use Rattle.put_stage.specs.declared.staged.Staged.{Staged}
 use Rattle.put_stage.specs.declared.staged.StageFault.{StageFault}
 use Rattle.put_stage.specs.declared.staged.StageFault.TheVariants.{WriteQuorum, BadDigest, BodyCut, ReadFault, NoMemory}
@@ -53,35 +53,41 @@ pub record IsMaskOf (whys : List Why) (mask : ℕ) : Type 0 where
   pub bits : (k : ℕ) → k < length whys → IsBitSet mask k ↔ (slice_index_or whys k (Lacks Format) ≡ Good)
   pub none_else : mask < 2 ^ length whys
 
+-- enough drives took all, and the answer tells which, and this print, length and ETag
+pub record Acknowledges (set : SetPlan) (whys : List Why) (digest : List ℕ) (size : ℕ) (tag : List ℕ) (staged : Staged) : Type 0 where
+  pub enough : write_drives set.drives set.parity ≤ count_by is_good whys
+  pub took : (k : ℕ) → k < set.drives → IsBitSet staged.took k ↔ (slice_index_or whys k (Lacks Format) ≡ Good)
+  pub none_else : staged.took < 2 ^ set.drives
+  pub print : staged.print ≡ digest
+  pub long : staged.length ≡ size
+  pub etag : staged.etag ≡ tag
+
 -- the answer of a stage of which each drive answered with a `Why`
 abbrev pub Answers : SetPlan → List Why → List ℕ → ℕ → List ℕ → Result Staged StageFault → Type 0
-Answers set whys print long etag (Ok staged) =
-    (write_drives set.drives set.parity ≤ count_by is_good whys) × IsMaskOf whys staged.took
-    × (staged.print ≡ print) × (staged.length ≡ long) × (staged.etag ≡ etag)
+Answers set whys print long etag (Ok staged) = Acknowledges set whys print long etag staged
 Answers set whys print long etag (Err (WriteQuorum given)) = (given ≡ whys) × (count_by is_good whys < write_drives set.drives set.parity)
 Answers set whys print long etag (Err (BadDigest given computed)) = ⊥
 Answers set whys print long etag (Err BodyCut) = ⊥
 Answers set whys print long etag (Err ReadFault) = ⊥
 Answers set whys print long etag (Err NoMemory) = ⊥
 
+-- what a stage of a body writes on each drive: the manifest, and the shard of the drive
+abbrev pub files_of : VersionId → List ℕ → List (List ℕ) → ℕ → List StagedFile
+files_of id manifest shards k = manifest_and_shard id manifest (slice_index_or shards k [])
+
 module _ {D : Type 0} (tells : D → Bool) (files : D → Files) (count : D → ℕ) where
   -- the files of a body were written to each drive that took them, and to no other whole
   pub record Wrote (set : SetPlan) (id : VersionId) (name body : List ℕ) (shards : List (List (List ℕ))) (whys : List Why) (old new : List D) : Type 0 where
     pub are : AreShards set.drives (data_drives set.drives set.parity) body shards
-    pub on : StagesOn tells files count set id (file_of (manifest_of set id name (length body) (map root_of shards)))
-        (map shard_bytes shards) whys old new
+    pub on : StagesOn tells files count set (files_of id (file_of (manifest_of set id name (length body) (map root_of shards)))
+        (map shard_bytes shards)) whys old new
 
   -- a body is staged: enough drives have its files, and the answer tells its print, length and MD5, and which drives
   pub record IsStaged (set : SetPlan) (id : VersionId) (name body : List ℕ) (stated : Option (List ℕ)) (staged : Staged) (old new : List D) : Type 0 where
     pub shards : List (List (List ℕ))
     pub whys : List Why
     pub wrote : Wrote set id name body shards whys old new
-    pub enough : write_drives set.drives set.parity ≤ count_by is_good whys
-    pub took : (k : ℕ) → k < set.drives → IsBitSet staged.took k ↔ (slice_index_or whys k (Lacks Format) ≡ Good)
-    pub none_else : staged.took < 2 ^ set.drives
-    pub print : staged.print ≡ print_of_parts set.drives set.parity ((length body, map root_of shards) ∷ [])
-    pub long : staged.length ≡ length body
-    pub etag : staged.etag ≡ md5 body
+    pub told : Acknowledges set whys (print_of_parts set.drives set.parity ((length body, map root_of shards) ∷ [])) (length body) (md5 body) staged
     pub agrees : Agrees stated body
 
   -- fewer drives than a write needs took all

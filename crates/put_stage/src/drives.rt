@@ -3,7 +3,7 @@
 ghost use Rattle.std.specs.Prelude.{◌≡◌, ◌<◌, ◌≤◌, IsTrue, OnOk, OnErr, IfErr, length};
 ghost use Rattle.std.specs.Int.{IsBitSet};
 ghost use Rattle.drive_base.specs.Leaves.{Placed};
-ghost use Rattle.put_stage.specs.OnDrives.{HasNoLoose, Leaves, MayBeStaged, StagedOn, both_placed};
+ghost use Rattle.put_stage.specs.OnDrives.{HasNoLoose, Leaves, MayBeStaged, StagedOn, manifest_and_shard};
 ghost use Rattle.put_stage.specs.Steps.{EitherCause, HasLoose, PlacedOrTouched, StepCause, Touches, Written};
 
 use crate::names::Names;
@@ -11,7 +11,7 @@ use call_types::{FileKind, Why};
 use drive_base::{Drive, DriveFault, SetPlan};
 
 /// Appends bytes under a loose name, and makes them last.
-fn write_loose<D: Drive>(
+pub fn write_loose<D: Drive>(
     drive: &mut D,
     kind: FileKind,
     loose: &str,
@@ -39,7 +39,7 @@ fn write_loose<D: Drive>(
 }
 
 /// Puts a loose file in place.
-fn place<D: Drive>(drive: &mut D, kind: FileKind, loose: &str, name: &str) -> Result<(), Why>
+pub fn place<D: Drive>(drive: &mut D, kind: FileKind, loose: &str, name: &str) -> Result<(), Why>
     requires { length name.now ≤ 1129 }
     ensures ok { OnOk result (IsTrue (D.tells drive.old) → Placed (D.files drive.old) loose.now name.now (D.files drive.new)) }
     ensures err { OnErr result (IsTrue (D.tells drive.old) → PlacedOrTouched loose.now name.now (D.files drive.old) (D.files drive.new)) }
@@ -65,10 +65,10 @@ fn write_both<D: Drive>(
     manifest: &[u8],
     shard: &[u8],
 ) -> Result<(), Why>
-    ensures ok { OnOk result (IsTrue (D.tells drive.old) → HasNoLoose names.now.id (D.files drive.old)
-        → Leaves (both_placed names.now.id manifest.now shard.now) names.now.id (D.files drive.old) (D.files drive.new)) }
-    ensures err { OnErr result (IsTrue (D.tells drive.old) → HasNoLoose names.now.id (D.files drive.old)
-        → MayBeStaged names.now.id manifest.now shard.now (D.files drive.old) (D.files drive.new)) }
+    ensures ok { let written = manifest_and_shard names.now.id manifest.now shard.now in
+        OnOk result (IsTrue (D.tells drive.old) → HasNoLoose written (D.files drive.old) → Leaves written written (D.files drive.old) (D.files drive.new)) }
+    ensures err { let written = manifest_and_shard names.now.id manifest.now shard.now in
+        OnErr result (IsTrue (D.tells drive.old) → HasNoLoose written (D.files drive.old) → MayBeStaged written (D.files drive.old) (D.files drive.new)) }
     ensures cause { EitherCause (IsTrue (D.tells drive.old)) result (D.count drive.old) (D.count drive.new) }
     ensures tells { D.tells drive.new ≡ D.tells drive.old }
     ensures count { D.count drive.old ≤ D.count drive.new }
@@ -93,7 +93,7 @@ pub fn stage_on<D: Drive>(
     shard: &[u8],
 ) -> Why
     requires { index < set.drives }
-    ensures staged { StagedOn D.tells D.files D.count (IsBitSet set.out index) names.now.id manifest.now shard.now result drive.old drive.new }
+    ensures staged { StagedOn D.tells D.files D.count (IsBitSet set.out index) (manifest_and_shard names.now.id manifest.now shard.now) result drive.old drive.new }
     ensures tells { D.tells drive.new ≡ D.tells drive.old }
     ensures count { D.count drive.old ≤ D.count drive.new }
 {

@@ -1,14 +1,13 @@
 //! The files of a body on all drives of a set.
 
 ghost use Rattle.std.specs.Prelude.{◌≡◌, ◌<◌, ◌≤◌, ℕ, length, slice_index_or};
-ghost use Rattle.std.specs.List.{count_by};
 ghost use Rattle.put_stage.specs.Coding.{all_bytes};
 ghost use Rattle.put_stage.specs.OnDrives.{StagesOn};
-ghost use Rattle.put_stage.specs.Outcomes.{IsMaskOf, is_good};
+ghost use Rattle.put_stage.specs.Outcomes.{files_of};
 
 use crate::drives::stage_on;
 use crate::names::Names;
-use call_types::{Why, Whys};
+use call_types::Whys;
 use drive_base::{Drive, SetPlan};
 
 /// Stages the files on each drive that isn't out, and tells of each drive whether it took them.
@@ -21,7 +20,7 @@ pub fn stage_all<D: Drive>(
 ) -> Whys
     requires drives { length drives.old ≡ set.drives }
     requires files { length files.now ≡ set.drives }
-    ensures on { StagesOn D.tells D.files D.count set names.now.id manifest.now (all_bytes files.now) result drives.old drives.new }
+    ensures on { StagesOn D.tells D.files D.count set (files_of names.now.id manifest.now (all_bytes files.now)) result drives.old drives.new }
     ensures tells { (k : ℕ) (d : D) → k < length drives.old → D.tells (slice_index_or drives.new k d) ≡ D.tells (slice_index_or drives.old k d) }
     ensures counts { (k : ℕ) (d : D) → k < length drives.old → D.count (slice_index_or drives.old k d) ≤ D.count (slice_index_or drives.new k d) }
 {
@@ -34,37 +33,4 @@ pub fn stage_all<D: Drive>(
         index += 1;
     }
     whys
-}
-
-/// Whether a drive took all.
-fn is_good(why: Why) -> bool
-    ensures { result ≡ is_good why }
-{
-    matches!(why, Why::Good)
-}
-
-/// How many drives took all.
-pub fn good_count(whys: &Whys) -> u8
-    ensures { result ≡ count_by is_good whys.now }
-{
-    let mut count = 0;
-    for k in 0..whys.len() {
-        if is_good(whys.get(k)) {
-            count += 1;
-        }
-    }
-    count
-}
-
-/// The mask of the drives that took all.
-pub fn mask_of(whys: &Whys) -> u16
-    ensures { IsMaskOf whys.now result }
-{
-    let mut mask = 0;
-    for k in 0..whys.len() {
-        if is_good(whys.get(k)) {
-            mask |= 1 << k;
-        }
-    }
-    mask
 }

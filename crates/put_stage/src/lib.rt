@@ -10,14 +10,17 @@
 //! no drive is called where the body has another MD5 than stated, or where memory is missing.
 #![tactic(auto)]
 
+mod answers;
 mod drives;
 mod each;
+mod manifests;
 mod names;
 mod shards;
 mod staged;
 mod stripes;
 mod whole;
 
+pub use manifests::stage_manifest;
 pub use staged::{StageFault, Staged};
 pub use whole::stage_whole;
 

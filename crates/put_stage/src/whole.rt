@@ -2,14 +2,14 @@
 
 ghost use Rattle.std.specs.Prelude.{◌≡◌, ◌<◌, ◌≤◌, ◌^◌, ℕ, IfOk, length, slice_index_or};
 ghost use Rattle.manifest_file.specs.Canonical.{IsCanonical};
-ghost use Rattle.put_stage.specs.Outcomes.{Answers, Compares, Stages, manifest_of};
+ghost use Rattle.put_stage.specs.Outcomes.{Compares, Stages, manifest_of};
 ghost use Rattle.put_stage.specs.Preparing.{IsPrepared};
 
-use crate::each::{good_count, mask_of, stage_all};
+use crate::answers::answer;
+use crate::each::stage_all;
 use crate::names::{Names, names_of};
 use crate::shards::{Shards, shards_of};
 use crate::staged::{StageFault, Staged};
-use call_types::Whys;
 use drive_base::{Drive, SetPlan};
 use manifest_file::{Manifest, ManifestPart, Parts, Roots, print_of, write};
 use md5::{Digest, Md5};
@@ -121,27 +121,5 @@ fn manifest_of(
         drives: set.drives,
         parity: set.parity,
         parts: Parts::from_vec(parts),
-    })
-}
-
-/// The answer of a stage of which the drives answered so.
-fn answer(
-    set: SetPlan,
-    whys: Whys,
-    print: [u8; 32],
-    size: u64,
-    etag: [u8; 16],
-) -> Result<Staged, StageFault>
-    requires { length whys ≡ set.drives }
-    ensures { Answers set whys print size etag result }
-{
-    if good_count(&whys) < set.write_quorum() {
-        return Err(StageFault::WriteQuorum(whys));
-    }
-    Ok(Staged {
-        print,
-        length: size,
-        etag,
-        took: mask_of(&whys),
     })
 }

@@ -1,8 +1,9 @@
-use Rattle.std.proofs.Common.{◌≡◌, ◌<◌, ◌≤◌, ℕ, [], length, slice_index_or}
+use Rattle.std.proofs.Common.{◌≡◌, ◌<◌, ◌≤◌, ℕ, length, slice_index_or}
 use Rattle.std.specs.Int.{IsBitSet}
 use Rattle.call_types.specs.declared.why.Why.TheVariants.{Good}
 use Rattle.put_stage.specs.Coding.{all_bytes}
 use Rattle.put_stage.specs.OnDrives.{StagedOn}
+use Rattle.put_stage.specs.Outcomes.{files_of}
 use Rattle.put_stage.proofs.each.stage_all.Given as goal
 
 -- the drives so far are staged, and the others are as they were
@@ -11,7 +12,7 @@ invariant-loop-drive g l = let D = g.D.Drive in record {
   at : l.index ≡ l.drive-index;
   long : length l.whys ≡ l.set.drives;
   staged : (k : ℕ) (d : g.row.D.Denot) → k < l.drive-index
-      → StagedOn D.tells D.files D.count (IsBitSet l.set.out k) l.names.id l.manifest (slice_index_or (all_bytes l.files) k []) (slice_index_or l.whys k Good)
+      → StagedOn D.tells D.files D.count (IsBitSet l.set.out k) (files_of l.names.id l.manifest (all_bytes l.files) k) (slice_index_or l.whys k Good)
       (slice_index_or l.initial.drives k d) (slice_index_or l.drives k d);
   tells : (k : ℕ) (d : g.row.D.Denot) → k < l.drive-index → D.tells (slice_index_or l.drives k d) ≡ D.tells (slice_index_or l.initial.drives k d);
   counts : (k : ℕ) (d : g.row.D.Denot) → k < l.drive-index → D.count (slice_index_or l.initial.drives k d) ≤ D.count (slice_index_or l.drives k d);

@@ -1,6 +1,6 @@
 use Rattle.std.proofs.Common.{◌-◌, length}
 use Rattle.put_stage.specs.Coding.{all_bytes}
-use Rattle.put_stage.proofs.OutcomeLemmas.{canonical}
+use Rattle.put_stage.proofs.ManifestLemmas.{canonical}
 use Rattle.put_stage.proofs.whole.prepare.Goals as goal
 
 pub write-requires : goal.write-requires

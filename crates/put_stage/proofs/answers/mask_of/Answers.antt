@@ -1,7 +1,7 @@
 use Rattle.std.proofs.Common.{◌+◌, ◌<◌, ◌∙◌, length, subst, sym, arith}
 use Rattle.put_stage.proofs.MaskLemmas.{MaskSoFar, looked_up, mask_all, mask_no, mask_yes}
-use Rattle.put_stage.proofs.each.mask_of.Goals as goal
-use Rattle.put_stage.proofs.each.mask_of.Goals.{then-is_good, else-is_good}
+use Rattle.put_stage.proofs.answers.mask_of.Goals as goal
+use Rattle.put_stage.proofs.answers.mask_of.Goals.{then-is_good, else-is_good}
 
 pub loop-k-preserved : goal.loop-k-preserved
 loop-k-preserved c =

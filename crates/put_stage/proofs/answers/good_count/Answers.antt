@@ -3,8 +3,8 @@ use Rattle.std.proofs.lemmas.List.Sums.{count_by_more_no, count_by_more_yes}
 use Rattle.call_types.specs.declared.why.Why.TheVariants.{Good}
 use Rattle.put_stage.specs.Outcomes.{is_good}
 use Rattle.put_stage.proofs.MaskLemmas.{looked_up}
-use Rattle.put_stage.proofs.each.good_count.Goals as goal
-use Rattle.put_stage.proofs.each.good_count.Goals.{then-is_good, else-is_good}
+use Rattle.put_stage.proofs.answers.good_count.Goals as goal
+use Rattle.put_stage.proofs.answers.good_count.Goals.{then-is_good, else-is_good}
 
 pub loop-k-preserved : goal.loop-k-preserved
 loop-k-preserved c =

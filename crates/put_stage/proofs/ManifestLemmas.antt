@@ -1,0 +1,69 @@
+-- The manifest of a body that is one part is canonical, and the parts of a canonical one have a number of bytes that fits.
+use Rattle.std.proofs.Common.{◌≡◌, ℕ, ◌+◌, ◌*◌, ◌^◌, ◌<◌, ◌≤◌, ◌∙◌, List, [], ◌∷◌, length, take, slice_index_or, subst, sym, ap, arith}
+use Rattle.std.specs.Prelude.{map, sum_by}
+use Rattle.std.specs.List.{AllByRecursion}
+use Rattle.std.proofs.lemmas.List.{length-map}
+use Rattle.std.proofs.lemmas.List.Sums.{sum_by-cons, sum_by_more_le}
+use Rattle.sha2.proofs.Facts256.{length-sha256}
+use Rattle.stamp_id.specs.declared.version.VersionId.{VersionId}
+use Rattle.drive_base.specs.declared.plan.SetPlan.{SetPlan}
+use Rattle.manifest_file.specs.Canonical.{IsCanonical, IsCanonicalPart, IsRoot}
+use Rattle.manifest_file.specs.declared.manifest.Manifest.{Manifest}
+use Rattle.manifest_file.specs.declared.manifest.ManifestPart.{ManifestPart}
+use Rattle.shard_file.specs.Shards.{root_of, table_of}
+use Rattle.put_stage.specs.Coding.{IsSharded}
+use Rattle.put_stage.specs.Manifests.{part_size}
+use Rattle.put_stage.specs.Outcomes.{manifest_of}
+
+-- parts have at most 5 GiB each
+parts_are_short : (drives : ℕ) (parts : List ManifestPart) → AllByRecursion (IsCanonicalPart drives) parts
+    → sum_by part_size parts ≤ length parts * 5368709120
+parts_are_short drives [] all = omega arith
+parts_are_short drives (part ∷ parts) all =
+    let cons = sum_by-cons part_size part parts in
+    let rest = parts_are_short drives parts all.1 in
+    let size : part.length ≤ 5368709120 = all.0.size in
+    omega (arith, cons, rest, size)
+
+-- there are at most 10,000 of them
+total_fits : (manifest : Manifest) → IsCanonical manifest → sum_by part_size manifest.parts < 2 ^ 64
+total_fits manifest is =
+    let short = parts_are_short manifest.drives manifest.parts is.parts in
+    let few = is.few in
+    omega (arith, short, few)
+
+-- the bytes of the parts so far and of the next one fit
+pub next_fits : (manifest : Manifest) (parts : List ManifestPart) (i total : ℕ) (part : ManifestPart) → IsCanonical manifest
+    → parts ≡ manifest.parts → i < length parts → total ≡ sum_by part_size (take i parts) → part ≡ slice_index_or parts i part
+    → total + part.length < 2 ^ 64
+next_fits manifest parts i total part is same low so at =
+    let within = sum_by_more_le part_size parts i part low in
+    let size : part.length ≡ part_size (slice_index_or parts i part) = ap part_size at in
+    let all : sum_by part_size parts ≡ sum_by part_size manifest.parts = ap (sum_by part_size) same in
+    let fits = total_fits manifest is in
+    omega (arith, within, size, all, so, fits)
+
+-- roots are digests
+pub roots_are_roots : (shards : List (List (List ℕ))) → AllByRecursion IsRoot (map root_of shards)
+roots_are_roots [] = tt
+roots_are_roots (shard ∷ shards) = (length-sha256 (table_of shard), roots_are_roots shards)
+
+-- the manifest of a body that is one part is canonical
+pub canonical : (set : SetPlan) (id : VersionId) (name body : List ℕ) (size d : ℕ) (files roots : List (List ℕ)) (m : Manifest)
+    → m ≡ manifest_of set id name size roots → length name < 2 ^ 16 → size ≤ 5368709120 → IsSharded set.drives d body files roots → IsCanonical m
+canonical set id name body size d files roots m is short few sharded =
+    let counted : length roots ≡ set.drives = ap length sharded.roots_are ∙ length-map sharded.shards root_of ∙ sharded.are.count in
+    let part : IsCanonicalPart set.drives (record { id = id; length = size; roots = roots }) = record {
+      size = few;
+      counted = counted;
+      roots = subst (AllByRecursion IsRoot) (sym sharded.roots_are) (roots_are_roots sharded.shards);
+    } in
+    let made : IsCanonical (manifest_of set id name size roots) = record {
+      name = short;
+      drives = omega arith;
+      parity = omega arith;
+      some = omega arith;
+      few = omega arith;
+      parts = (part, tt);
+    } in
+    subst IsCanonical (sym is) made
