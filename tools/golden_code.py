@@ -21,27 +21,31 @@ def inverse(a):
     return next(b for b in range(1, 256) if product(a, b) == 1)
 
 
-def parity_byte(column, point):
-    total = 0
-    for i, byte in enumerate(column):
-        weight = 1
-        for j in range(len(column)):
-            if j != i:
-                weight = product(weight, product(point ^ j, inverse(i ^ j)))
-        total ^= product(weight, byte)
+def weight(i, point, data):
+    """Lagrange's weight of data block i at a point."""
+    total = 1
+    for j in range(data):
+        if j != i:
+            total = product(total, product(point ^ j, inverse(i ^ j)))
     return total
 
 
+def parity_block(blocks, point):
+    """The values at a point, column by column: each block is multiplied by a table, and blocks are summed as numbers."""
+    total = 0
+    for i, block in enumerate(blocks):
+        factor = weight(i, point, len(blocks))
+        multiplied = block.translate(bytes(product(factor, byte) for byte in range(256)))
+        total ^= int.from_bytes(multiplied, "big")
+    return total.to_bytes(len(blocks[0]), "big")
+
+
 def data_blocks(stripe, data):
-    size = 0
-    while size * data < len(stripe):
-        size += 1
+    size = -(-len(stripe) // data)
     filled = stripe + bytes(size * data - len(stripe))
     return [filled[i * size : (i + 1) * size] for i in range(data)]
 
 
 def all_blocks(stripe, drives, parity):
     blocks = data_blocks(stripe, drives - parity)
-    for point in range(drives - parity, drives):
-        blocks.append(bytes(parity_byte(column, point) for column in zip(*blocks[: drives - parity])))
-    return blocks
+    return blocks + [parity_block(blocks, point) for point in range(drives - parity, drives)]

@@ -58,12 +58,7 @@ fn total_size(manifest: &Manifest) -> u64
 }
 
 /// Stages a manifest on each drive that isn't out, and tells of each drive whether it took it.
-fn manifest_on_all<D: Drive>(
-    set: SetPlan,
-    names: &Names,
-    manifest: &[u8],
-    drives: &mut [D],
-) -> Whys
+fn manifest_on_all<D: Drive>(set: SetPlan, names: &Names, manifest: &[u8], drives: &mut [D]) -> Whys
     requires { length drives.old ≡ set.drives }
     ensures on { StagesOn D.tells D.files D.count set (same_manifest names.now.id manifest.now) result drives.old drives.new }
     ensures tells { (k : ℕ) (d : D) → k < length drives.old → D.tells (slice_index_or drives.new k d) ≡ D.tells (slice_index_or drives.old k d) }

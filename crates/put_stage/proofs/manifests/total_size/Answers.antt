@@ -1,4 +1,4 @@
-use Rattle.std.proofs.Common.{Fits, arith}
+use Rattle.std.proofs.Common.{arith}
 use Rattle.put_stage.proofs.ManifestLemmas.{next_fits}
 use Rattle.put_stage.proofs.manifests.total_size.Goals as goal
 

@@ -1,0 +1,108 @@
+//! A manifest of two parts on four drives with 2 of parity.
+
+ghost use Rattle.std.specs.Prelude.{◌≡◌, IfOk, length};
+ghost use Rattle.manifest_file.specs.Canonical.{IsCanonical};
+
+use super::golden::*;
+use super::{fresh_drives, id, lose, lost, plan, shows, shows_no};
+use crate::{StageFault, Staged, stage_manifest};
+use drive_memory::MemDrive;
+use manifest_file::{Manifest, read};
+use std::alloc::Global;
+use std::test::Fail;
+
+/// The manifest of the golden file.
+fn golden_manifest(alloc: Global) -> Result<Manifest, Fail>
+    ensures canonical { IfOk result (λ manifest. IsCanonical manifest) }
+    ensures drives { IfOk result (λ manifest. manifest.drives ≡ 4) }
+    ensures parity { IfOk result (λ manifest. manifest.parity ≡ 2) }
+{
+    let Ok(manifest) = read(alloc, &PARTS_MANIFEST) else {
+        return Err(Fail::new("it is no manifest"));
+    };
+    if manifest.drives != 4 || manifest.parity != 2 {
+        return Err(Fail::new("it is of another set"));
+    }
+    Ok(manifest)
+}
+
+/// What a stage of the golden manifest answers, with an ETag.
+fn staged(
+    alloc: Global,
+    out: u16,
+    drives: &mut [MemDrive],
+) -> Result<Result<Staged, StageFault>, Fail>
+    requires { length drives.old ≡ 4 }
+    ensures { length drives.new ≡ 4 }
+{
+    let manifest = golden_manifest(alloc)?;
+    let set = plan(out);
+    Ok(stage_manifest(alloc, set, id(), &manifest, [9; 16], drives))
+}
+
+/// Which drives show the golden manifest, and no shard file.
+fn that_show_it(alloc: Global, drives: &mut [MemDrive]) -> Result<[bool; 4], Fail> {
+    let mut shown = [false; 4];
+    for (place, drive) in drives.iter_mut().enumerate() {
+        if place < 4 {
+            shown[place] = shows(alloc, drive, MANIFEST, &PARTS_MANIFEST)?
+                && shows_no(drive, SHARD);
+        }
+    }
+    Ok(shown)
+}
+
+/// The answer with this mask of the drives that took it.
+fn parts_on(took: u16) -> Staged {
+    Staged {
+        print: PARTS_PRINT,
+        length: 5_368_709_131,
+        etag: [9; 16],
+        took,
+    }
+}
+
+#[test]
+fn a_manifest_goes_to_all_drives(rt: HostRuntime) -> Result<(), Fail> {
+    let mut drives = fresh_drives(rt.alloc(), 4)?;
+    assert_eq!(rt; staged(rt.alloc(), 0, &mut drives)?, Ok(parts_on(0b1111)));
+    assert_eq!(rt; that_show_it(rt.alloc(), &mut drives)?, [true; 4]);
+    Ok(())
+}
+
+#[test]
+fn a_lost_drive_and_one_that_is_out(rt: HostRuntime) -> Result<(), Fail> {
+    // 4 drives with 2 of parity write to 3.
+    let mut drives = fresh_drives(rt.alloc(), 4)?;
+    lose(&mut drives, 0);
+    assert_eq!(rt; staged(rt.alloc(), 0, &mut drives)?, Ok(parts_on(0b1110)));
+    assert_eq!(rt;
+        that_show_it(rt.alloc(), &mut drives)?,
+        [false, true, true, true]
+    );
+    let mut drives = fresh_drives(rt.alloc(), 4)?;
+    assert_eq!(rt;
+        staged(rt.alloc(), 0b0010, &mut drives)?,
+        Ok(parts_on(0b1101))
+    );
+    assert_eq!(rt;
+        that_show_it(rt.alloc(), &mut drives)?,
+        [true, false, true, true]
+    );
+    Ok(())
+}
+
+#[test]
+fn two_lost_drives_refuse_a_manifest(rt: HostRuntime) -> Result<(), Fail> {
+    let mut drives = fresh_drives(rt.alloc(), 4)?;
+    lose(&mut drives, 1);
+    lose(&mut drives, 2);
+    let fault = StageFault::WriteQuorum(lost(1, 2));
+    assert_eq!(rt; staged(rt.alloc(), 0, &mut drives)?, Err(fault));
+    // What was put in place stays.
+    assert_eq!(rt;
+        that_show_it(rt.alloc(), &mut drives)?,
+        [true, false, false, true]
+    );
+    Ok(())
+}

@@ -1,0 +1,142 @@
+//! Whole bodies on four drives with 2 of parity.
+
+ghost use Rattle.std.specs.Prelude.{◌≡◌, ◌≤◌, length};
+
+use super::golden::*;
+use super::{fresh_drives, id, lose, lost, plan, shows, shows_no};
+use crate::{StageFault, Staged, stage_whole};
+use drive_base::Drive;
+use drive_memory::MemDrive;
+use std::alloc::Global;
+use std::test::Fail;
+
+/// The shard files of `hello`, in the order of the drives.
+const HELLO_SHARDS: [[u8; 35]; 4] = [HELLO_SHARD_0, HELLO_SHARD_1, HELLO_SHARD_2, HELLO_SHARD_3];
+
+/// What a stage of this body answers.
+fn staged(
+    alloc: Global,
+    out: u16,
+    body: &[u8],
+    md5: Option<[u8; 16]>,
+    drives: &mut [MemDrive],
+) -> Result<Staged, StageFault>
+    requires drives { length drives.old ≡ 4 }
+    requires few { length body.now ≤ 5368709120 }
+    ensures { length drives.new ≡ 4 }
+{
+    stage_whole(alloc, plan(out), id(), "k/pic/a", body, md5, drives)
+}
+
+/// How many drives show the shard file and the manifest of `hello`.
+fn that_show_hello(alloc: Global, drives: &mut [MemDrive]) -> Result<[bool; 4], Fail> {
+    let mut shown = [false; 4];
+    for (place, drive) in drives.iter_mut().enumerate() {
+        if place < 4 {
+            shown[place] = shows(alloc, drive, SHARD, &HELLO_SHARDS[place])?
+                && shows(alloc, drive, MANIFEST, &HELLO_MANIFEST)?;
+        }
+    }
+    Ok(shown)
+}
+
+/// Whether a drive, which is back, shows neither file.
+fn shows_none(drive: &mut MemDrive) -> bool {
+    shows_no(drive, SHARD) && shows_no(drive, MANIFEST)
+}
+
+/// The answer to `hello` with this mask of the drives that took all.
+fn hello_on(took: u16) -> Staged {
+    Staged {
+        print: HELLO_PRINT,
+        length: 5,
+        etag: HELLO_MD5,
+        took,
+    }
+}
+
+#[test]
+fn hello_goes_to_all_drives(rt: HostRuntime) -> Result<(), Fail> {
+    let mut drives = fresh_drives(rt.alloc(), 4)?;
+    let answer = staged(rt.alloc(), 0, b"hello", Some(HELLO_MD5), &mut drives);
+    assert_eq!(rt; answer, Ok(hello_on(0b1111)));
+    assert_eq!(rt; that_show_hello(rt.alloc(), &mut drives)?, [true; 4]);
+    Ok(())
+}
+
+#[test]
+fn an_empty_body_has_empty_shards(rt: HostRuntime) -> Result<(), Fail> {
+    let mut drives = fresh_drives(rt.alloc(), 4)?;
+    let answer = staged(rt.alloc(), 0, b"", None, &mut drives);
+    let due = Staged {
+        print: EMPTY_PRINT,
+        length: 0,
+        etag: EMPTY_MD5,
+        took: 0b1111,
+    };
+    assert_eq!(rt; answer, Ok(due));
+    for drive in drives.iter_mut() {
+        assert!(rt; shows(rt.alloc(), drive, SHARD, b"")?);
+        assert!(rt; shows(rt.alloc(), drive, MANIFEST, &EMPTY_MANIFEST)?);
+    }
+    Ok(())
+}
+
+#[test]
+fn a_lost_drive_is_not_named(rt: HostRuntime) -> Result<(), Fail> {
+    let mut drives = fresh_drives(rt.alloc(), 4)?;
+    lose(&mut drives, 1);
+    let answer = staged(rt.alloc(), 0, b"hello", None, &mut drives);
+    assert_eq!(rt; answer, Ok(hello_on(0b1101)));
+    assert_eq!(rt;
+        that_show_hello(rt.alloc(), &mut drives)?,
+        [true, false, true, true]
+    );
+    Ok(())
+}
+
+#[test]
+fn a_drive_that_is_out_is_not_written(rt: HostRuntime) -> Result<(), Fail> {
+    let mut drives = fresh_drives(rt.alloc(), 4)?;
+    let answer = staged(rt.alloc(), 0b0100, b"hello", None, &mut drives);
+    assert_eq!(rt; answer, Ok(hello_on(0b1011)));
+    assert_eq!(rt;
+        that_show_hello(rt.alloc(), &mut drives)?,
+        [true, true, false, true]
+    );
+    let out = drives.get_mut(2).ok_or("no drive")?;
+    assert!(rt; shows_none(out));
+    Ok(())
+}
+
+#[test]
+fn two_lost_drives_are_too_many(rt: HostRuntime) -> Result<(), Fail> {
+    let mut drives = fresh_drives(rt.alloc(), 4)?;
+    lose(&mut drives, 0);
+    lose(&mut drives, 3);
+    let answer = staged(rt.alloc(), 0, b"hello", None, &mut drives);
+    assert_eq!(rt; answer, Err(StageFault::WriteQuorum(lost(0, 3))));
+    // What was put in place stays.
+    assert_eq!(rt;
+        that_show_hello(rt.alloc(), &mut drives)?,
+        [false, true, true, false]
+    );
+    Ok(())
+}
+
+#[test]
+fn another_md5_calls_no_drive(rt: HostRuntime) -> Result<(), Fail> {
+    let mut drives = fresh_drives(rt.alloc(), 4)?;
+    lose(&mut drives, 0);
+    let answer = staged(rt.alloc(), 0, b"hello", Some(EMPTY_MD5), &mut drives);
+    let fault = StageFault::BadDigest {
+        stated: EMPTY_MD5,
+        computed: HELLO_MD5,
+    };
+    assert_eq!(rt; answer, Err(fault));
+    for drive in drives.iter_mut() {
+        assert_eq!(rt; drive.faults(), 0);
+        assert!(rt; shows_none(drive));
+    }
+    Ok(())
+}
