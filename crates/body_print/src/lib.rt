@@ -5,7 +5,8 @@
 //! The files of a body's data have their names here, and `Clash` says that two byte strings with one SHA-256 were met.
 //!
 //! The crate stands on `shard_file` for stripes, blocks and roots, on `manifest_file` for the text under a print, and on
-//! `poly_code` for codewords. It has definitions alone, and [`body_laws`] carries their laws. Nothing runs.
+//! `poly_code` for codewords. It has definitions, and [`body_laws`] carries their laws; the calls that run are those that make
+//! the names ([`name_of_manifest`], [`name_of_shard`] and the loose ones).
 #![tactic(auto)]
 
 ghost use Rattle.body_print.specs.Laws.{ShardsAreOne, ShardsHaveTheirBlocks, PrintTextsAreOne};
@@ -17,6 +18,10 @@ pub fn body_laws()
     ensures blocks { ShardsHaveTheirBlocks }
     ensures texts { PrintTextsAreOne }
 {}
+
+mod names;
+
+pub use names::{loose_name_of_manifest, loose_name_of_shard, name_of_manifest, name_of_shard};
 
 #[cfg(test)]
 mod tests;

@@ -3,7 +3,11 @@
 ghost use Rattle.std.specs.Prelude.{◌≡◌, ℕ, ◌≤◌, List};
 ghost use Rattle.body_print.specs.Shards.{AreShards};
 
-use crate::body_laws;
+use crate::{
+    body_laws, loose_name_of_manifest, loose_name_of_shard, name_of_manifest, name_of_shard,
+};
+use stamp_id::{Ballot, ChangeId, VersionId};
+use std::test::Fail;
 
 /// What a caller draws from the laws: shards of one body are the same.
 fn one_list_of_shards()
@@ -15,4 +19,33 @@ fn one_list_of_shards()
 #[test]
 fn a_caller_has_the_laws() {
     one_list_of_shards();
+}
+
+#[test]
+fn the_names_of_an_id(rt: HostRuntime) -> Result<(), Fail> {
+    let change = ChangeId(Ballot { term: 1, seq: 3 });
+    let id = VersionId::from_parts(change, 38);
+    let alloc = rt.alloc();
+    let table = [
+        (
+            name_of_manifest(alloc, id)?,
+            "m/00000000000180268000000000000003",
+        ),
+        (
+            name_of_shard(alloc, id)?,
+            "s/00000000000180268000000000000003",
+        ),
+        (
+            loose_name_of_manifest(alloc, id)?,
+            "m00000000000180268000000000000003",
+        ),
+        (
+            loose_name_of_shard(alloc, id)?,
+            "s00000000000180268000000000000003",
+        ),
+    ];
+    for (name, wanted) in table {
+        assert_eq!(rt; name.as_str(), wanted);
+    }
+    Ok(())
 }

@@ -1,62 +1,14 @@
 //! The files of a body on one drive.
 
-ghost use Rattle.std.specs.Prelude.{◌≡◌, ◌<◌, ◌≤◌, IsTrue, OnOk, OnErr, IfErr, length};
+ghost use Rattle.std.specs.Prelude.{◌≡◌, ◌<◌, ◌≤◌, IsTrue, OnOk, OnErr};
 ghost use Rattle.std.specs.Int.{IsBitSet};
-ghost use Rattle.drive_base.specs.Leaves.{Placed};
 ghost use Rattle.put_stage.specs.OnDrives.{HasNoLoose, Leaves, MayBeStaged, StagedOn, manifest_and_shard};
-ghost use Rattle.put_stage.specs.Steps.{EitherCause, HasLoose, PlacedOrTouched, StepCause, Touches, Written};
+ghost use Rattle.put_stage.specs.Steps.{EitherCause};
 
 use crate::names::Names;
 use call_types::{FileKind, Why};
-use drive_base::{Drive, DriveFault, SetPlan};
-
-/// Appends bytes under a loose name, and makes them last.
-pub fn write_loose<D: Drive>(
-    drive: &mut D,
-    kind: FileKind,
-    loose: &str,
-    bytes: &[u8],
-) -> Result<(), Why>
-    ensures ok { OnOk result (IsTrue (D.tells drive.old) → Written loose.now bytes.now (D.files drive.old) (D.files drive.new)) }
-    ensures err { OnErr result (IsTrue (D.tells drive.old) → Touches loose.now (D.files drive.old) (D.files drive.new)) }
-    ensures cause { StepCause kind (IsTrue (D.tells drive.old)) result (D.count drive.old) (D.count drive.new) }
-    ensures tells { D.tells drive.new ≡ D.tells drive.old }
-    ensures count { D.count drive.old ≤ D.count drive.new }
-{
-    let before = drive.faults();
-    if drive.append(loose, bytes).is_err() {
-        let after = drive.faults();
-        return Err(Why::Failed { before, after });
-    }
-    match drive.sync(loose) {
-        Ok(()) => Ok(()),
-        Err(DriveFault::Absent) => Err(Why::Lacks(kind)),
-        Err(_) => {
-            let after = drive.faults();
-            Err(Why::Failed { before, after })
-        }
-    }
-}
-
-/// Puts a loose file in place.
-pub fn place<D: Drive>(drive: &mut D, kind: FileKind, loose: &str, name: &str) -> Result<(), Why>
-    requires { length name.now ≤ 1129 }
-    ensures ok { OnOk result (IsTrue (D.tells drive.old) → Placed (D.files drive.old) loose.now name.now (D.files drive.new)) }
-    ensures err { OnErr result (IsTrue (D.tells drive.old) → PlacedOrTouched loose.now name.now (D.files drive.old) (D.files drive.new)) }
-    ensures cause { StepCause kind (IsTrue (D.tells drive.old) × HasLoose (D.files drive.old) loose.now) result (D.count drive.old) (D.count drive.new) }
-    ensures tells { D.tells drive.new ≡ D.tells drive.old }
-    ensures count { D.count drive.old ≤ D.count drive.new }
-{
-    let before = drive.faults();
-    match drive.rename(loose, name) {
-        Ok(()) => Ok(()),
-        Err(DriveFault::Absent) => Err(Why::Lacks(kind)),
-        Err(_) => {
-            let after = drive.faults();
-            Err(Why::Failed { before, after })
-        }
-    }
-}
+use drive_base::{Drive, SetPlan};
+use drive_files::{place, write_loose};
 
 /// Writes both files under their loose names, and puts the manifest in place, then the shard file.
 fn write_both<D: Drive>(

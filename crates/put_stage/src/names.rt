@@ -1,9 +1,10 @@
 //! The names of the files of a body's data.
 
-ghost use Rattle.std.specs.Prelude.{◌≡◌, ◌≤◌, ◌++◌, IfOk, length};
+ghost use Rattle.std.specs.Prelude.{◌≡◌, IfOk};
 ghost use Rattle.std.specs.String.{string_bytes};
 ghost use Rattle.body_print.specs.Names.{shard_name, manifest_name, loose_shard_name, loose_manifest_name};
 
+use body_print::{loose_name_of_manifest, loose_name_of_shard, name_of_manifest, name_of_shard};
 use stamp_id::VersionId;
 use std::alloc::{AllocError, Global};
 
@@ -30,11 +31,10 @@ pub struct Names {
 pub fn names_of(alloc: Global, id: VersionId) -> Result<Names, AllocError>
     ensures { IfOk result (λ names. names.id ≡ id) }
 {
-    let digits = hex::encode(alloc, id.bytes())?;
-    let shard = joined(alloc, "s/", digits.as_str())?;
-    let manifest = joined(alloc, "m/", digits.as_str())?;
-    let loose_shard = joined(alloc, "s", digits.as_str())?;
-    let loose_manifest = joined(alloc, "m", digits.as_str())?;
+    let shard = name_of_shard(alloc, id)?;
+    let manifest = name_of_manifest(alloc, id)?;
+    let loose_shard = loose_name_of_shard(alloc, id)?;
+    let loose_manifest = loose_name_of_manifest(alloc, id)?;
     Ok(Names {
         id,
         shard,
@@ -42,13 +42,4 @@ pub fn names_of(alloc: Global, id: VersionId) -> Result<Names, AllocError>
         loose_shard,
         loose_manifest,
     })
-}
-
-/// Two texts, one after the other.
-fn joined(alloc: Global, front: &str, back: &str) -> Result<String, AllocError>
-    ensures { IfOk result (λ text. string_bytes text ≡ front.now ++ back.now) }
-{
-    let mut text = String::from_str(alloc, front)?;
-    text.push_str(back)?;
-    Ok(text)
 }

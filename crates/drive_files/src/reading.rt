@@ -1,0 +1,109 @@
+//! Reading a file of a drive, or a piece of one.
+
+ghost use Rattle.std.specs.Prelude.{◌≡◌, ◌≤◌, IsTrue, IfOk, IfErr, OnOk, length};
+ghost use Rattle.drive_files.specs.Reading.{HasLength, IsPieceAt, IsCutShort, IsRefusedBy, IsWhole, NeverDamaged, EndsBefore};
+
+use crate::cause::NotGiven;
+use call_types::{FileKind, Why};
+use drive_base::{Drive, DriveFault};
+use seal_file::Damage;
+use std::alloc::Global;
+
+/// The length of a file, in bytes.
+pub fn size_on<D: Drive>(drive: &mut D, kind: FileKind, name: &str) -> Result<u64, NotGiven>
+    ensures size { IfOk result (λ n. IsTrue (D.tells drive.old) → HasLength (D.files drive.old) name.now n) }
+    ensures calm { OnOk result (D.count drive.new ≡ D.count drive.old) }
+    ensures cause { IfErr result (λ fault. IsRefusedBy kind name.now NeverDamaged fault (D.tells drive.old) (D.files drive.old) (D.count drive.old) (D.count drive.new)) }
+    ensures files { IsTrue (D.tells drive.old) → D.files drive.new ≡ D.files drive.old }
+    ensures tells { D.tells drive.new ≡ D.tells drive.old }
+    ensures count { D.count drive.old ≤ D.count drive.new }
+{
+    let before = drive.faults();
+    match drive.size(name) {
+        Ok(size) => Ok(size),
+        Err(DriveFault::Absent) => Err(NotGiven::Because(Why::Lacks(kind))),
+        Err(_) => {
+            let after = drive.faults();
+            Err(NotGiven::Because(Why::Failed { before, after }))
+        }
+    }
+}
+
+/// So many bytes of a file from a place on, without asking first how long the file is.
+pub fn piece_on<D: Drive>(
+    alloc: Global,
+    drive: &mut D,
+    kind: FileKind,
+    name: &str,
+    at: u64,
+    long: u64,
+) -> Result<Vec<u8>, NotGiven>
+    ensures long { IfOk result (λ bytes. length bytes.items ≡ long) }
+    ensures piece { IfOk result (λ bytes. IsTrue (D.tells drive.old) → IsPieceAt (D.files drive.old) name.now at bytes.items) }
+    ensures calm { OnOk result (D.count drive.new ≡ D.count drive.old) }
+    ensures cause { IfErr result (λ fault. IsRefusedBy kind name.now (IsCutShort at long) fault (D.tells drive.old) (D.files drive.old) (D.count drive.old) (D.count drive.new)) }
+    ensures files { IsTrue (D.tells drive.old) → D.files drive.new ≡ D.files drive.old }
+    ensures tells { D.tells drive.new ≡ D.tells drive.old }
+    ensures count { D.count drive.old ≤ D.count drive.new }
+{
+    let Ok(mut bytes) = vec![in alloc; 0; long as usize] else {
+        return Err(NotGiven::NoMemory);
+    };
+    let before = drive.faults();
+    match drive.read(name, at, bytes.as_mut_slice()) {
+        Ok(count) => {
+            if count as u64 == long {
+                return Ok(bytes);
+            }
+            let shown = at.saturating_add(count as u64);
+            Err(NotGiven::Because(Why::Damaged(Damage::Short(shown))))
+        }
+        Err(DriveFault::Absent) => Err(NotGiven::Because(Why::Lacks(kind))),
+        Err(_) => {
+            let after = drive.faults();
+            Err(NotGiven::Because(Why::Failed { before, after }))
+        }
+    }
+}
+
+/// All bytes of a file.
+pub fn file_on<D: Drive>(
+    alloc: Global,
+    drive: &mut D,
+    kind: FileKind,
+    name: &str,
+) -> Result<Vec<u8>, NotGiven>
+    ensures file { IfOk result (λ bytes. IsTrue (D.tells drive.old) → IsWhole (D.files drive.old) name.now bytes.items) }
+    ensures calm { OnOk result (D.count drive.new ≡ D.count drive.old) }
+    ensures cause { IfErr result (λ fault. IsRefusedBy kind name.now NeverDamaged fault (D.tells drive.old) (D.files drive.old) (D.count drive.old) (D.count drive.new)) }
+    ensures files { IsTrue (D.tells drive.old) → D.files drive.new ≡ D.files drive.old }
+    ensures tells { D.tells drive.new ≡ D.tells drive.old }
+    ensures count { D.count drive.old ≤ D.count drive.new }
+{
+    let size = size_on(drive, kind, name)?;
+    piece_on(alloc, drive, kind, name, 0, size)
+}
+
+/// So many bytes of a file from a place on.
+pub fn bytes_at<D: Drive>(
+    alloc: Global,
+    drive: &mut D,
+    kind: FileKind,
+    name: &str,
+    at: u64,
+    long: u64,
+) -> Result<Vec<u8>, NotGiven>
+    ensures long { IfOk result (λ bytes. length bytes.items ≡ long) }
+    ensures piece { IfOk result (λ bytes. IsTrue (D.tells drive.old) → IsPieceAt (D.files drive.old) name.now at bytes.items) }
+    ensures calm { OnOk result (D.count drive.new ≡ D.count drive.old) }
+    ensures cause { IfErr result (λ fault. IsRefusedBy kind name.now (EndsBefore at long) fault (D.tells drive.old) (D.files drive.old) (D.count drive.old) (D.count drive.new)) }
+    ensures files { IsTrue (D.tells drive.old) → D.files drive.new ≡ D.files drive.old }
+    ensures tells { D.tells drive.new ≡ D.tells drive.old }
+    ensures count { D.count drive.old ≤ D.count drive.new }
+{
+    let size = size_on(drive, kind, name)?;
+    if size < at || size - at < long {
+        return Err(NotGiven::Because(Why::Damaged(Damage::Short(size))));
+    }
+    piece_on(alloc, drive, kind, name, at, long)
+}
