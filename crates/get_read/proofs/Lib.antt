@@ -1,0 +1,12 @@
+pub mod BlockLemmas
+pub mod ClashLemmas
+pub mod DamageLemmas
+pub mod EachLemmas
+pub mod FoundLemmas
+pub mod KeepingLemmas
+pub mod ManifestLemmas
+pub mod PartLemmas
+pub mod RebuildLemmas
+pub mod TableLemmas
+pub mod WholeLemmas
+pub mod Widening

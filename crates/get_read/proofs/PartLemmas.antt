@@ -1,0 +1,136 @@
+-- The stripes of a part, one after the other, and what was read while drives were kept.
+use Rattle.std.proofs.Common.{◌≡◌, ◌⊎◌, ℕ, ◌+◌, ◌*◌, ◌<◌, ◌≤◌, min, ◌∙◌, List, [], ◌++◌, length, slice_index_or, take, subst, sym, ap, inl, inr, arith}
+use Rattle.std.specs.Prelude.{Bool, Err, IfErr, IsTrue, Ok, Result}
+use Rattle.std.specs.Int.{IsBitSet}
+use Rattle.std.proofs.Math.Seq.{take-add}
+use Rattle.std.proofs.lemmas.List.{append-nil, append_assoc, take_all}
+use Rattle.call_types.specs.declared.why.FileKind.TheVariants.{Format, Register, Manifest, Shard}
+use Rattle.call_types.specs.declared.why.Why.{Why}
+use Rattle.call_types.specs.declared.why.Why.TheVariants.{Good, Failed, Damaged, Behind, Lacks}
+use Rattle.drive_base.specs.Files.{Files}
+use Rattle.drive_base.specs.Plan.{data_drives}
+use Rattle.drive_base.specs.declared.plan.SetPlan.{SetPlan}
+use Rattle.manifest_file.specs.declared.manifest.ManifestPart.{ManifestPart}
+use Rattle.shard_file.proofs.StripeLemmas.{stripes_reach}
+use Rattle.shard_file.specs.Stripes.{piece, stripe_size, stripe_count}
+use Rattle.body_print.specs.Clashes.{IsShown, WasRead}
+use Rattle.body_print.specs.Names.{shard_name}
+use Rattle.body_print.specs.Shards.{HasRoots}
+use Rattle.get_read.specs.Blocks.{AreFew}
+use Rattle.get_read.specs.Causes.{NoBlock}
+use Rattle.get_read.specs.Keeping.{AreKept}
+use Rattle.get_read.specs.Parts.{AddsPart, AddsStripe, PartClash}
+use Rattle.get_read.specs.declared.faults.ReadFaultKind.{ReadFaultKind}
+use Rattle.get_read.specs.declared.faults.ReadFaultKind.TheVariants.{InvalidRange, ShardQuorum, NoMemory}
+
+-- a cause that is told of drives that were kept is told of what they were
+no_block_before : (d : ℕ) (part : ManifestPart) (root : List ℕ) (why : Why) (out : Type 0) (tells tells_mid : Bool) (files files_mid : Files)
+    (old mid new : ℕ) → tells_mid ≡ tells → (IsTrue tells → files_mid ≡ files) → old ≤ mid
+    → NoBlock d part root why out tells_mid files_mid mid new → NoBlock d part root why out tells files old new
+no_block_before d part root Good out tells tells_mid files files_mid old mid new same kept rose is = is
+no_block_before d part root (Failed before after) out tells tells_mid files files_mid old mid new same kept rose is =
+    (omega (arith, rose, is.0), is.1, is.2)
+no_block_before d part root (Damaged damage) out tells tells_mid files files_mid old mid new same kept rose is =
+    λ told.
+    let it = is (subst IsTrue (sym same) told) in
+    (it.0, sym (ap (λ (f : Files). f.shown (shard_name part.id)) (kept told)) ∙ it.1, it.2)
+no_block_before d part root (Behind ballot) out tells tells_mid files files_mid old mid new same kept rose is = is
+no_block_before d part root (Lacks Format) out tells tells_mid files files_mid old mid new same kept rose is = is
+no_block_before d part root (Lacks Register) out tells tells_mid files files_mid old mid new same kept rose is = is
+no_block_before d part root (Lacks Manifest) out tells tells_mid files files_mid old mid new same kept rose is = is
+no_block_before d part root (Lacks Shard) out tells tells_mid files files_mid old mid new same kept rose is =
+    λ told. sym (ap (λ (f : Files). f.shown (shard_name part.id)) (kept told)) ∙ is (subst IsTrue (sym same) told)
+
+module _ {D : Type 0} (tells : D → Bool) (files : D → Files) (count : D → ℕ) where
+  -- the body has gained the bytes of so many stripes of a part
+  pub record AddsFront (set : SetPlan) (part : ManifestPart) (i : ℕ) (drives : List D) (old new : List ℕ) : Type 0 where
+    pub long : length new ≡ length old + min (stripe_size * i) part.length
+    pub exact : (bytes : List ℕ) → length bytes ≡ part.length
+        → HasRoots set.drives (data_drives set.drives set.parity) bytes part.roots
+        → (new ≡ old ++ take (stripe_size * i) bytes) ⊎ PartClash tells files set.drives (data_drives set.drives set.parity) bytes drives
+
+  -- what was read of drives that were kept was read of what they were
+  pub read_before : (old mid : List D) (bytes : List ℕ) → AreKept tells files count old mid → WasRead tells files mid bytes
+      → WasRead tells files old bytes
+  read_before old mid bytes kept read =
+      let low : read.0 < length old = omega (arith, read.1, kept.long) in (
+        read.0,
+        low,
+        (λ default told.
+            subst (λ (f : Files). IsShown f bytes) (kept.held read.0 default low told)
+            (read.2 default (subst IsTrue (sym (kept.same read.0 default low)) told))),
+      )
+
+  pub clash_before : (n d : ℕ) (bytes : List ℕ) (old mid : List D) → AreKept tells files count old mid → PartClash tells files n d bytes mid
+      → PartClash tells files n d bytes old
+  clash_before n d bytes old mid kept clash = record {
+    read = clash.read;
+    other = clash.other;
+    differ = clash.differ;
+    same = clash.same;
+    was_read = read_before old mid clash.read kept clash.was_read;
+    is = clash.is;
+  }
+
+  pub few_before : (set : SetPlan) (part : ManifestPart) (fault : ReadFaultKind) (old mid new : List D) → length old ≡ set.drives
+      → AreKept tells files count old mid → AreFew tells files count set part fault mid new → AreFew tells files count set part fault old new
+  few_before set part (InvalidRange end) old mid new all kept few = few
+  few_before set part NoMemory old mid new all kept few = few
+  few_before set part (ShardQuorum whys) old mid new all kept few = record {
+    counted = few.counted;
+    few = few.few;
+    each = λ k default low.
+        let below : k < length old = omega (arith, low, all) in
+        no_block_before (data_drives set.drives set.parity) part (slice_index_or part.roots k []) (slice_index_or whys k Good) (IsBitSet set.out k)
+        (tells (slice_index_or old k default)) (tells (slice_index_or mid k default)) (files (slice_index_or old k default))
+        (files (slice_index_or mid k default)) (count (slice_index_or old k default)) (count (slice_index_or mid k default))
+        (count (slice_index_or new k default)) (kept.same k default below) (kept.held k default below) (kept.faults k default below)
+        (few.each k default low);
+  }
+
+  pub refused_before : {T : Type 0} (set : SetPlan) (part : ManifestPart) (result : Result T ReadFaultKind) (old mid new : List D)
+      → length old ≡ set.drives → AreKept tells files count old mid → IfErr result (λ fault. AreFew tells files count set part fault mid new)
+      → IfErr result (λ fault. AreFew tells files count set part fault old new)
+  refused_before set part (Ok value) old mid new all kept few = few
+  refused_before set part (Err fault) old mid new all kept few = few_before set part fault old mid new all kept few
+
+  -- before the first stripe
+  pub front_none : (set : SetPlan) (part : ManifestPart) (drives : List D) (body : List ℕ) → AddsFront set part 0 drives body body
+  front_none set part drives body = record {
+    long = omega arith;
+    exact = λ bytes is roots. inl (sym (append-nil body));
+  }
+
+  -- one more stripe
+  pub front_more : (set : SetPlan) (part : ManifestPart) (i : ℕ) (drives mid_drives : List D) (old mid new : List ℕ) → i < stripe_count part.length
+      → AreKept tells files count drives mid_drives
+      → AddsFront set part i drives old mid → AddsStripe tells files set part i mid_drives mid new → AddsFront set part (i + 1) drives old new
+  front_more set part i drives mid_drives old mid new within kept front stripe = record {
+    long = omega (arith, front.long, stripe.long, within);
+    exact = λ bytes is roots.
+        let dd = data_drives set.drives set.parity in
+        let more : stripe_size * (i + 1) ≡ stripe_size * i + stripe_size = omega arith in
+        let split : take (stripe_size * (i + 1)) bytes ≡ take (stripe_size * i) bytes ++ piece stripe_size bytes i =
+        ap (λ (m : ℕ). take m bytes) more ∙ take-add (stripe_size * i) stripe_size bytes in
+        elim (front.exact bytes is roots) [
+          | inl before ↦ elim (stripe.exact bytes is roots) [
+            | inl last ↦ inl (last ∙ ap (λ (m : List ℕ). m ++ piece stripe_size bytes i) before
+                ∙ append_assoc old (take (stripe_size * i) bytes) (piece stripe_size bytes i) ∙ ap (λ (m : List ℕ). old ++ m) (sym split))
+            | inr clash ↦ inr (clash_before set.drives dd bytes drives mid_drives kept clash)
+          ]
+          | inr clash ↦ inr clash
+        ];
+  }
+
+  -- all stripes
+  pub front_all : (set : SetPlan) (part : ManifestPart) (i : ℕ) (drives : List D) (old new : List ℕ) → stripe_count part.length ≤ i
+      → AddsFront set part i drives old new → AddsPart tells files set part drives old new
+  front_all set part i drives old new all front =
+      let reach : part.length ≤ stripe_size * i = omega (arith, stripes_reach part.length, all) in
+      record {
+        long = omega (arith, front.long, reach);
+        exact = λ bytes is roots. elim (front.exact bytes is roots) [
+          | inl same ↦ inl (same ∙ ap (λ (m : List ℕ). old ++ m) (take_all (stripe_size * i) bytes (omega (arith, is, reach))))
+          | inr clash ↦ inr clash
+        ];
+      }

@@ -1,0 +1,249 @@
+-- The parts of a body, one after the other, and the body that has the print.
+use Rattle.std.proofs.Common.{◌≡◌, ◌⊎◌, ℕ, ◌+◌, ◌-◌, ◌<◌, ◌≤◌, ◌∙◌, List, [], ◌∷◌, ◌++◌, length, slice_index_or, take, drop, map, subst, sym, ap, refl, inl, inr, arith}
+use Rattle.std.specs.Prelude.{All, Bool, Contains, Err, IfErr, Ok, Result}
+use Rattle.std.specs.List.{AllByRecursion, concat}
+use Rattle.std.proofs.lemmas.List.{get_or-map, length-map, take-append-drop, take-append-le, take_all}
+use Rattle.std.proofs.lemmas.List.Elements.{All-from_get_or, All-map, All-same, recursion_from_All}
+use Rattle.std.proofs.lemmas.List.Folds.{concat-append}
+use Rattle.std.proofs.lemmas.List.Sums.{sum_by_more}
+use Rattle.sha2.proofs.Facts256.{length-sha256}
+use Rattle.stamp_id.specs.declared.version.VersionId.{VersionId}
+use Rattle.drive_base.specs.Files.{Files}
+use Rattle.drive_base.specs.declared.plan.SetPlan.{SetPlan}
+use Rattle.manifest_file.proofs.PrintText.{tells_parts}
+use Rattle.manifest_file.specs.Canonical.{IsCanonical, IsCanonicalPart, IsRoot}
+use Rattle.manifest_file.specs.Print.{Cut, cut_of, print_text, text_under}
+use Rattle.manifest_file.specs.declared.manifest.Manifest.{Manifest}
+use Rattle.manifest_file.specs.declared.manifest.ManifestPart.{ManifestPart}
+use Rattle.shard_file.proofs.ShardLemmas.{concat-take_more}
+use Rattle.shard_file.specs.Shards.{root_of, table_of}
+use Rattle.body_print.specs.Prints.{HasPrint, IsCutOf}
+use Rattle.get_read.specs.Causes.{Serves, body_length}
+use Rattle.get_read.specs.Keeping.{AreKept}
+use Rattle.get_read.specs.Manifests.{FindsManifest}
+use Rattle.get_read.specs.Outcomes.{AreOfSpan, IsFound, IsRefused, wanted_of}
+use Rattle.get_read.specs.Parts.{AddsPart, AreFront, CutClash, IsCutAs, SomeAreFew}
+use Rattle.get_read.specs.Blocks.{AreFew}
+use Rattle.get_read.specs.declared.faults.ReadFaultKind.{ReadFaultKind}
+use Rattle.get_read.specs.declared.faults.ReadFaultKind.TheVariants.{InvalidRange, ShardQuorum, NoMemory}
+use Rattle.get_read.proofs.ClashLemmas.{one_or_two}
+use Rattle.get_read.proofs.PartLemmas.{clash_before, few_before}
+
+-- ---- the text under a print tells the cuts
+
+-- a part with this cut
+abbrev part_with : VersionId → Cut → ManifestPart
+part_with id cut = record { id = id; length = cut.0; roots = cut.1 }
+
+cuts_again : (id : VersionId) (cuts : List Cut) → map cut_of (map (part_with id) cuts) ≡ cuts
+cuts_again id [] = refl
+cuts_again id (cut ∷ cuts) = ap (λ (rest : List Cut). cut ∷ rest) (cuts_again id cuts)
+
+-- the cut of a part that isn't too long is canonical
+part_is_canonical : (n p : ℕ) (id : VersionId) (part : List ℕ) (cut : Cut) → length part ≤ 5368709120 → IsCutOf n p part cut
+    → IsCanonicalPart n (part_with id cut)
+part_is_canonical n p id part cut few is =
+    let shards = is.1.0 in
+    let rooted : All IsRoot (map root_of shards) = All-map IsRoot root_of shards (λ k d low. length-sha256 (table_of (slice_index_or shards k d))) in
+    record {
+      size = omega (arith, few, is.0);
+      counted = ap (length {A = List ℕ}) is.1.2 ∙ length-map shards root_of ∙ is.1.1.count;
+      roots = recursion_from_All IsRoot cut.1 (All-same IsRoot cut.1 (map root_of shards) is.1.2 rooted);
+    }
+
+-- a manifest with these cuts
+abbrev manifest_with : Manifest → VersionId → List Cut → Manifest
+manifest_with m id cuts = record { name = m.name; drives = m.drives; parity = m.parity; parts = map (part_with id) cuts }
+
+-- what is under the print of a body that is cut as a manifest may tell is the text of a canonical manifest
+cuts_are_canonical : (m : Manifest) (id : VersionId) (n p : ℕ) (body print : List ℕ) → IsCanonical m → m.drives ≡ n
+    → (has : HasPrint n p body print) → IsCanonical (manifest_with m id has.under.cuts)
+cuts_are_canonical m id n p body print canonical drives has =
+    let under = has.under in
+    let cuts = under.cuts in
+    let count : length (map (part_with id) cuts) ≡ length has.parts = length-map cuts (part_with id) ∙ under.count in
+    let parts : All (λ cut. IsCanonicalPart n (part_with id cut)) cuts =
+    All-from_get_or (λ cut. IsCanonicalPart n (part_with id cut)) cuts (0, [])
+    (λ i low.
+    let inside : i < length has.parts = omega (arith, low, under.count) in
+    part_is_canonical n p id (slice_index_or has.parts i []) (slice_index_or cuts i (0, [])) (has.cut.fits i [] inside) (under.each i inside)) in
+    record {
+      name = canonical.name;
+      drives = canonical.drives;
+      parity = canonical.parity;
+      some = omega (arith, count, has.cut.some);
+      few = omega (arith, count, has.cut.few);
+      parts = subst (λ (d : ℕ). AllByRecursion (IsCanonicalPart d) (map (part_with id) cuts)) (sym drives)
+          (recursion_from_All (IsCanonicalPart n) (map (part_with id) cuts) (All-map (IsCanonicalPart n) (part_with id) cuts parts));
+    }
+
+-- a part of a list that isn't empty
+first_part : (parts : List ManifestPart) → 1 ≤ length parts → ManifestPart
+first_part [] some = absurd (omega arith)
+first_part (part ∷ parts) some = part
+
+-- a body with a print is cut as the manifest says whose text is the one under the print
+cut_as_told : (m : Manifest) (n p : ℕ) (body print : List ℕ) → IsCanonical m → m.drives ≡ n → m.parity ≡ p
+    → (has : HasPrint n p body print) → text_under m ≡ has.text → IsCutAs n p m.parts has.parts
+cut_as_told m n p body print canonical drives parity has same =
+    let under = has.under in
+    let cuts = under.cuts in
+    let id = (first_part m.parts canonical.some).id in
+    let other = manifest_with m id cuts in
+    let text : text_under m ≡ text_under other =
+    same ∙ under.spells
+    ∙ ap (λ (d : ℕ). print_text d p cuts) (sym drives) ∙ ap (λ (q : ℕ). print_text m.drives q cuts) (sym parity)
+    ∙ ap (print_text m.drives m.parity) (sym (cuts_again id cuts)) in
+    let told = tells_parts m other canonical (cuts_are_canonical m id n p body print canonical drives has) text in
+    let cuts_are : map cut_of m.parts ≡ cuts = told.2 ∙ cuts_again id cuts in
+    let count : length has.parts ≡ length m.parts =
+    sym under.count ∙ ap (length {A = Cut}) (sym cuts_are) ∙ length-map m.parts cut_of in
+    record {
+      count = count;
+      each = λ i default low.
+          let at : slice_index_or cuts i (0, []) ≡ cut_of (slice_index_or m.parts i default) =
+          ap (λ (all : List Cut). slice_index_or all i (0, [])) (sym cuts_are) ∙ get_or-map cut_of m.parts i default (0, []) low in
+          subst (IsCutOf n p (slice_index_or has.parts i [])) at (under.each i (omega (arith, low, count)));
+    }
+
+-- ---- the parts, one after the other
+
+module _ {D : Type 0} (tells : D → Bool) (files : D → Files) (count : D → ℕ) where
+  -- the body is so many parts
+  pub record AreFirst (set : SetPlan) (parts : List ManifestPart) (i : ℕ) (drives : List D) (body : List ℕ) : Type 0 where
+    pub long : length body ≡ body_length (take i parts)
+    pub exact : (cut : List (List ℕ)) → IsCutAs set.drives set.parity parts cut
+        → (body ≡ concat (take i cut)) ⊎ CutClash tells files set.drives set.parity cut drives
+
+  pub first_none : (set : SetPlan) (parts : List ManifestPart) (drives : List D) (body : List ℕ) → body ≡ [] → AreFirst set parts 0 drives body
+  first_none set parts drives body none = record {
+    long = ap (length {A = ℕ}) none;
+    exact = λ cut is. inl none;
+  }
+
+  pub first_more : (set : SetPlan) (parts : List ManifestPart) (part : ManifestPart) (i : ℕ) (drives mid : List D) (old new : List ℕ) → i < length parts
+      → slice_index_or parts i part ≡ part → AreKept tells files count drives mid
+      → AreFirst set parts i drives old → AddsPart tells files set part mid old new → AreFirst set parts (i + 1) drives new
+  first_more set parts part i drives mid old new low at kept first adds = record {
+    long = omega (arith, adds.long, first.long, ap (λ (q : ManifestPart). q.length) at, sum_by_more (λ (q : ManifestPart). q.length) parts i part low);
+    exact = λ cut is.
+        let piece = slice_index_or cut i [] in
+        let so : IsCutOf set.drives set.parity piece (cut_of part) = subst (λ (q : ManifestPart). IsCutOf set.drives set.parity piece (cut_of q)) at (is.each i part low) in
+        let inside : i < length cut = omega (arith, low, is.count) in
+        elim (first.exact cut is) [
+          | inl before ↦ elim (adds.exact piece (sym so.0) so.1) [
+            | inl last ↦ inl (last ∙ ap (λ (m : List ℕ). m ++ piece) before ∙ sym (concat-take_more cut i inside))
+            | inr clash ↦ inr (i, inside, clash_before tells files count set.drives (set.drives - set.parity) piece drives mid kept clash)
+          ]
+          | inr clash ↦ inr clash
+        ];
+  }
+
+  -- what reaches to a length is of every body with the print
+  pub span_of_front : (set : SetPlan) (print : List ℕ) (id : VersionId) (long : ℕ) (m : Manifest) (drives : List D) (body bytes : List ℕ)
+      → IsFound tells files id m drives → IsCanonical m → Serves (wanted_of set print long) m
+      → AreFront tells files set m.parts drives body → long ≤ length body → bytes ≡ take long body
+      → AreOfSpan tells files count set print 0 long bytes drives
+  span_of_front set print id long m drives body bytes found canonical serves front reach is = λ whole has.
+      elim (one_or_two (text_under m) has.text) [
+        | inl same ↦
+            let cut = has.parts in
+            let told = cut_as_told m set.drives set.parity whole print canonical serves.fits.drives serves.fits.parity has same in
+            elim (front.1 cut told) [
+              | inl first ↦
+                  let begin = concat (take front.0 cut) in
+                  let all : whole ≡ begin ++ concat (drop front.0 cut) =
+                  has.joins ∙ ap concat (sym (take-append-drop front.0 cut)) ∙ concat-append (take front.0 cut) (drop front.0 cut) in
+                  let within : long ≤ length begin = omega (arith, reach, ap (length {A = ℕ}) first) in
+                  let span : take long whole ≡ bytes =
+                  ap (take long) all ∙ take-append-le long begin (concat (drop front.0 cut)) within ∙ ap (take long) (sym first) ∙ sym is in
+                  inl (sym (ap (take (length bytes)) span ∙ take_all (length bytes) bytes (omega arith)))
+              | inr clash ↦ inr (record {
+                read = clash.2.read;
+                other = clash.2.other;
+                differ = clash.2.differ;
+                same = clash.2.same;
+                was_read = clash.2.was_read;
+                is_hashed = record {
+                  parts = has.parts;
+                  text = has.text;
+                  joins = has.joins;
+                  under = has.under;
+                  hashed = has.hashed;
+                  is = inr (clash.0, clash.1, clash.2.is);
+                };
+              })
+            ]
+        | inr differ ↦ inr (record {
+          read = text_under m;
+          other = has.text;
+          differ = differ;
+          same = sym serves.print ∙ has.hashed;
+          was_read = (found.0, found.1, (λ default told. inl (id, m, found.2 default told, refl)));
+          is_hashed = record {
+            parts = has.parts;
+            text = has.text;
+            joins = has.joins;
+            under = has.under;
+            hashed = has.hashed;
+            is = inl refl;
+          };
+        })
+      ]
+
+  -- too few blocks of one part verified
+  pub some_refused : {T : Type 0} (set : SetPlan) (parts : List ManifestPart) (part : ManifestPart) (result : Result T ReadFaultKind) (old new : List D)
+      → Contains parts part → IfErr result (λ fault. AreFew tells files count set part fault old new)
+      → IfErr result (λ fault. SomeAreFew tells files count set parts fault old new)
+  some_refused set parts part (Ok value) old new among few = few
+  some_refused set parts part (Err fault) old new among few = (part, among, few)
+
+  -- so the read is refused
+  refused_of_some : (set : SetPlan) (print : List ℕ) (id : VersionId) (long : ℕ) (m : Manifest) (fault : ReadFaultKind) (old new : List D)
+      → IsFound tells files id m old → IsCanonical m → Serves (wanted_of set print long) m → SomeAreFew tells files count set m.parts fault old new
+      → IsRefused tells files count set print id long fault old new
+  refused_of_some set print id long m (InvalidRange end) old new found canonical serves some = some.2
+  refused_of_some set print id long m NoMemory old new found canonical serves some = tt
+  refused_of_some set print id long m (ShardQuorum whys) old new found canonical serves some = inr (record {
+    manifest = m;
+    found = found;
+    canonical = canonical;
+    serves = serves;
+    part = some.0;
+    among = some.1;
+    counted = some.2.counted;
+    few = some.2.few;
+    each = some.2.each;
+  })
+
+  pub refused_whole : {T : Type 0} (set : SetPlan) (print : List ℕ) (id : VersionId) (long : ℕ) (m : Manifest) (result : Result T ReadFaultKind) (old new : List D)
+      → IsFound tells files id m old → IsCanonical m → Serves (wanted_of set print long) m → IfErr result (λ fault. SomeAreFew tells files count set m.parts fault old new)
+      → IfErr result (λ fault. IsRefused tells files count set print id long fault old new)
+  refused_whole set print id long m (Ok value) old new found canonical serves some = some
+  refused_whole set print id long m (Err fault) old new found canonical serves some = refused_of_some set print id long m fault old new found canonical serves some
+
+  -- no manifest was found
+  pub refused_unfound : (set : SetPlan) (print : List ℕ) (id : VersionId) (long : ℕ) (fault : ReadFaultKind) (old new : List D)
+      → FindsManifest tells files count set print id long (Err fault) old new → IsRefused tells files count set print id long fault old new
+  refused_unfound set print id long (InvalidRange end) old new is = is
+  refused_unfound set print id long NoMemory old new is = tt
+  refused_unfound set print id long (ShardQuorum whys) old new is = inl is
+
+  -- some blocks were few while drives were kept
+  pub some_before : {T : Type 0} (set : SetPlan) (parts : List ManifestPart) (result : Result T ReadFaultKind) (old mid new : List D)
+      → length old ≡ set.drives → AreKept tells files count old mid → IfErr result (λ fault. SomeAreFew tells files count set parts fault mid new)
+      → IfErr result (λ fault. SomeAreFew tells files count set parts fault old new)
+  some_before set parts (Ok value) old mid new all kept some = some
+  some_before set parts (Err fault) old mid new all kept some =
+      (some.0, some.1, few_before tells files count set some.0 fault old mid new all kept some.2)
+
+  -- the first parts of drives that were kept
+  pub front_before : (set : SetPlan) (parts : List ManifestPart) (old mid : List D) (body : List ℕ) → AreKept tells files count old mid
+      → AreFront tells files set parts mid body → AreFront tells files set parts old body
+  front_before set parts old mid body kept front = (
+    front.0,
+    (λ cut is. elim (front.1 cut is) [
+      | inl same ↦ inl same
+      | inr clash ↦ inr (clash.0, clash.1, clash_before tells files count set.drives (set.drives - set.parity) (slice_index_or cut clash.0 []) old mid kept clash.2)
+    ]),
+  )

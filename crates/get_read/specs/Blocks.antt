@@ -1,0 +1,82 @@
+-- Digest tables that are held while a part is read, and verified blocks of a stripe.
+use Rattle.std.specs.Prelude.{◌≡◌, ◌⊎◌, ◌<◌, ◌*◌, ℕ, Bool, false, IsTrue, All, List, [], Some, length, slice_index, slice_index_or, Vec}
+use Rattle.std.specs.Int.{IsBitSet}
+use Rattle.std.specs.List.{count_by}
+use Rattle.sha2.specs.Sha256.{sha256}
+use Rattle.call_types.specs.declared.why.Why.{Why}
+use Rattle.call_types.specs.declared.why.Why.TheVariants.{Good}
+use Rattle.drive_base.specs.Files.{Files}
+use Rattle.drive_base.specs.Plan.{data_drives}
+use Rattle.drive_base.specs.declared.plan.SetPlan.{SetPlan}
+use Rattle.manifest_file.specs.declared.manifest.ManifestPart.{ManifestPart}
+use Rattle.shard_file.specs.Stripes.{piece, stripe_count, stripe_length, block_size}
+use Rattle.poly_code.specs.Codeword.{AreDistinct}
+use Rattle.body_print.specs.Names.{shard_name}
+use Rattle.get_read.specs.Causes.{IsTableOf, NoBlock, digest_in}
+use Rattle.get_read.specs.Outcomes.{is_good}
+use Rattle.get_read.specs.Steps.{ShowsPiece}
+use Rattle.drive_files.specs.declared.cause.NotGiven.{NotGiven}
+use Rattle.drive_files.specs.declared.cause.NotGiven.TheVariants.{Because, NoMemory}
+use Rattle.get_read.specs.declared.faults.ReadFaultKind.{ReadFaultKind}
+use Rattle.get_read.specs.declared.faults.ReadFaultKind.TheVariants.{InvalidRange, ShardQuorum, NoMemory as NoRoom}
+
+-- the shown file of this name has these bytes at the place of the digest table
+abbrev pub ShowsTable : ℕ → ℕ → Files → List ℕ → List ℕ → Type 0
+ShowsTable d n files name table = (file : List ℕ) × (files.shown name ≡ Some file) × IsTableOf d n file table
+
+-- a digest table of a part that has a root, which a drive that tells shows
+pub record IsTableFor (d : ℕ) (part : ManifestPart) (root : List ℕ) (tells : Bool) (files : Files) (table : List ℕ) : Type 0 where
+  pub size : length table ≡ 32 * stripe_count part.length
+  pub digest : root ≡ sha256 table
+  pub shown : IsTrue tells → ShowsTable d part.length files (shard_name part.id) table
+
+-- what is held of a drive: nothing, or its digest table
+abbrev pub IsHeld : ℕ → ManifestPart → List ℕ → Bool → Files → List ℕ → Type 0
+IsHeld d part root tells files table = (table ≡ []) ⊎ IsTableFor d part root tells files table
+
+-- a block of a stripe whose digest is that of a table that has the root; a drive that tells shows both
+pub record IsVerified (d : ℕ) (part : ManifestPart) (i : ℕ) (root : List ℕ) (tells : Bool) (files : Files) (block : List ℕ) : Type 0 where
+  pub table : List ℕ
+  pub is_table : IsTableFor d part root tells files table
+  pub size : length block ≡ block_size d (stripe_length part.length i)
+  pub digest : digest_in table i ≡ sha256 block
+  pub shown : IsTrue tells → ShowsPiece files (shard_name part.id) block
+
+-- why a drive gave no block, or there was not enough memory
+abbrev pub IsNoBlock : ℕ → ManifestPart → List ℕ → NotGiven → Type 0 → Bool → Files → ℕ → ℕ → Type 0
+IsNoBlock d part root (Because why) out tells files old new = (is_good why ≡ false) × NoBlock d part root why out tells files old new
+IsNoBlock d part root NoMemory out tells files old new = Unit {0}
+
+module _ {D : Type 0} (tells : D → Bool) (files : D → Files) where
+  -- what is held of each drive
+  abbrev pub AreHeld : {Z : Type 0} → ℕ → ManifestPart → List (Vec ℕ Z) → List D → Type 0
+  AreHeld {Z = Z} d part tables drives = (k : ℕ) (default : D) (none : Vec ℕ Z) → k < length tables
+      → IsHeld d part (slice_index_or part.roots k []) (tells (slice_index_or drives k default)) (files (slice_index_or drives k default))
+      ((slice_index_or tables k none).items)
+
+  -- verified blocks of a stripe from as many drives as it has data blocks, joined
+  pub record AreEnough (set : SetPlan) (part : ManifestPart) (i : ℕ) (rows bytes : List ℕ) (drives : List D) : Type 0 where
+    pub count : length rows ≡ data_drives set.drives set.parity
+    pub below : All (λ row. row < set.drives) rows
+    pub distinct : AreDistinct rows
+    pub size : length bytes ≡ length rows * block_size (data_drives set.drives set.parity) (stripe_length part.length i)
+    pub each : (j : ℕ) (default : D) → j < length rows → IsVerified (data_drives set.drives set.parity) part i
+        (slice_index_or part.roots (slice_index rows j) [])
+        (tells (slice_index_or drives (slice_index rows j) default)) (files (slice_index_or drives (slice_index rows j) default))
+        (piece (block_size (data_drives set.drives set.parity) (stripe_length part.length i)) bytes j)
+
+module _ {D : Type 0} (tells : D → Bool) (files : D → Files) (count : D → ℕ) where
+  -- fewer drives gave a block, and why each other gave none
+  pub record NoneMore (set : SetPlan) (part : ManifestPart) (whys : List Why) (old new : List D) : Type 0 where
+    pub counted : length whys ≡ set.drives
+    pub few : count_by is_good whys < data_drives set.drives set.parity
+    pub each : (k : ℕ) (default : D) → k < set.drives
+        → NoBlock (data_drives set.drives set.parity) part (slice_index_or part.roots k []) (slice_index_or whys k Good) (IsBitSet set.out k)
+        (tells (slice_index_or old k default)) (files (slice_index_or old k default))
+        (count (slice_index_or old k default)) (count (slice_index_or new k default))
+
+  -- the cause where too few blocks verified
+  abbrev pub AreFew : SetPlan → ManifestPart → ReadFaultKind → List D → List D → Type 0
+  AreFew set part (InvalidRange _) old new = ⊥
+  AreFew set part (ShardQuorum whys) old new = NoneMore set part whys old new
+  AreFew set part NoRoom old new = Unit {0}

@@ -1,0 +1,7 @@
+pub mod Blocks
+pub mod Causes
+pub mod Keeping
+pub mod Manifests
+pub mod Outcomes
+pub mod Parts
+pub mod Steps

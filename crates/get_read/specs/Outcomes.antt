@@ -1,0 +1,82 @@
+-- What a reader answers.
+use Rattle.std.specs.Prelude.{◌≡◌, ◌⊎◌, ◌<◌, ℕ, Bool, true, false, IsTrue, Some, List, [], length, take, drop, slice_index_or, Contains, Result, Ok, Err}
+use Rattle.std.specs.Int.{IsBitSet}
+use Rattle.std.specs.List.{count_by}
+use Rattle.stamp_id.specs.declared.version.VersionId.{VersionId}
+use Rattle.call_types.specs.declared.why.Why.{Why}
+use Rattle.call_types.specs.declared.why.Why.TheVariants.{Good, Failed, Damaged, Behind, Lacks}
+use Rattle.drive_base.specs.Files.{Files}
+use Rattle.drive_base.specs.Plan.{data_drives}
+use Rattle.drive_base.specs.declared.plan.SetPlan.{SetPlan}
+use Rattle.manifest_file.specs.Canonical.{IsCanonical}
+use Rattle.manifest_file.specs.Spelling.{file_of}
+use Rattle.manifest_file.specs.declared.manifest.Manifest.{Manifest}
+use Rattle.manifest_file.specs.declared.manifest.ManifestPart.{ManifestPart}
+use Rattle.body_print.specs.Clashes.{Clash}
+use Rattle.body_print.specs.Names.{manifest_name}
+use Rattle.body_print.specs.Prints.{HasPrint}
+use Rattle.get_read.specs.Causes.{Wanted, Serves, NoManifest, NoBlock}
+use Rattle.get_read.specs.declared.faults.ReadFaultKind.{ReadFaultKind}
+use Rattle.get_read.specs.declared.faults.ReadFaultKind.TheVariants.{InvalidRange, ShardQuorum, NoMemory}
+
+-- whether a drive gave what was asked
+abbrev pub is_good : Why → Bool
+is_good Good = true
+is_good (Failed _ _) = false
+is_good (Damaged _) = false
+is_good (Behind _) = false
+is_good (Lacks _) = false
+
+-- what is wanted of a set
+abbrev pub wanted_of : SetPlan → List ℕ → ℕ → Wanted
+wanted_of set print reach = record { drives = set.drives; parity = set.parity; print = print; reach = reach }
+
+module _ {D : Type 0} (tells : D → Bool) (files : D → Files) where
+  -- one of the drives, if it tells, shows the file of a manifest
+  abbrev pub IsFound : VersionId → Manifest → List D → Type 0
+  IsFound id m drives = (k : ℕ) × (k < length drives) × ((default : D) → IsTrue (tells (slice_index_or drives k default))
+      → (files (slice_index_or drives k default)).shown (manifest_name id) ≡ Some (file_of m))
+
+module _ {D : Type 0} (tells : D → Bool) (files : D → Files) (count : D → ℕ) where
+  -- bytes are a prefix of the span, from a place to a place, of every body with the print, or there is a clash
+  abbrev pub AreOfSpan : SetPlan → List ℕ → ℕ → ℕ → List ℕ → List D → Type 0
+  AreOfSpan set print from to bytes drives = (body : List ℕ) → HasPrint set.drives set.parity body print
+      → (bytes ≡ take (length bytes) (drop from (take to body))) ⊎ Clash tells files set.drives set.parity body print drives
+
+  -- no drive gave a manifest that serves
+  pub record NoneServes (set : SetPlan) (print : List ℕ) (id : VersionId) (reach : ℕ) (whys : List Why) (old new : List D) : Type 0 where
+    pub counted : length whys ≡ set.drives
+    pub each : (k : ℕ) (default : D) → k < set.drives
+        → NoManifest (wanted_of set print reach) id (slice_index_or whys k Good) (IsBitSet set.out k)
+        (tells (slice_index_or old k default)) (files (slice_index_or old k default))
+        (count (slice_index_or old k default)) (count (slice_index_or new k default))
+
+  -- a manifest with the print was read from a drive, and fewer drives than a stripe has data blocks gave a block of one
+  -- of its parts
+  pub record FewBlocks (set : SetPlan) (print : List ℕ) (id : VersionId) (reach : ℕ) (whys : List Why) (old new : List D) : Type 0 where
+    pub manifest : Manifest
+    pub found : IsFound tells files id manifest old
+    pub canonical : IsCanonical manifest
+    pub serves : Serves (wanted_of set print reach) manifest
+    pub part : ManifestPart
+    pub among : Contains manifest.parts part
+    pub counted : length whys ≡ set.drives
+    pub few : count_by is_good whys < data_drives set.drives set.parity
+    pub each : (k : ℕ) (default : D) → k < set.drives
+        → NoBlock (data_drives set.drives set.parity) part (slice_index_or part.roots k []) (slice_index_or whys k Good) (IsBitSet set.out k)
+        (tells (slice_index_or old k default)) (files (slice_index_or old k default))
+        (count (slice_index_or old k default)) (count (slice_index_or new k default))
+
+  -- the cause of a refused read: all drives were tried, and too few gave what was asked
+  abbrev pub IsRefused : SetPlan → List ℕ → VersionId → ℕ → ReadFaultKind → List D → List D → Type 0
+  IsRefused set print id reach (InvalidRange _) old new = ⊥
+  IsRefused set print id reach (ShardQuorum whys) old new =
+      NoneServes set print id reach whys old new ⊎ FewBlocks set print id reach whys old new
+  IsRefused set print id reach NoMemory old new = Unit {0}
+
+  -- what reading the manifest answers
+  abbrev pub ReadsManifest : SetPlan → List ℕ → VersionId → Result Manifest ReadFaultKind → List D → List D → Type 0
+  ReadsManifest set print id (Ok m) old new = IsCanonical m × Serves (wanted_of set print 0) m
+  ReadsManifest set print id (Err (InvalidRange _)) old new = ⊥
+  ReadsManifest set print id (Err (ShardQuorum whys)) old new = NoneServes set print id 0 whys old new
+  ReadsManifest set print id (Err NoMemory) old new = Unit {0}

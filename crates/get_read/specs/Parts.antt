@@ -1,0 +1,60 @@
+-- What reading parts adds to a body.
+use Rattle.std.specs.Prelude.{◌≡◌, ◌≢◌, ◌⊎◌, ◌+◌, ◌-◌, ◌<◌, ℕ, Bool, List, [], ◌++◌, Contains, length, slice_index_or, take}
+use Rattle.std.specs.List.{concat}
+use Rattle.sha2.specs.Sha256.{sha256}
+use Rattle.drive_base.specs.Files.{Files}
+use Rattle.drive_base.specs.Plan.{data_drives}
+use Rattle.drive_base.specs.declared.plan.SetPlan.{SetPlan}
+use Rattle.manifest_file.specs.declared.manifest.ManifestPart.{ManifestPart}
+use Rattle.shard_file.specs.Stripes.{piece, stripe_size, stripe_length}
+use Rattle.body_print.specs.Clashes.{WasRead, IsTableOrBlock}
+use Rattle.manifest_file.specs.Print.{cut_of}
+use Rattle.body_print.specs.Prints.{IsCutOf}
+use Rattle.body_print.specs.Shards.{HasRoots}
+use Rattle.get_read.specs.Blocks.{AreFew}
+use Rattle.get_read.specs.declared.faults.ReadFaultKind.{ReadFaultKind}
+
+-- a body is cut as parts say: into as many byte strings, of their lengths and with their roots
+pub record IsCutAs (n p : ℕ) (parts : List ManifestPart) (cut : List (List ℕ)) : Type 0 where
+  pub count : length cut ≡ length parts
+  pub each : (i : ℕ) (default : ManifestPart) → i < length parts → IsCutOf n p (slice_index_or cut i []) (cut_of (slice_index_or parts i default))
+
+module _ {D : Type 0} (tells : D → Bool) (files : D → Files) where
+  -- what was read and a table or a block of a part's bytes are two byte strings with one SHA-256
+  pub record PartClash (n d : ℕ) (bytes : List ℕ) (drives : List D) : Type 0 where
+    pub read : List ℕ
+    pub other : List ℕ
+    pub differ : read ≢ other
+    pub same : sha256 read ≡ sha256 other
+    pub was_read : WasRead tells files drives read
+    pub is : IsTableOrBlock n d bytes other
+
+  -- the clash is in one of the parts that a body is cut into
+  abbrev pub CutClash : ℕ → ℕ → List (List ℕ) → List D → Type 0
+  CutClash n p cut drives = (k : ℕ) × (k < length cut) × PartClash n (n - p) (slice_index_or cut k []) drives
+
+  -- the body has gained as many bytes as a stripe of the part has, and they are those of each byte string of the part's
+  -- length that has the part's roots, or there is a clash
+  pub record AddsStripe (set : SetPlan) (part : ManifestPart) (i : ℕ) (drives : List D) (old new : List ℕ) : Type 0 where
+    pub long : length new ≡ length old + stripe_length part.length i
+    pub exact : (bytes : List ℕ) → length bytes ≡ part.length
+        → HasRoots set.drives (data_drives set.drives set.parity) bytes part.roots
+        → (new ≡ old ++ piece stripe_size bytes i) ⊎ PartClash set.drives (data_drives set.drives set.parity) bytes drives
+
+  -- the body has gained as many bytes as the part has, and they are those of each byte string of this length that has
+  -- the part's roots, or there is a clash
+  pub record AddsPart (set : SetPlan) (part : ManifestPart) (drives : List D) (old new : List ℕ) : Type 0 where
+    pub long : length new ≡ length old + part.length
+    pub exact : (bytes : List ℕ) → length bytes ≡ part.length
+        → HasRoots set.drives (data_drives set.drives set.parity) bytes part.roots
+        → (new ≡ old ++ bytes) ⊎ PartClash set.drives (data_drives set.drives set.parity) bytes drives
+
+  -- bytes are the first parts, joined, of each body that is cut as the parts say, or there is a clash
+  abbrev pub AreFront : SetPlan → List ManifestPart → List D → List ℕ → Type 0
+  AreFront set parts drives body = (i : ℕ) × ((cut : List (List ℕ)) → IsCutAs set.drives set.parity parts cut
+      → (body ≡ concat (take i cut)) ⊎ CutClash set.drives set.parity cut drives)
+
+module _ {D : Type 0} (tells : D → Bool) (files : D → Files) (count : D → ℕ) where
+  -- the cause where too few blocks of one of the parts verified
+  abbrev pub SomeAreFew : SetPlan → List ManifestPart → ReadFaultKind → List D → List D → Type 0
+  SomeAreFew set parts fault old new = (part : ManifestPart) × Contains parts part × AreFew tells files count set part fault old new

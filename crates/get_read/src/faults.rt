@@ -1,0 +1,34 @@
+//! Why nothing was read.
+
+ghost use Rattle.std.specs.Prelude.{◌≡◌};
+ghost use Rattle.get_read.specs.declared.faults.ReadFaultKind.TheVariants.{NoMemory};
+
+use call_types::Whys;
+use std::alloc::{AllocError, AllocFailed};
+
+/// Why a read was refused.
+#[derive(Clone, Copy, Debug, PartialEq, Eq)]
+pub enum ReadFaultKind {
+    /// The range has no byte of a body of this length.
+    InvalidRange(u64),
+    /// All drives were tried, and too few gave what was asked: why, for each drive.
+    ShardQuorum(Whys),
+    /// There was not enough memory.
+    NoMemory,
+}
+
+impl From<AllocError> for ReadFaultKind {
+    ghost from_gives = { λ _ error. error ≡ NoMemory };
+
+    fn from(_error: AllocError) -> ReadFaultKind {
+        ReadFaultKind::NoMemory
+    }
+}
+
+impl<T: Drop> From<AllocFailed<T>> for ReadFaultKind {
+    ghost from_gives = { λ _ error. error ≡ NoMemory };
+
+    fn from(_refused: AllocFailed<T>) -> ReadFaultKind {
+        ReadFaultKind::NoMemory
+    }
+}

@@ -1,0 +1,25 @@
+//! Reading: the bytes of a body by its print, from any drives of which enough serve.
+//!
+//! A manifest is read from each drive in turn until one has the print. Its roots verify digest tables, these verify
+//! blocks, and from as many verified blocks as a stripe has data blocks the stripe is rebuilt. So what is read is of
+//! every body with that print, whatever the drives did, or two byte strings with one SHA-256 were met, of which the
+//! clause names both. Where the read is refused, each drive's cause is told.
+//!
+//! A digest table is read and verified once for each drive and part. A block is rebuilt only from blocks whose digests
+//! were compared. The crate stands on `body_print` for the print and the names, on `manifest_file` and `shard_file` for
+//! the files, and on `poly_code` for the code.
+#![tactic(auto)]
+
+mod faults;
+mod manifests;
+mod parts;
+mod stripes;
+mod tables;
+mod whole;
+
+pub use faults::ReadFaultKind;
+pub use manifests::read_manifest;
+pub use whole::read_whole;
+
+#[cfg(test)]
+mod tests;

@@ -1,0 +1,6 @@
+//! Bodies are staged on drives in memory, which are damaged or lost, and read back.
+
+mod golden;
+mod hello;
+mod made;
+mod sizes;

@@ -1,0 +1,228 @@
+//! `hello` on four drives with 2 of parity: what a read answers, whole, whatever befell the drives.
+
+ghost use Rattle.std.specs.Prelude.{◌≡◌, length};
+
+use super::golden::{COMPUTED, HELLO_PRINT, STORED, TWICE_MANIFEST, TWICE_PRINT};
+use super::made::{MANIFEST, damage, fresh_drives, gave, id, lose, place, plan};
+use crate::{ReadFaultKind, read_manifest, read_whole};
+use call_types::{FileKind, Why, Whys};
+use drive_base::{Drive, SetPlan};
+use drive_memory::MemDrive;
+use manifest_file::print_of;
+use put_stage::stage_whole;
+use seal_file::Damage;
+use stamp_id::{Ballot, ChangeId, VersionId};
+use std::alloc::Global;
+use std::test::Fail;
+
+/// A set of four drives with 2 of parity, of which these are out.
+fn four(out: u16) -> SetPlan
+    ensures { result.drives ≡ 4 }
+{
+    let mut set = plan(4, 2);
+    set.out = out;
+    set
+}
+
+/// Stages `hello` on four drives.
+fn stage_hello(alloc: Global, drives: &mut [MemDrive]) -> Result<(), Fail>
+    requires { length drives.old ≡ 4 }
+    ensures { length drives.new ≡ 4 }
+{
+    let staged = stage_whole(alloc, four(0), id(), "k/pic/a", b"hello", None, drives);
+    if staged.is_err() {
+        return Err("not staged".into());
+    }
+    Ok(())
+}
+
+/// What a read of so many bytes of the body of a print answers.
+fn read_of(
+    alloc: Global,
+    out: u16,
+    print: [u8; 32],
+    long: u64,
+    drives: &mut [MemDrive],
+) -> Result<Vec<u8>, ReadFaultKind>
+    requires { length drives.old ≡ 4 }
+    ensures { length drives.new ≡ 4 }
+{
+    read_whole(alloc, four(out), print, id(), long, drives)
+}
+
+/// The cause for each of four drives.
+fn because(first: Why, second: Why, third: Why, fourth: Why) -> Option<ReadFaultKind> {
+    let mut whys = Whys::all_good(4);
+    whys.set(0, first);
+    whys.set(1, second);
+    whys.set(2, third);
+    whys.set(3, fourth);
+    Some(ReadFaultKind::ShardQuorum(whys))
+}
+
+/// A drive whose block isn't the one that its digest table has.
+fn damaged(stored: [u8; 32], computed: [u8; 32]) -> Why {
+    Why::Damaged(Damage::Digest { stored, computed })
+}
+
+/// A drive of which a call failed.
+fn failed(before: u64) -> Why {
+    Why::Failed {
+        before,
+        after: before.saturating_add(1),
+    }
+}
+
+#[test]
+fn any_two_damaged_drives_leave_it(rt: HostRuntime) -> Result<(), Fail> {
+    for first in 0..4usize {
+        for second in 0..first {
+            let mut drives = fresh_drives(rt.alloc(), 4)?;
+            stage_hello(rt.alloc(), &mut drives)?;
+            damage(rt.alloc(), &mut drives, first)?;
+            damage(rt.alloc(), &mut drives, second)?;
+            let answer = read_of(rt.alloc(), 0, HELLO_PRINT, 5, &mut drives);
+            assert!(rt; gave(answer, b"hello"));
+        }
+    }
+    Ok(())
+}
+
+#[test]
+fn three_damaged_drives_are_told(rt: HostRuntime) -> Result<(), Fail> {
+    let mut drives = fresh_drives(rt.alloc(), 4)?;
+    stage_hello(rt.alloc(), &mut drives)?;
+    damage(rt.alloc(), &mut drives, 0)?;
+    damage(rt.alloc(), &mut drives, 1)?;
+    damage(rt.alloc(), &mut drives, 2)?;
+    let answer = read_of(rt.alloc(), 0, HELLO_PRINT, 5, &mut drives);
+    let due = because(
+        damaged(STORED[0], COMPUTED[0]),
+        damaged(STORED[1], COMPUTED[1]),
+        damaged(STORED[2], COMPUTED[2]),
+        Why::Good,
+    );
+    assert_eq!(rt; answer.err(), due);
+    Ok(())
+}
+
+#[test]
+fn two_lost_drives_leave_it_and_three_are_told(rt: HostRuntime) -> Result<(), Fail> {
+    let mut drives = fresh_drives(rt.alloc(), 4)?;
+    stage_hello(rt.alloc(), &mut drives)?;
+    lose(&mut drives, 0);
+    lose(&mut drives, 2);
+    let answer = read_of(rt.alloc(), 0, HELLO_PRINT, 5, &mut drives);
+    assert!(rt; gave(answer, b"hello"));
+    lose(&mut drives, 1);
+    // The first of them failed twice before: once for the manifest, and once for its shard file.
+    let answer = read_of(rt.alloc(), 0, HELLO_PRINT, 5, &mut drives);
+    let due = because(failed(3), failed(1), failed(2), Why::Good);
+    assert_eq!(rt; answer.err(), due);
+    lose(&mut drives, 3);
+    let answer = read_of(rt.alloc(), 0, HELLO_PRINT, 5, &mut drives);
+    let due = because(failed(4), failed(2), failed(3), failed(0));
+    assert_eq!(rt; answer.err(), due);
+    Ok(())
+}
+
+#[test]
+fn drives_that_are_out_are_not_read(rt: HostRuntime) -> Result<(), Fail> {
+    let mut drives = fresh_drives(rt.alloc(), 4)?;
+    stage_hello(rt.alloc(), &mut drives)?;
+    lose(&mut drives, 0);
+    let answer = read_of(rt.alloc(), 0b0011, HELLO_PRINT, 5, &mut drives);
+    assert!(rt; gave(answer, b"hello"));
+    let out = Why::Lacks(FileKind::Format);
+    let answer = read_of(rt.alloc(), 0b0111, HELLO_PRINT, 5, &mut drives);
+    assert_eq!(rt; answer.err(), because(out, out, out, Why::Good));
+    let first = drives.get_mut(0).ok_or("no drive")?;
+    assert_eq!(rt; first.faults(), 0);
+    Ok(())
+}
+
+#[test]
+fn another_id_has_no_manifest(rt: HostRuntime) -> Result<(), Fail> {
+    let mut drives = fresh_drives(rt.alloc(), 4)?;
+    stage_hello(rt.alloc(), &mut drives)?;
+    let other = VersionId::from_parts(ChangeId(Ballot { term: 1, seq: 7 }), 6);
+    let answer = read_whole(rt.alloc(), four(0), HELLO_PRINT, other, 5, &mut drives);
+    let lacks = Why::Lacks(FileKind::Manifest);
+    assert_eq!(rt; answer.err(), because(lacks, lacks, lacks, lacks));
+    Ok(())
+}
+
+#[test]
+fn a_manifest_of_another_print_is_refused(rt: HostRuntime) -> Result<(), Fail> {
+    let mut drives = fresh_drives(rt.alloc(), 4)?;
+    stage_hello(rt.alloc(), &mut drives)?;
+    let answer = read_of(rt.alloc(), 0, TWICE_PRINT, 5, &mut drives);
+    let other = damaged(TWICE_PRINT, HELLO_PRINT);
+    assert_eq!(rt; answer.err(), because(other, other, other, other));
+    Ok(())
+}
+
+#[test]
+fn a_body_that_is_too_short_is_refused(rt: HostRuntime) -> Result<(), Fail> {
+    let mut drives = fresh_drives(rt.alloc(), 4)?;
+    stage_hello(rt.alloc(), &mut drives)?;
+    let answer = read_of(rt.alloc(), 0, HELLO_PRINT, 6, &mut drives);
+    let short = Why::Damaged(Damage::Spelling(166));
+    assert_eq!(rt; answer.err(), because(short, short, short, short));
+    let answer = read_of(rt.alloc(), 0, HELLO_PRINT, 3, &mut drives);
+    assert!(rt; gave(answer, b"hel"));
+    Ok(())
+}
+
+#[test]
+fn a_manifest_of_other_numbers_is_refused(rt: HostRuntime) -> Result<(), Fail> {
+    let mut drives = fresh_drives(rt.alloc(), 4)?;
+    stage_hello(rt.alloc(), &mut drives)?;
+    let set = plan(4, 1);
+    let answer = read_whole(rt.alloc(), set, HELLO_PRINT, id(), 5, &mut drives);
+    let other = Why::Damaged(Damage::Spelling(166));
+    assert_eq!(rt; answer.err(), because(other, other, other, other));
+    // A fifth drive joins the four.
+    drives.push(MemDrive::new(rt.alloc()))?;
+    let answer = read_manifest(rt.alloc(), plan(5, 2), HELLO_PRINT, id(), &mut drives);
+    let mut whys = Whys::all_good(5);
+    whys.set(0, other);
+    whys.set(1, other);
+    whys.set(2, other);
+    whys.set(3, other);
+    whys.set(4, Why::Lacks(FileKind::Manifest));
+    assert_eq!(rt; answer.err(), Some(ReadFaultKind::ShardQuorum(whys)));
+    Ok(())
+}
+
+#[test]
+fn the_manifest_is_read(rt: HostRuntime) -> Result<(), Fail> {
+    let mut drives = fresh_drives(rt.alloc(), 4)?;
+    stage_hello(rt.alloc(), &mut drives)?;
+    lose(&mut drives, 0);
+    let answer = read_manifest(rt.alloc(), four(0), HELLO_PRINT, id(), &mut drives);
+    let manifest = answer.ok().ok_or("no manifest")?;
+    assert_eq!(rt; manifest.name.as_slice(), b"k/pic/a".as_slice());
+    assert_eq!(rt; manifest.drives, 4);
+    assert_eq!(rt; manifest.parity, 2);
+    assert_eq!(rt; manifest.parts.len(), 1);
+    assert_eq!(rt; print_of(&manifest), HELLO_PRINT);
+    Ok(())
+}
+
+#[test]
+fn two_parts_are_joined(rt: HostRuntime) -> Result<(), Fail> {
+    let mut drives = fresh_drives(rt.alloc(), 4)?;
+    stage_hello(rt.alloc(), &mut drives)?;
+    // The last drive alone has the manifest of `hellohello`.
+    let last = drives.get_mut(3).ok_or("no drive")?;
+    place(last, MANIFEST, &TWICE_MANIFEST)?;
+    damage(rt.alloc(), &mut drives, 1)?;
+    let answer = read_of(rt.alloc(), 0, TWICE_PRINT, 10, &mut drives);
+    assert!(rt; gave(answer, b"hellohello"));
+    let answer = read_of(rt.alloc(), 0, TWICE_PRINT, 7, &mut drives);
+    assert!(rt; gave(answer, b"hellohe"));
+    let answer = read_of(rt.alloc(), 0, TWICE_PRINT, 5, &mut drives);
+    assert!(rt; gave(answer, b"hello"));
+    Ok(())
+}
