@@ -1,0 +1,5 @@
+use Rattle.register_core.proofs.CleanLemmas.{MaskSoFar}
+use Rattle.register_core.proofs.found.clean_of.Given as goal
+
+abbrev pub invariant-loop-k : goal.invariant-loop-k
+invariant-loop-k l = MaskSoFar l.files l.base l.k l.mask

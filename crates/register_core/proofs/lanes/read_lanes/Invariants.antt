@@ -1,0 +1,24 @@
+use Rattle.std.proofs.Common.{◌≡◌, ◌<◌, ◌≤◌, ℕ, length, slice_index_or}
+use Rattle.std.specs.Prelude.{IsTrue}
+use Rattle.std.specs.Int.{IsBitSet}
+use Rattle.register_core.specs.Loops.{letter_at}
+use Rattle.register_core.specs.Looking.{LaneIsRead, found_at}
+use Rattle.register_core.proofs.EachLemmas.{AreGoodFrom}
+use Rattle.register_core.proofs.lanes.read_lanes.Given as goal
+
+-- the lanes so far were read, the letters of the others are good, each lane tells what it told, and the others are as they were
+abbrev pub invariant-loop-index : goal.invariant-loop-index
+invariant-loop-index g l = let D = g.D.Drive in record {
+  counted : length l.files.items ≡ l.index;
+  long : length l.whys ≡ length l.initial.lanes;
+  found : (k : ℕ) (d : g.row.D.Denot) → k < l.index
+      → LaneIsRead l.name (found_at l.files.items k) (letter_at l.whys k) (IsBitSet l.out k)
+      (D.tells (slice_index_or l.initial.lanes k d)) (D.files (slice_index_or l.initial.lanes k d))
+      (D.count (slice_index_or l.initial.lanes k d)) (D.count (slice_index_or l.lanes k d));
+  good : AreGoodFrom l.index l.whys;
+  files : (k : ℕ) (d : g.row.D.Denot) → IsTrue (D.tells (slice_index_or l.initial.lanes k d))
+      → D.files (slice_index_or l.lanes k d) ≡ D.files (slice_index_or l.initial.lanes k d);
+  tells : (k : ℕ) (d : g.row.D.Denot) → D.tells (slice_index_or l.lanes k d) ≡ D.tells (slice_index_or l.initial.lanes k d);
+  counts : (k : ℕ) (d : g.row.D.Denot) → D.count (slice_index_or l.initial.lanes k d) ≤ D.count (slice_index_or l.lanes k d);
+  others : (k : ℕ) (d : g.row.D.Denot) → l.index ≤ k → slice_index_or l.lanes k d ≡ slice_index_or l.initial.lanes k d;
+}

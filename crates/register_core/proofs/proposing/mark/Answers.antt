@@ -1,0 +1,57 @@
+use Rattle.std.proofs.Common.{List, string_bytes, ◌≤◌, subst, sym, ◌∙◌, ℕ, arith}
+use Rattle.register_core.specs.Loops.{WritesEach}
+use Rattle.register_core.specs.Proposing.{quorum_of}
+use Rattle.register_core.proofs.KeepLemmas.{HasMarked, has_marked}
+use Rattle.register_core.proofs.proposing.mark.Goals as goal
+
+pub returns-then-good_letters-write_quorum-clause-keeps : goal.returns-then-good_letters-write_quorum-clause-keeps
+returns-then-good_letters-write_quorum-clause-keeps g c next recorded ends tell unused are =
+    let D : Type 0 = g.row.D.Denot in
+    let draft = c.args.draft.now in
+    let took = c.args.prepared in
+    let On : List ℕ → List ℕ → Type 0 = λ name bytes.
+    WritesEach {D = D} g.D.Drive.tells g.D.Drive.files g.D.Drive.count took.out 0 name bytes c.args.term c.args.count.now c.write_each-whys.new.count took.whys
+    c.write_each-whys.result c.args.lanes.now c.write_each-whys.new.lanes in
+    let wrote : On (string_bytes draft.name) draft.last.items =
+    subst (λ (name : List ℕ). On name draft.last.items) c.as_str.ensures.value
+    (subst (λ (bytes : List ℕ). On c.as_str.result.now bytes) c.as_slice.ensures.value c.write_each-whys.ensures.wrote) in
+    let some : 1 ≤ quorum_of draft =
+    subst (λ (w : ℕ). 1 ≤ w) c.write_quorum.ensures.quorum (omega (arith, c.write_quorum.ensures.overlap)) in
+    let kept : HasMarked {D = D} g.D.Drive.tells g.D.Drive.files g.D.Drive.count draft took next c.write_each-whys.result c.write_each-whys.new.lanes recorded =
+    has_marked {D = D} g.D.Drive.tells g.D.Drive.files g.D.Drive.count
+    c.place_laws.ensures.targets c.place_laws.ensures.left c.place_laws.ensures.mask c.mark_laws.ensures.any c.mark_laws.ensures.enough
+    c.number_laws.ensures.mark draft took c.args.term c.args.count.now c.write_each-whys.new.count next c.write_each-whys.result
+    c.args.lanes.now c.write_each-whys.new.lanes recorded (omega (arith, wrote.few, c.requires.room, c.requires.drives)) some
+    (c.requires.letters ∙ sym c.requires.drives) ends wrote tell unused are in
+    record { after = kept.after; are = kept.are; left = kept.left; stay = kept.stay; value = kept.any; numbers = kept.numbers; marked_lanes = tt }
+
+pub returns-clause-keeps : goal.returns-clause-keeps
+returns-clause-keeps g c next recorded ends tell unused are =
+    let D : Type 0 = g.row.D.Denot in
+    let draft = c.args.draft.now in
+    let took = c.args.prepared in
+    let On : List ℕ → List ℕ → Type 0 = λ name bytes.
+    WritesEach {D = D} g.D.Drive.tells g.D.Drive.files g.D.Drive.count took.out 0 name bytes c.args.term c.args.count.now c.write_each-whys.new.count took.whys
+    c.write_each-whys.result c.args.lanes.now c.write_each-whys.new.lanes in
+    let wrote : On (string_bytes draft.name) draft.last.items =
+    subst (λ (name : List ℕ). On name draft.last.items) c.as_str.ensures.value
+    (subst (λ (bytes : List ℕ). On c.as_str.result.now bytes) c.as_slice.ensures.value c.write_each-whys.ensures.wrote) in
+    let some : 1 ≤ quorum_of draft =
+    subst (λ (w : ℕ). 1 ≤ w) c.write_quorum.ensures.quorum (omega (arith, c.write_quorum.ensures.overlap)) in
+    let kept : HasMarked {D = D} g.D.Drive.tells g.D.Drive.files g.D.Drive.count draft took next c.write_each-whys.result c.write_each-whys.new.lanes recorded =
+    has_marked {D = D} g.D.Drive.tells g.D.Drive.files g.D.Drive.count
+    c.place_laws.ensures.targets c.place_laws.ensures.left c.place_laws.ensures.mask c.mark_laws.ensures.any c.mark_laws.ensures.enough
+    c.number_laws.ensures.mark draft took c.args.term c.args.count.now c.write_each-whys.new.count next c.write_each-whys.result
+    c.args.lanes.now c.write_each-whys.new.lanes recorded (omega (arith, wrote.few, c.requires.room, c.requires.drives)) some
+    (c.requires.letters ∙ sym c.requires.drives) ends wrote tell unused are in
+    let enough : quorum_of draft ≤ c.good_letters.result =
+    subst (λ (w : ℕ). w ≤ c.good_letters.result) c.write_quorum.ensures.quorum c.if-good_letters-write_quorum.false in
+    record {
+      after = kept.after;
+      are = kept.are;
+      left = kept.left;
+      stay = kept.stay;
+      value = kept.enough (subst (λ (n : ℕ). quorum_of draft ≤ n) c.good_letters.ensures enough);
+      numbers = kept.numbers;
+      marked_lanes = λ k below bit. kept.have k below ((c.mask_of-draft.ensures k).0 bit);
+    }

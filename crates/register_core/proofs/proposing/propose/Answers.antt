@@ -1,0 +1,53 @@
+use Rattle.std.proofs.Common.{List, string_bytes, ◌≤◌, refl, subst, sym, ◌∙◌, ℕ, arith}
+use Rattle.register_core.specs.Loops.{WritesEach}
+use Rattle.register_core.specs.Proposing.{quorum_of}
+use Rattle.register_core.proofs.KeepLemmas.{Proposed, as_before, proposed, untouched}
+use Rattle.register_core.proofs.proposing.propose.Goals as goal
+
+pub returns-then-good_letters-quorum-clause-keeps : goal.returns-then-good_letters-quorum-clause-keeps
+returns-then-good_letters-quorum-clause-keeps g c base next recorded is tell unused are = record {
+  after = recorded;
+  are = are;
+  left = as_before c.place_laws.ensures.left _ recorded;
+  leaves = untouched c.place_laws.ensures.targets c.place_laws.ensures.left c.prepare_laws.ensures.own c.prepare_laws.ensures.forward
+      c.number_laws.ensures.prepare _ c.args.draft.now.letters _ _ recorded (c.requires.letters ∙ sym c.requires.drives ∙ sym are.counted);
+  stay = λ k bit. refl;
+  took = tt;
+}
+
+pub returns-then-good_letters-quorum-2-clause-keeps : goal.returns-then-good_letters-quorum-2-clause-keeps
+returns-then-good_letters-quorum-2-clause-keeps g c base next recorded is tell unused are =
+    let D : Type 0 = g.row.D.Denot in
+    let draft = c.args.draft.now in
+    let On : List ℕ → List ℕ → Type 0 = λ name bytes.
+    WritesEach {D = D} g.D.Drive.tells g.D.Drive.files g.D.Drive.count c.args.out 0 name bytes c.args.term c.args.count.now c.write_each-whys.new.count draft.letters
+    c.write_each-whys.result c.args.lanes.now c.write_each-whys.new.lanes in
+    let wrote : On (string_bytes draft.name) draft.first.items =
+    subst (λ (name : List ℕ). On name draft.first.items) c.as_str.ensures.value
+    (subst (λ (bytes : List ℕ). On c.as_str.result.now bytes) c.as_slice.ensures.value c.write_each-whys.ensures.wrote) in
+    let kept : Proposed {D = D} g.D.Drive.tells g.D.Drive.files g.D.Drive.count draft c.args.out base next c.write_each-whys.result c.write_each-whys.new.lanes recorded =
+    proposed {D = D} g.D.Drive.tells g.D.Drive.files g.D.Drive.count
+    c.place_laws.ensures.targets c.place_laws.ensures.left c.place_laws.ensures.mask c.prepare_laws.ensures.own c.prepare_laws.ensures.forward
+    c.number_laws.ensures.prepare draft c.args.out c.args.term c.args.count.now c.write_each-whys.new.count base next c.write_each-whys.result
+    c.args.lanes.now c.write_each-whys.new.lanes recorded (omega (arith, wrote.few, c.requires.room, c.requires.drives))
+    (c.requires.letters ∙ sym c.requires.drives) is wrote tell unused are in
+    record { after = kept.after; are = kept.are; left = kept.left; leaves = kept.leaves; stay = kept.stay; took = tt }
+
+pub returns-clause-keeps : goal.returns-clause-keeps
+returns-clause-keeps g c base next recorded is tell unused are =
+    let D : Type 0 = g.row.D.Denot in
+    let draft = c.args.draft.now in
+    let On : List ℕ → List ℕ → Type 0 = λ name bytes.
+    WritesEach {D = D} g.D.Drive.tells g.D.Drive.files g.D.Drive.count c.args.out 0 name bytes c.args.term c.args.count.now c.write_each-whys.new.count draft.letters
+    c.write_each-whys.result c.args.lanes.now c.write_each-whys.new.lanes in
+    let wrote : On (string_bytes draft.name) draft.first.items =
+    subst (λ (name : List ℕ). On name draft.first.items) c.as_str.ensures.value
+    (subst (λ (bytes : List ℕ). On c.as_str.result.now bytes) c.as_slice.ensures.value c.write_each-whys.ensures.wrote) in
+    let kept : Proposed {D = D} g.D.Drive.tells g.D.Drive.files g.D.Drive.count draft c.args.out base next c.write_each-whys.result c.write_each-whys.new.lanes recorded =
+    proposed {D = D} g.D.Drive.tells g.D.Drive.files g.D.Drive.count
+    c.place_laws.ensures.targets c.place_laws.ensures.left c.place_laws.ensures.mask c.prepare_laws.ensures.own c.prepare_laws.ensures.forward
+    c.number_laws.ensures.prepare draft c.args.out c.args.term c.args.count.now c.write_each-whys.new.count base next c.write_each-whys.result
+    c.args.lanes.now c.write_each-whys.new.lanes recorded (omega (arith, wrote.few, c.requires.room, c.requires.drives))
+    (c.requires.letters ∙ sym c.requires.drives) is wrote tell unused are in
+    let enough : quorum_of draft ≤ c.good_letters-2.result = subst (λ (w : ℕ). w ≤ c.good_letters-2.result) c.write_quorum-quorum.ensures.quorum c.if-good_letters-quorum-2.false in
+    record { after = kept.after; are = kept.are; left = kept.left; leaves = kept.leaves; stay = kept.stay; took = kept.took (subst (λ (n : ℕ). quorum_of draft ≤ n) c.good_letters-2.ensures enough) }

@@ -1,0 +1,13 @@
+pub mod Contents
+pub mod Drafts
+pub mod Keeping
+pub mod LookSteps
+pub mod Looking
+pub mod Loops
+pub mod Loose
+pub mod ManifestSteps
+pub mod Manifests
+pub mod OnLanes
+pub mod Proposing
+pub mod Reads
+pub mod Records

@@ -1,0 +1,27 @@
+//! The rule that a register's content must meet, which its caller knows.
+
+ghost use Rattle.std.specs.Prelude.{◌≡◌, ℕ, List, Option};
+
+use std::alloc::Global;
+
+/// Why a content was refused.
+#[derive(Clone, Copy, Debug, PartialEq, Eq)]
+pub enum ContentFault {
+    /// It breaks the rule at this place, counted from 0.
+    At(u64),
+    /// There was not enough memory.
+    NoMemory,
+}
+
+/// What the contents of a register must be: those of its name's kind, without the id that a change would make.
+pub trait ContentRule {
+    ghost use Rattle.register_core.specs.Contents.{IsChecked};
+
+    /// The place where a content first breaks the rule, if it does.
+    ghost fault_in: { Self → List ℕ → Option ℕ };
+
+    /// Checks a content. The rule stays, and may keep what it read.
+    fn check(&mut self, alloc: Global, content: &[u8]) -> Result<(), ContentFault>
+        ensures answer { IsChecked (fault_in self.old content.now) result }
+        ensures same { fault_in self.new ≡ fault_in self.old };
+}

@@ -1,0 +1,113 @@
+//! The files of a change, made before anything is written.
+
+ghost use Rattle.std.specs.Prelude.{◌≡◌, IfOk, None, string_bytes};
+ghost use Rattle.register_file.specs.Record.{IsContent, IsCanonicalNext};
+ghost use Rattle.register_core.specs.Drafts.{IsDraftAfterDraft, IsDraftAfterLook, IsDraftOf, IsMendOfLook, letters_for};
+
+use crate::copies::{base_of_next, copy_base, copy_next};
+use crate::drafts::Draft;
+use crate::looked::Looked;
+use call_types::Whys;
+use drive_base::SetPlan;
+use register_file::{Base, Next, RegFile, write};
+use stamp_id::NoMemory;
+use std::alloc::Global;
+
+/// Takes the memory of both files of a change over the base of a look.
+///
+/// Where a change is pending, the change must be that one under a fresh ballot, and it is proposed on the lanes whose file
+/// was good; else it is one's own, and is proposed on every lane that isn't out.
+pub fn draft(alloc: Global, looked: &Looked, change: &Next) -> Result<Draft, NoMemory>
+    requires base { IsContent looked.now.base.content }
+    requires next { IsCanonicalNext looked.now.base.change change.now }
+    ensures { IfOk result (λ draft. IsDraftAfterLook looked.now change.now draft) }
+{
+    let letters = letters_of(looked);
+    draft_over(
+        alloc,
+        &looked.name,
+        looked.set,
+        &looked.base,
+        change,
+        letters,
+    )
+}
+
+/// Takes the memory of both files of a change over the change of another draft, which is proposed only after that one was
+/// marked.
+pub fn draft_after(alloc: Global, first: &Draft, change: &Next) -> Result<Draft, NoMemory>
+    requires base { IsContent first.now.value.content }
+    requires next { IsCanonicalNext first.now.value.change change.now }
+    ensures { IfOk result (λ draft. IsDraftAfterDraft first.now change.now draft) }
+{
+    let letters = Whys::all_good(first.set.drives);
+    draft_over(alloc, &first.name, first.set, &first.value, change, letters)
+}
+
+/// Takes the memory of the settled base of a look, without a next, for a mend. Nothing may be pending.
+pub fn draft_mend(alloc: Global, looked: &Looked) -> Result<Draft, NoMemory>
+    requires base { IsContent looked.now.base.content }
+    requires settled { looked.now.pending ≡ None }
+    ensures { IfOk result (λ draft. IsMendOfLook looked.now draft) }
+{
+    let file = RegFile {
+        base: copy_base(alloc, &looked.base)?,
+        next: None,
+    };
+    let last = write(alloc, &file)?;
+    Ok(Draft {
+        name: String::from_str(alloc, looked.name.as_str())?,
+        set: looked.set,
+        first: Vec::new(alloc),
+        last,
+        value: file.base,
+        letters: Whys::all_good(looked.set.drives),
+        passed: looked.clean,
+    })
+}
+
+/// The letters of the lanes that a change is proposed on.
+fn letters_of(looked: &Looked) -> Whys
+    ensures { result ≡ letters_for looked.now.pending looked.now.whys looked.now.set.drives }
+{
+    match &looked.pending {
+        Some(_) => looked.whys,
+        None => Whys::all_good(looked.set.drives),
+    }
+}
+
+/// Both files of a change over a base.
+fn draft_over(
+    alloc: Global,
+    name: &String,
+    set: SetPlan,
+    base: &Base,
+    change: &Next,
+    letters: Whys,
+) -> Result<Draft, NoMemory>
+    requires base { IsContent base.now.content }
+    requires next { IsCanonicalNext base.now.change change.now }
+    ensures of_change { IfOk result (λ draft. IsDraftOf draft base.now change.now) }
+    ensures name { IfOk result (λ draft. string_bytes draft.name ≡ string_bytes name.now) }
+    ensures set { IfOk result (λ draft. draft.set ≡ set) }
+    ensures letters { IfOk result (λ draft. draft.letters ≡ letters) }
+    ensures passed { IfOk result (λ draft. draft.passed ≡ 0) }
+{
+    let first = RegFile {
+        base: copy_base(alloc, base)?,
+        next: Some(copy_next(alloc, change)?),
+    };
+    let last = RegFile {
+        base: base_of_next(alloc, change)?,
+        next: None,
+    };
+    Ok(Draft {
+        name: String::from_str(alloc, name.as_str())?,
+        set,
+        first: write(alloc, &first)?,
+        last: write(alloc, &last)?,
+        value: last.base,
+        letters,
+        passed: 0,
+    })
+}

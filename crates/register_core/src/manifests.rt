@@ -1,0 +1,115 @@
+//! The manifests of a pending change's data, on the data drives.
+
+ghost use Rattle.std.specs.Prelude.{◌≡◌, ◌<◌, ◌≤◌, ℕ, IsTrue, IfOk, IfErr, length, slice_index_or};
+ghost use Rattle.std.specs.Int.{IsBitSet};
+ghost use Rattle.body_print.specs.Names.{manifest_name};
+ghost use Rattle.manifest_file.specs.Canonical.{IsCanonical};
+ghost use Rattle.manifest_file.specs.Spelling.{file_of};
+ghost use Rattle.register_core.specs.Manifests.{AreManifestLetters, ManifestLetter};
+ghost use Rattle.register_core.specs.ManifestSteps.{LettersOf, ReadsManifest, TellsOf};
+ghost use Rattle.register_core.specs.declared.faults.QuorumFault.TheVariants.{NoMemory};
+
+use crate::faults::QuorumFault;
+use body_print::name_of_manifest;
+use call_types::{FileKind, Why, Whys};
+use drive_base::{Drive, SetPlan};
+use drive_files::{NotGiven, file_on};
+use manifest_file::{Manifest, print_of, read};
+use register_file::Adds;
+use seal_file::{Damage, FileRead};
+use std::alloc::Global;
+
+/// Looks on every data drive for the manifest of the data that a change adds, and tells of each drive whether its manifest
+/// verifies.
+pub fn look_for_data<D: Drive>(
+    alloc: Global,
+    set: SetPlan,
+    adds: &Adds,
+    disks: &mut [D],
+) -> Result<Whys, QuorumFault>
+    requires { length disks.old ≡ set.drives }
+    ensures letters { IfOk result (λ whys. AreManifestLetters D.tells D.files D.count set adds.now whys disks.old disks.new) }
+    ensures refused { IfErr result (λ fault. fault ≡ NoMemory) }
+    ensures files { (k : ℕ) (d : D) → k < length disks.old → IsTrue (D.tells (slice_index_or disks.old k d)) → D.files (slice_index_or disks.new k d) ≡ D.files (slice_index_or disks.old k d) }
+    ensures tells { (k : ℕ) (d : D) → k < length disks.old → D.tells (slice_index_or disks.new k d) ≡ D.tells (slice_index_or disks.old k d) }
+    ensures counts { (k : ℕ) (d : D) → k < length disks.old → D.count (slice_index_or disks.old k d) ≤ D.count (slice_index_or disks.new k d) }
+{
+    let name = name_of_manifest(alloc, adds.id)?;
+    let mut whys = Whys::all_good(set.drives);
+    let mut index = 0;
+    for disk in disks.iter_mut() {
+        match manifest_on(alloc, set, index, disk, adds, name.as_str()) {
+            Ok(()) => {}
+            Err(NotGiven::Because(why)) => whys.set(index as usize, why),
+            Err(NotGiven::NoMemory) => return Err(QuorumFault::NoMemory),
+        }
+        index += 1;
+    }
+    Ok(whys)
+}
+
+/// Whether the manifest of this name on a data drive that isn't out verifies.
+fn manifest_on<D: Drive>(
+    alloc: Global,
+    set: SetPlan,
+    index: u8,
+    disk: &mut D,
+    adds: &Adds,
+    name: &str,
+) -> Result<(), NotGiven>
+    requires { index < set.drives }
+    ensures outcome { name.now ≡ manifest_name adds.now.id → ReadsManifest set adds.now (IsBitSet set.out index) result (D.tells disk.old) (D.files disk.old) (D.count disk.old) (D.count disk.new) }
+    ensures files { IsTrue (D.tells disk.old) → D.files disk.new ≡ D.files disk.old }
+    ensures tells { D.tells disk.new ≡ D.tells disk.old }
+    ensures count { D.count disk.old ≤ D.count disk.new }
+{
+    if set.is_out(index) {
+        return Err(NotGiven::Because(Why::Lacks(FileKind::Format)));
+    }
+    let file = file_on(alloc, disk, FileKind::Manifest, name)?;
+    verified(alloc, set, adds.print, file.as_slice())
+}
+
+/// Whether a file is a manifest that verifies.
+fn verified(alloc: Global, set: SetPlan, print: [u8; 32], file: &[u8]) -> Result<(), NotGiven>
+    ensures { LettersOf set print file.now result }
+{
+    match read(alloc, file) {
+        Ok(manifest) => checked(set, print, &manifest, file.len() as u64),
+        Err(FileRead::Unsealed(damage)) => Err(NotGiven::Because(Why::Damaged(damage))),
+        Err(FileRead::NotCanonical(place)) => {
+            Err(NotGiven::Because(Why::Damaged(Damage::Spelling(place))))
+        }
+        Err(FileRead::NoMemory) => Err(NotGiven::NoMemory),
+    }
+}
+
+/// Whether a manifest verifies. Its file has so many bytes.
+fn checked(set: SetPlan, print: [u8; 32], manifest: &Manifest, long: u64) -> Result<(), NotGiven>
+    requires canonical { IsCanonical manifest.now }
+    requires long { long ≡ length (file_of manifest.now) }
+    ensures { LettersOf set print (file_of manifest.now) result }
+{
+    let computed = print_of(manifest);
+    if computed != print {
+        let stored = print;
+        return Err(NotGiven::Because(Why::Damaged(Damage::Digest { stored, computed })));
+    }
+    if !names_set(set, manifest) {
+        return Err(NotGiven::Because(Why::Damaged(Damage::Spelling(long - 36))));
+    }
+    Ok(())
+}
+
+/// Whether a manifest names a set's number of drives, and a parity that such a set can have.
+fn names_set(set: SetPlan, manifest: &Manifest) -> bool
+    ensures { TellsOf set manifest.now result }
+{
+    if manifest.drives != set.drives {
+        return false;
+    }
+    if manifest.parity == 0 {
+        return false;
+    }
+    manifest.parity <= manifest.drives / 2
+}

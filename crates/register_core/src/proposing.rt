@@ -1,0 +1,125 @@
+//! Proposing a change, and marking it.
+
+ghost use Rattle.std.specs.Prelude.{◌≡◌, ◌+◌, ◌<◌, ◌≤◌, ◌^◌, ℕ, List, length, string_bytes, string_len};
+ghost use Rattle.std.specs.Int.{IsBitSet};
+ghost use Rattle.register_file.specs.declared.record.Base.{Base};
+ghost use Rattle.register_file.specs.declared.record.Next.{Next};
+ghost use Rattle.vote_core.specs.Lane.{Lane};
+ghost use Rattle.register_core.specs.Drafts.{IsDraftOf, EndsAt};
+ghost use Rattle.call_types.specs.declared.why.Why.TheVariants.{Good};
+ghost use Rattle.register_core.specs.Loops.{KeepsDrives, TellsStay, CountsRise, letter_at};
+ghost use Rattle.register_core.specs.Records.{marked_base};
+ghost use Rattle.register_core.specs.OnLanes.{AllTell, AreLanes, AreUnused};
+ghost use Rattle.register_core.specs.Proposing.{Proposes, ProposeKeeps, Marks, MarkKeeps};
+
+use crate::drafts::Draft;
+use crate::faults::QuorumFault;
+use crate::writes::{Writing, good_letters, is_good, write_each};
+use call_types::Whys;
+use drive_base::Drive;
+use vote_core::{mark_laws, number_laws, place_laws, prepare_laws};
+
+/// The lanes that took the first file of a draft.
+#[derive(Clone, Copy, Debug, PartialEq, Eq)]
+pub struct Prepared {
+    /// A mask of the lanes that are out.
+    pub out: u16,
+    /// The letter of each lane, which is good where the lane took the file.
+    pub whys: Whys,
+}
+
+/// Writes the first file of a draft: the base with the change as its next, which prepares the change. It is refused with
+/// `WriteQuorum` where fewer lanes than a write needs took it; a pending change isn't begun where fewer lanes than that
+/// were good. `term`, which is below 2^48, and `count` name loose files: each write uses up one number.
+pub fn propose<D: Drive>(
+    lanes: &mut [D],
+    out: u16,
+    draft: &Draft,
+    term: u64,
+    count: &mut u64,
+) -> Result<Prepared, QuorumFault>
+    requires drives { length lanes.old ≡ draft.now.set.drives }
+    requires letters { length draft.now.letters ≡ draft.now.set.drives }
+    requires named { string_len draft.now.name ≤ 1129 }
+    requires room { count.old + draft.now.set.drives < 2 ^ 64 }
+    ensures outcome { Proposes D.tells D.files D.count draft.now out term count.old count.new result lanes.old lanes.new }
+    ensures keeps { (base : Base) (next : Next) (recorded : List Lane) → IsDraftOf draft.now base next
+        → AllTell D.tells out lanes.old → AreUnused D.files out term count.old lanes.old → AreLanes D.files out (string_bytes draft.now.name) lanes.old recorded
+        → ProposeKeeps D.tells D.files D.count draft.now out base next result lanes.new recorded }
+    ensures drives { AllTell D.tells out lanes.old → AreUnused D.files out term count.old lanes.old
+        → KeepsDrives D.tells D.files D.count out (string_bytes draft.now.name) term count.new lanes.old lanes.new }
+    ensures tells { TellsStay D.tells D.files D.count lanes.old lanes.new }
+    ensures counts { CountsRise D.tells D.files D.count lanes.old lanes.new }
+{
+    place_laws();
+    prepare_laws();
+    number_laws();
+    let quorum = draft.set.write_quorum();
+    if good_letters(&draft.letters) < quorum {
+        return Err(QuorumFault::WriteQuorum(draft.letters));
+    }
+    let writing = Writing {
+        name: draft.name.as_str(),
+        bytes: draft.first.as_slice(),
+        term,
+    };
+    let whys = write_each(lanes, out, 0, draft.letters, &writing, count);
+    if good_letters(&whys) < quorum {
+        return Err(QuorumFault::WriteQuorum(whys));
+    }
+    Ok(Prepared { out, whys })
+}
+
+/// Writes the last file of a draft on the lanes that took the first one: the change as the base, which marks it. `Ok` says
+/// that the change is acknowledged: its content is the register's value. It is refused with `WriteQuorum` where fewer lanes
+/// than a write needs took it, and then the change may have taken effect or may take effect later.
+pub fn mark<D: Drive>(
+    lanes: &mut [D],
+    draft: &mut Draft,
+    prepared: Prepared,
+    term: u64,
+    count: &mut u64,
+) -> Result<(), QuorumFault>
+    requires drives { length lanes.old ≡ draft.old.set.drives }
+    requires letters { length prepared.whys ≡ draft.old.set.drives }
+    requires named { string_len draft.old.name ≤ 1129 }
+    requires room { count.old + draft.old.set.drives < 2 ^ 64 }
+    ensures outcome { Marks D.tells D.files D.count draft.old prepared term count.old count.new result draft.new lanes.old lanes.new }
+    ensures keeps { (next : Next) (recorded : List Lane) → EndsAt draft.old (marked_base next)
+        → AllTell D.tells prepared.out lanes.old → AreUnused D.files prepared.out term count.old lanes.old
+        → AreLanes D.files prepared.out (string_bytes draft.old.name) lanes.old recorded
+        → MarkKeeps D.tells D.files D.count draft.old prepared next result draft.new lanes.new recorded }
+    ensures drives { AllTell D.tells prepared.out lanes.old → AreUnused D.files prepared.out term count.old lanes.old
+        → KeepsDrives D.tells D.files D.count prepared.out (string_bytes draft.old.name) term count.new lanes.old lanes.new }
+    ensures draft { draft.new ≡ record draft.old { passed = draft.new.passed } }
+    ensures tells { TellsStay D.tells D.files D.count lanes.old lanes.new }
+    ensures counts { CountsRise D.tells D.files D.count lanes.old lanes.new }
+{
+    place_laws();
+    mark_laws();
+    number_laws();
+    let writing = Writing {
+        name: draft.name.as_str(),
+        bytes: draft.last.as_slice(),
+        term,
+    };
+    let whys = write_each(lanes, prepared.out, 0, prepared.whys, &writing, count);
+    if good_letters(&whys) < draft.set.write_quorum() {
+        return Err(QuorumFault::WriteQuorum(whys));
+    }
+    draft.passed = mask_of(&whys);
+    Ok(())
+}
+
+/// The mask of the lanes whose letter is good.
+fn mask_of(whys: &Whys) -> u16
+    ensures { (k : ℕ) → (IsBitSet result k → (letter_at whys.now k ≡ Good)) × ((letter_at whys.now k ≡ Good) → IsBitSet result k) }
+{
+    let mut mask = 0;
+    for k in 0..whys.len() {
+        if is_good(whys.get(k)) {
+            mask |= 1 << k;
+        }
+    }
+    mask
+}

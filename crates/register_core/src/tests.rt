@@ -1,0 +1,301 @@
+//! Registers over memory drives: worked stories of a set, and a change under every fuse.
+
+mod fuses;
+mod mends;
+mod rows;
+
+ghost use Rattle.std.specs.Prelude.{◌≤◌, None, IfOk};
+ghost use Rattle.register_file.specs.Record.{IsContent, IsCanonicalNext};
+
+use super::*;
+use call_types::{FileKind, Why, Whys};
+use drive_base::SetPlan;
+use drive_memory::MemDrive;
+use put_stage::stage_whole;
+use register_file::{Adds, Base, Next};
+use seal_file::{Bytes, Damage};
+use stamp_id::{Ballot, ChangeId, VersionId};
+use std::alloc::{AllocError, Global};
+use std::process::Abort;
+use std::test::Fail;
+
+/// The name of the register.
+const NAME: &str = "k/pic/k";
+
+/// A rule that every content meets.
+#[derive(Drop)]
+struct Anything;
+
+impl ContentRule for Anything {
+    ghost fault_in = { λ _ _. None };
+
+    fn check(&mut self, _alloc: Global, _content: &[u8]) -> Result<(), ContentFault> {
+        Ok(())
+    }
+}
+
+/// The lanes and the data drives of a set, and the numbers that were drawn.
+#[derive(Drop)]
+struct World {
+    alloc: Global,
+    set: SetPlan,
+    lanes: Vec<MemDrive>,
+    disks: Vec<MemDrive>,
+    seq: u64,
+    count: u64,
+}
+
+/// So many fresh drives.
+fn fresh_drives(alloc: Global, many: u8) -> Result<Vec<MemDrive>, AllocError> {
+    let mut drives = Vec::new(alloc);
+    for _ in 0..many {
+        drives.push(MemDrive::new(alloc))?;
+    }
+    Ok(drives)
+}
+
+/// Four fresh lanes and data drives, of which so many are parity.
+fn fresh_world(alloc: Global, parity: u8) -> Result<World, AllocError>
+    requires some { 1 ≤ parity }
+    requires few { parity ≤ 2 }
+{
+    Ok(World {
+        alloc,
+        set: SetPlan::new([7; 16], 4, parity),
+        lanes: fresh_drives(alloc, 4)?,
+        disks: fresh_drives(alloc, 4)?,
+        seq: 0,
+        count: 0,
+    })
+}
+
+impl World {
+    /// Draws a number of term 1.
+    fn draw(&mut self, rt: &impl Abort) -> Result<Ballot, Fail> {
+        assert!(rt; self.seq < 1000);
+        self.seq += 1;
+        Ok(Ballot {
+            term: 1,
+            seq: self.seq,
+        })
+    }
+
+    /// Begins a put: draws its change, and stages a body on the data drives.
+    fn begin(&mut self, rt: &impl Abort, body: &[u8]) -> Result<Adds, Fail> {
+        let change = self.draw(rt)?;
+        assert!(rt; change.term >= 1);
+        assert!(rt; change.seq >= 1);
+        let id = VersionId::from_parts(ChangeId(change), 38);
+        assert!(rt; self.disks.len() == self.set.drives as usize);
+        assert!(rt; body.len() <= 100);
+        let disks = self.disks.as_mut_slice();
+        let staged = stage_whole(self.alloc, self.set, id, NAME, body, None, disks);
+        Ok(Adds {
+            id,
+            print: staged?.print,
+        })
+    }
+
+    /// Looks at the register.
+    fn look(&mut self, rt: &impl Abort) -> Result<Result<Looked, QuorumFault>, Fail> {
+        assert!(rt; self.lanes.len() == self.set.drives as usize);
+        assert!(rt; self.disks.len() == self.set.drives as usize);
+        let lanes = self.lanes.as_mut_slice();
+        let disks = self.disks.as_mut_slice();
+        Ok(look(self.alloc, lanes, disks, 0, self.set, NAME, &mut Anything))
+    }
+
+    /// Writes both files of a draft.
+    fn write(
+        &mut self,
+        rt: &impl Abort,
+        draft: &mut Draft,
+    ) -> Result<Result<(), QuorumFault>, Fail> {
+        let drives = draft.set.drives as usize;
+        assert!(rt; self.lanes.len() == drives);
+        assert!(rt; draft.letters.len() == drives);
+        assert!(rt; draft.name.len() <= 1129);
+        assert!(rt; self.count <= 1_000_000);
+        let lanes = self.lanes.as_mut_slice();
+        let prepared = match propose(lanes, 0, draft, 1, &mut self.count) {
+            Ok(prepared) => prepared,
+            Err(fault) => return Ok(Err(fault)),
+        };
+        assert!(rt; self.lanes.len() == drives);
+        assert!(rt; prepared.whys.len() == drives);
+        assert!(rt; self.count <= 2_000_000);
+        let lanes = self.lanes.as_mut_slice();
+        Ok(mark(lanes, draft, prepared, 1, &mut self.count))
+    }
+
+    /// Completes what a look found pending, under a fresh ballot.
+    fn forward(
+        &mut self,
+        rt: &impl Abort,
+        looked: &Looked,
+        found: &Next,
+    ) -> Result<Result<Draft, QuorumFault>, Fail> {
+        if !looked.can_forward() {
+            return Ok(Err(QuorumFault::WriteQuorum(looked.whys)));
+        }
+        let next = self.again(rt, &looked.base, found)?;
+        let mut draft = draft(self.alloc, looked, &next)?;
+        match self.write(rt, &mut draft)? {
+            Ok(()) => Ok(Ok(draft)),
+            Err(fault) => Ok(Err(fault)),
+        }
+    }
+
+    /// A pending change under a fresh ballot, over a base.
+    fn again(&mut self, rt: &impl Abort, base: &Base, found: &Next) -> Result<Next, Fail>
+        ensures base { IfOk result (λ _. IsContent base.now.content) }
+        ensures next { IfOk result (λ next. IsCanonicalNext base.now.change next) }
+    {
+        let content = found.content.as_slice();
+        match found.adds {
+            Some(adds) => self.next_over(rt, base, found.change, Some(adds), content),
+            None => self.next_over(rt, base, found.change, None, content),
+        }
+    }
+
+    /// A change over a base, under a fresh ballot.
+    fn next_over(
+        &mut self,
+        rt: &impl Abort,
+        base: &Base,
+        change: ChangeId,
+        adds: Option<Adds>,
+        content: &[u8],
+    ) -> Result<Next, Fail>
+        ensures base { IfOk result (λ _. IsContent base.now.content) }
+        ensures next { IfOk result (λ next. IsCanonicalNext base.now.change next) }
+    {
+        assert!(rt; base.content.len() < 100);
+        assert!(rt; content.len() < 100);
+        Ok(Next {
+            ballot: self.draw(rt)?,
+            change,
+            parent: base.change,
+            adds,
+            content: Bytes::from_slice(self.alloc, content)?,
+        })
+    }
+
+    /// Reads the register's value, and completes first what is pending.
+    fn get(&mut self, rt: &impl Abort) -> Result<Result<Base, QuorumFault>, Fail> {
+        let looked = match self.look(rt)? {
+            Ok(looked) => looked,
+            Err(fault) => return Ok(Err(fault)),
+        };
+        match &looked.pending {
+            None => Ok(Ok(looked.base)),
+            Some(found) => match self.forward(rt, &looked, found)? {
+                Ok(draft) => Ok(Ok(draft.value)),
+                Err(fault) => Ok(Err(fault)),
+            },
+        }
+    }
+
+    /// Commits a put, and completes first what is pending.
+    fn put(
+        &mut self,
+        rt: &impl Abort,
+        adds: Adds,
+        content: &[u8],
+    ) -> Result<Result<(), QuorumFault>, Fail> {
+        let looked = match self.look(rt)? {
+            Ok(looked) => looked,
+            Err(fault) => return Ok(Err(fault)),
+        };
+        let mut own = match &looked.pending {
+            None => {
+                let next = self.next_over(rt, &looked.base, adds.id.change, Some(adds), content)?;
+                draft(self.alloc, &looked, &next)?
+            }
+            Some(found) => match self.forward(rt, &looked, found)? {
+                Ok(first) => {
+                    let next = self.next_over(
+                        rt,
+                        &first.value,
+                        adds.id.change,
+                        Some(adds),
+                        content,
+                    )?;
+                    draft_after(self.alloc, &first, &next)?
+                }
+                Err(fault) => return Ok(Err(fault)),
+            },
+        };
+        self.write(rt, &mut own)
+    }
+
+    /// Puts a body, from its staging to its commit, and answers the refusal, if any.
+    fn put_all(&mut self, rt: &impl Abort, body: &[u8]) -> Result<Option<QuorumFault>, Fail> {
+        let adds = self.begin(rt, body)?;
+        Ok(self.put(rt, adds, body)?.err())
+    }
+
+    /// Whether the register's value is this content; a refusal says no.
+    fn holds(&mut self, rt: &impl Abort, content: &[u8]) -> Result<bool, Fail> {
+        match self.get(rt)? {
+            Ok(base) => Ok(base.content.as_slice() == content),
+            Err(_) => Ok(false),
+        }
+    }
+
+    /// Whether a look finds a change on its way, and not a settled value.
+    fn is_pending(&mut self, rt: &impl Abort) -> Result<bool, Fail> {
+        let looked = self.look(rt)??;
+        Ok(looked.pending.is_some())
+    }
+
+    /// Loses both drives of an index.
+    fn lose(&mut self, rt: &impl Abort, index: usize) {
+        assert!(rt; index < self.lanes.len());
+        assert!(rt; index < self.disks.len());
+        self.lanes[index].lose();
+        self.disks[index].lose();
+    }
+
+    /// Brings both drives of an index back.
+    fn back(&mut self, rt: &impl Abort, index: usize) {
+        assert!(rt; index < self.lanes.len());
+        assert!(rt; index < self.disks.len());
+        self.lanes[index].back();
+        self.disks[index].back();
+    }
+
+    /// Gives the lane of an index a fuse.
+    fn fuse(&mut self, rt: &impl Abort, index: usize, calls: u64, late: bool) {
+        assert!(rt; index < self.lanes.len());
+        self.lanes[index].fuse(calls, late);
+    }
+
+    /// Stops all drives and starts them again.
+    fn stop(&mut self) {
+        for lane in self.lanes.iter_mut() {
+            lane.stop();
+        }
+        for disk in self.disks.iter_mut() {
+            disk.stop();
+        }
+    }
+
+    /// Mends the register, with the lanes of a mask out.
+    fn heal(&mut self, rt: &impl Abort, out: u16) -> Result<Mended, Fail> {
+        let looked = self.look(rt)??;
+        assert!(rt; looked.pending.is_none());
+        assert!(rt; looked.base.content.len() < 100);
+        let draft = draft_mend(self.alloc, &looked)?;
+        self.mend(rt, out, &draft)
+    }
+
+    /// Mends the lanes by a draft.
+    fn mend(&mut self, rt: &impl Abort, out: u16, draft: &Draft) -> Result<Mended, Fail> {
+        assert!(rt; self.lanes.len() == draft.set.drives as usize);
+        assert!(rt; draft.name.len() <= 1129);
+        assert!(rt; self.count <= 1_000_000);
+        let lanes = self.lanes.as_mut_slice();
+        Ok(mend(lanes, out, draft, 1, &mut self.count))
+    }
+}
