@@ -60,5 +60,18 @@ else
     echo 'check_program: an output that is full' >&2
 fi
 
+# The largest body that is taken comes back byte for byte, and a larger one closes the connection.
+head -c 16777216 /dev/urandom >"$work/body"
+{ printf 'PUT /pic/a HTTP/1.1\r\nContent-Length: 16777216\r\n\r\n'; cat "$work/body"; printf '%b' "$get"; } | "$top/ostore" pipe >"$work/replies"
+status=$?
+tail -c 16777216 "$work/replies" >"$work/back"
+if [[ $status == 0 ]] && cmp -s "$work/body" "$work/back"; then
+    passed=$((passed + 1))
+else
+    failed=$((failed + 1))
+    echo "check_program: a body of 16 MiB: status $status" >&2
+fi
+check 'a body of a byte more' 9 "$refused" 'ostore: closed\n' pipe < <(printf 'PUT /pic/a HTTP/1.1\r\nContent-Length: 16777217\r\n\r\n')
+
 echo "$passed passed, $failed failed"
 [[ $failed == 0 ]]

@@ -5,33 +5,25 @@ use Rattle.std.specs.List.{AllByRecursion}
 use Rattle.std.proofs.Math.Path.{fun_ext}
 use Rattle.stamp_id.specs.declared.version.VersionId.{VersionId}
 use Rattle.call_types.specs.declared.names.Mode.{Mode}
-use Rattle.call_types.specs.declared.version.Version.{Version}
-use Rattle.call_types.specs.declared.version.What.{What}
-use Rattle.call_types.specs.declared.version.What.TheVariants.{Marker, Object}
 use Rattle.drive_base.specs.Files.{Files}
 use Rattle.version_list.specs.declared.state.KeyState.{KeyState}
 use Rattle.version_list.specs.State.{IsMoment}
 use Rattle.version_list.specs.Gone.{gone_ids}
-use Rattle.version_list.proofs.Distinct.{each_item}
 use Rattle.ostore.specs.declared.connection.Turn.{Turn}
 use Rattle.ostore.specs.declared.connection.ConnectionEnd.TheVariants.{NoMemory}
 use Rattle.ostore.specs.Drives.{AllTell, AtEach}
+use Rattle.ostore.specs.Holders.{data_names}
 use Rattle.ostore.specs.Leaves.{sides, Draws, DrawsNone, FilesStay, Starves}
 use Rattle.ostore.specs.Objects.{Objects, Request, Asks, IsNext, with_state}
 use Rattle.ostore.specs.Session.{wires, Agrees, TurnOver}
 use Rattle.ostore.specs.Slots.{slot_of, Drawn, with_drawn, IsIdOf}
 use Rattle.ostore.specs.Store.{Ready, IsSound}
-use Rattle.ostore.proofs.StateLemmas.{OnData, IsNotAmong, data_names, gone_names_not_new, gone_names_not_other, next_is_fresh-sound}
-use Rattle.ostore.proofs.StoreLemmas.{IsApart, drawn_most, ready_same, ready_later}
+use Rattle.ostore.proofs.GoneLemmas.{OnData, IsNotAmong, gone_names_not_new, gone_names_not_other}
+use Rattle.ostore.proofs.StateLemmas.{next_is_fresh-sound}
+use Rattle.ostore.proofs.DriveLemmas.{drawn_most}
+use Rattle.ostore.proofs.StoreLemmas.{ready_same, ready_later}
 use Rattle.ostore.proofs.TurnLemmas.{tells_each, counts_each, unanswered}
 use Rattle.ostore.proofs.SessionLemmas.{nothing_taken, nothing_given}
-
-is_apart : (ids : List VersionId) (what : What) → OnData (IsNotAmong (data_names ids)) what → IsApart (data_names ids) what
-is_apart ids Marker has = tt
-is_apart ids (Object data_id print size md5 parts upload kind) has = has
-
-all_apart : (ids : List VersionId) (versions : List Version) → AllByRecursion (λ v. OnData (IsNotAmong (data_names ids)) v.what) versions → AllByRecursion (λ v. IsApart (data_names ids) v.what) versions
-all_apart ids versions all = each_item (λ v. OnData (IsNotAmong (data_names ids)) v.what) (λ v. IsApart (data_names ids) v.what) (λ v has. is_apart ids v.what has) versions all
 
 -- the id that a slot draws next, in the slot of a key
 pub next_of : (key : List ℕ) (objects : Objects) (id : VersionId) (slot : ℕ) (drawn : Drawn) → slot ≡ slot_of key → Agrees drawn objects
@@ -115,12 +107,12 @@ module _ {D : Type 0} (clock : Option ℕ) (mode : Mode) (tell : D → Bool) (fi
   pub apart_after : (owner : List ℕ → List ℕ) (objects : Objects) (key : List ℕ) (new : KeyState) (ids : List VersionId)
       → ((other : List ℕ) → AllByRecursion (IsSound objects.drawn owner objects.bodies other) (objects.states other).versions)
       → ids ≡ gone_ids (objects.states key).versions new.versions
-      → (other : List ℕ) → AllByRecursion (λ v. IsApart (data_names ids) v.what) (with_state objects.states key new other).versions
+      → (other : List ℕ) → AllByRecursion (λ v. OnData (IsNotAmong (data_names ids)) v.what) (with_state objects.states key new other).versions
   apart_after owner objects key new ids sound are other = by (bytes_eq key other) refl
     where
-      by : (b : Bool) → bytes_eq key other ≡ b → AllByRecursion (λ v. IsApart (data_names ids) v.what) (with_state objects.states key new other).versions
-      by true e = subst (λ t. AllByRecursion (λ v. IsApart (data_names ids) v.what) (cond t new (objects.states other)).versions) (sym e)
-          (all_apart ids new.versions (subst (λ l. AllByRecursion (λ v. OnData (IsNotAmong (data_names l)) v.what) new.versions) (sym are) (gone_names_not_new (objects.states key).versions new.versions)))
-      by false e = subst (λ t. AllByRecursion (λ v. IsApart (data_names ids) v.what) (cond t new (objects.states other)).versions) (sym e)
-          (all_apart ids (objects.states other).versions (subst (λ l. AllByRecursion (λ v. OnData (IsNotAmong (data_names l)) v.what) (objects.states other).versions) (sym are)
-          (gone_names_not_other objects.drawn owner objects.bodies key other (objects.states key).versions new.versions (objects.states other).versions (sound key) (sound other) e)))
+      by : (b : Bool) → bytes_eq key other ≡ b → AllByRecursion (λ v. OnData (IsNotAmong (data_names ids)) v.what) (with_state objects.states key new other).versions
+      by true e = subst (λ t. AllByRecursion (λ v. OnData (IsNotAmong (data_names ids)) v.what) (cond t new (objects.states other)).versions) (sym e)
+          (subst (λ l. AllByRecursion (λ v. OnData (IsNotAmong (data_names l)) v.what) new.versions) (sym are) (gone_names_not_new (objects.states key).versions new.versions))
+      by false e = subst (λ t. AllByRecursion (λ v. OnData (IsNotAmong (data_names ids)) v.what) (cond t new (objects.states other)).versions) (sym e)
+          (subst (λ l. AllByRecursion (λ v. OnData (IsNotAmong (data_names l)) v.what) (objects.states other).versions) (sym are)
+          (gone_names_not_other objects.drawn owner objects.bodies key other (objects.states key).versions new.versions (objects.states other).versions (sound key) (sound other) e))

@@ -23,7 +23,7 @@ use Rattle.ostore.proofs.TurnLemmas.{deeper}
 
 -- what is ready for the next request keeps the objects
 pub keeps_of : {D : Type 0} (files : D → Files) (number most : ℕ) (objects : Objects) (drives : List D) → Ready files number most objects drives → Keeps files objects drives
-keeps_of files number most objects drives ready = record { first = ready.first; datas = λ key k d lt. (ready.every k d lt).datas key }
+keeps_of files number most objects drives ready = record { first = ready.first; datas = ready.datas }
 
 module _ {D : Type 0} (clock : Option ℕ) (mode : Mode) (tell : D → Bool) (files : D → Files) (count : D → ℕ) where
   -- a head that is refused

@@ -1,5 +1,5 @@
--- Names of the data of different ids differ, and no name of data is one of a key or of a write.
-use Rattle.std.proofs.Common.{◌≡◌, ◌≢◌, ℕ, zero, suc, ◌<◌, Bool, true, false, List, [], ◌∷◌, All, drop, Result, Ok, refl, ap, ◌∙◌, arith, lit<}
+-- Names of the files of different ids differ.
+use Rattle.std.proofs.Common.{◌≡◌, ◌≢◌, ℕ, zero, suc, ◌<◌, Bool, true, false, List, [], ◌∷◌, All, drop, Result, Ok, refl, sym, ap, ◌∙◌, arith, lit<}
 use Rattle.std.specs.Str.{bytes_eq}
 use Rattle.std.proofs.lemmas.List.Elements.{All-tail}
 use Rattle.std.proofs.lemmas.Slice.Eq.{bytes_eq-Decides}
@@ -8,8 +8,7 @@ use Rattle.hex.proofs.HexLemmas.{decode_of-encode_lower}
 use Rattle.stamp_id.specs.VersionId.{id_bytes}
 use Rattle.stamp_id.specs.declared.version.VersionId.{VersionId}
 use Rattle.stamp_id.proofs.IdLemmas.{id_bytes-injective, id_bytes-fit}
-use Rattle.ostore.specs.Drives.{name_of, loose_name_of}
-use Rattle.ostore.specs.KeyFiles.{data_name, data_loose}
+use Rattle.body_print.specs.Names.{shard_name, manifest_name, loose_shard_name, loose_manifest_name}
 
 -- numbers below 256 are bytes
 fit_are_bytes : (xs : List ℕ) → All (λ b. b < 256) xs → IsBytes xs
@@ -31,43 +30,28 @@ text-injective a b texts =
     id_bytes-injective a b
     (ok_value _ _ (decode_of (encode_lower (id_bytes a))) (decode_of-encode_lower _ (id_bytes_are_bytes a)) (decoded ∙ decode_of-encode_lower _ (id_bytes_are_bytes b)))
 
--- ids with the same name of data are the same
-pub data_name-injective : (a b : VersionId) → data_name a ≡ data_name b → a ≡ b
-data_name-injective a b e = text-injective a b (ap (drop 2) e)
-
--- ids with the same loose name of data are the same
-pub data_loose-injective : (a b : VersionId) → data_loose a ≡ data_loose b → a ≡ b
-data_loose-injective a b e = text-injective a b (ap (drop 1) e)
+-- ids with the same name of a shard file are the same
+pub shard_name-injective : (a b : VersionId) → shard_name a ≡ shard_name b → a ≡ b
+shard_name-injective a b e = text-injective a b (ap (drop 2) e)
 
 -- a test that decides a fact is false where the fact doesn't hold
 false_without : {P : Type 0} (b : Bool) → (b ≡ true → P) → (P → ⊥) → b ≡ false
 false_without true means not = absurd (not (means refl))
 false_without false means not = refl
 
--- names of the data of different ids differ
-pub data_names_differ : (a b : VersionId) → a ≢ b → bytes_eq (data_name a) (data_name b) ≡ false
-data_names_differ a b differ =
-    false_without (bytes_eq (data_name a) (data_name b)) (bytes_eq-Decides (data_name a) (data_name b)).0 (λ e. differ (data_name-injective a b e))
+-- names of files of different ids differ
+apart : (name : VersionId → List ℕ) (n : ℕ) → ((id : VersionId) → drop n (name id) ≡ encode_lower (id_bytes id)) → (a b : VersionId) → a ≢ b → bytes_eq (name a) (name b) ≡ false
+apart name n digits a b differ =
+    false_without (bytes_eq (name a) (name b)) (bytes_eq-Decides (name a) (name b)).0 (λ e. differ (text-injective a b (sym (digits a) ∙ ap (drop n) e ∙ digits b)))
 
--- loose names of the data of different ids differ
-pub data_looses_differ : (a b : VersionId) → a ≢ b → bytes_eq (data_loose a) (data_loose b) ≡ false
-data_looses_differ a b differ =
-    false_without (bytes_eq (data_loose a) (data_loose b)) (bytes_eq-Decides (data_loose a) (data_loose b)).0 (λ e. differ (data_loose-injective a b e))
+pub shard_names_differ : (a b : VersionId) → a ≢ b → bytes_eq (shard_name a) (shard_name b) ≡ false
+shard_names_differ = apart shard_name 2 (λ id. refl)
 
--- ids with different sequence numbers differ
-pub ids_differ-seq : (a b : VersionId) → a.change.0.seq ≢ b.change.0.seq → a ≢ b
-ids_differ-seq a b differ same = differ (ap (λ (v : VersionId). v.change.0.seq) same)
+pub manifest_names_differ : (a b : VersionId) → a ≢ b → bytes_eq (manifest_name a) (manifest_name b) ≡ false
+manifest_names_differ = apart manifest_name 2 (λ id. refl)
 
--- the name of a key is no name of data
-pub name_is_no_data : (key : List ℕ) (id : VersionId) → bytes_eq (name_of key) (data_name id) ≡ false
-name_is_no_data key id = refl
+pub loose_shards_differ : (a b : VersionId) → a ≢ b → bytes_eq (loose_shard_name a) (loose_shard_name b) ≡ false
+loose_shards_differ = apart loose_shard_name 1 (λ id. refl)
 
-pub data_is_no_name : (id : VersionId) (key : List ℕ) → bytes_eq (data_name id) (name_of key) ≡ false
-data_is_no_name id key = refl
-
--- the loose name of a write is no loose name of data
-pub loose_is_no_data : (number : ℕ) (id : VersionId) → bytes_eq (loose_name_of number) (data_loose id) ≡ false
-loose_is_no_data number id = refl
-
-pub data_is_no_loose : (id : VersionId) (number : ℕ) → bytes_eq (data_loose id) (loose_name_of number) ≡ false
-data_is_no_loose id number = refl
+pub loose_manifests_differ : (a b : VersionId) → a ≢ b → bytes_eq (loose_manifest_name a) (loose_manifest_name b) ≡ false
+loose_manifests_differ = apart loose_manifest_name 1 (λ id. refl)

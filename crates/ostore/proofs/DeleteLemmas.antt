@@ -1,6 +1,5 @@
 -- What a DELETE leads to.
 use Rattle.std.proofs.Common.{◌≡◌, ◌⊎◌, inl, inr, ℕ, ◌+◌, ◌<◌, ◌≤◌, Bool, IsTrue, List, [], length, map, slice_index_or, Option, Some, None, refl, sym, ap, ◌∙◌, subst, arith}
-use Rattle.std.specs.Prelude.{All}
 use Rattle.std.specs.List.{AllByRecursion}
 use Rattle.stamp_id.specs.declared.version.VersionId.{VersionId}
 use Rattle.call_types.specs.declared.names.Mode.{Mode}
@@ -19,9 +18,10 @@ use Rattle.ostore.specs.Leaves.{sides, Shows, CommitLeaves, LooksInVain, Changes
 use Rattle.ostore.specs.Objects.{Objects, Answer, delete, replied, unavailable, with_numbers, with_change}
 use Rattle.ostore.specs.Session.{Exchange, Gives, wires, TurnOver}
 use Rattle.ostore.specs.Slots.{slot_of, Drawn, with_drawn, IsIdOf}
-use Rattle.ostore.specs.Store.{Ready, IsSound, KeepsDataOf}
+use Rattle.ostore.specs.Holders.{IsHeld}
+use Rattle.ostore.specs.Store.{Ready, IsSound}
 use Rattle.ostore.proofs.ChangeLemmas.{Begins, is_next, room_now, room_drawn, agrees_none, agrees_drawn, ready_stays, starved, apart_after}
-use Rattle.ostore.proofs.StandsLemmas.{all_or_not, shown_is, look_cause}
+use Rattle.ostore.proofs.StandsLemmas.{all_or_not, shown_is, shows_only, look_cause}
 use Rattle.ostore.proofs.StateLemmas.{delete_step_keeps, delete_step_uploads, sound_drawn_later, grows_with_drawn, with_drawn_here, marker_is_sound, next_was_drawn}
 use Rattle.ostore.proofs.StoreLemmas.{ready_written, ready_refused, ready_removed}
 use Rattle.ostore.proofs.TurnLemmas.{tells_each, counts_each, cause_of_some, answered}
@@ -44,6 +44,7 @@ module _ {D : Type 0} (clock : Option ℕ) (mode : Mode) (tell : D → Bool) (fi
       (record {
         asks = asks;
         fits = tt;
+        shows = λ all. shows_only clock mode tell files count number (number + number) objects old (begins.ready all);
         serves = λ all. inl refl;
         cause = look_cause clock mode tell files count number (number + number) objects key id old new begins.some begins.same begins.ready (λ all. (is_next clock mode tell files count number key objects id now old new before begins all).fresh) looks.cause;
         counts = counts_each clock mode tell files count old new begins.same begins.counts;
@@ -70,6 +71,7 @@ module _ {D : Type 0} (clock : Option ℕ) (mode : Mode) (tell : D → Bool) (fi
       (record {
         asks = asks;
         fits = refl;
+        shows = λ all. shows_only clock mode tell files count number (number + number) objects old (begins.ready all);
         serves = λ all.
             let same = shown_is clock mode tell files count number (number + number) objects key p.state old begins.some all (begins.ready all) p.canonical p.shown in (
               record {
@@ -101,10 +103,9 @@ module _ {D : Type 0} (clock : Option ℕ) (mode : Mode) (tell : D → Bool) (fi
 
   delete_datas : (number most : ℕ) (key : List ℕ) (pick : Pick) (objects : Objects) (id : VersionId) (now : ℕ) (reply : Reply) (state : KeyState) (old : List D)
       → Ready files number most objects old → Step (objects.states key) mode (act.Delete pick) id now reply state
-      → All (λ d. AllByRecursion (λ v. KeepsDataOf objects.bodies (files d) v.what) state.versions) old
-  delete_datas number most key pick objects id now reply state old ready step k d lt =
-      delete_step_keeps (λ v. KeepsDataOf objects.bodies (files (slice_index_or old k d)) v.what) (objects.states key) state mode pick id now reply step
-      ((ready.every k d lt).datas key) tt
+      → AllByRecursion (λ v. IsHeld files objects.bodies old v.what) state.versions
+  delete_datas number most key pick objects id now reply state old ready step =
+      delete_step_keeps (λ v. IsHeld files objects.bodies old v.what) (objects.states key) state mode pick id now reply step (ready.datas key) tt
 
   drawn_of : (objects after : Objects) (key : List ℕ) (state : KeyState) → (after ≡ with_numbers objects key 2) ⊎ (after ≡ with_change objects key state 2)
       → after.drawn ≡ with_drawn objects.drawn (slot_of key) (objects.drawn (slot_of key) + 2)
@@ -129,6 +130,7 @@ module _ {D : Type 0} (clock : Option ℕ) (mode : Mode) (tell : D → Bool) (fi
       (record {
         asks = asks;
         fits = tt;
+        shows = λ all. shows_only clock mode tell files count number (number + number) objects old (begins.ready all);
         serves = λ all.
             let same = shown_is clock mode tell files count number (number + number) objects key p.state old begins.some all (begins.ready all) p.canonical p.shown in
             inr (record {
@@ -195,6 +197,7 @@ module _ {D : Type 0} (clock : Option ℕ) (mode : Mode) (tell : D → Bool) (fi
       (record {
         asks = asks;
         fits = refl;
+        shows = λ all. shows_only clock mode tell files count number (number + number) objects old (begins.ready all);
         serves = λ all.
             let same = shown_is clock mode tell files count number (number + number) objects key p.state old begins.some all (begins.ready all) p.canonical p.shown in (
               record {

@@ -1,5 +1,5 @@
 -- What making a change leaves, from what its parts leave.
-use Rattle.std.proofs.Common.{◌≡◌, ◌⊎◌, inl, inr, ℕ, ◌<◌, ◌≤◌, Bool, IsTrue, List, [], ◌∷◌, length, map, slice_index_or, Option, None, sym, ap, ◌∙◌, subst, arith}
+use Rattle.std.proofs.Common.{◌≡◌, ◌⊎◌, inl, inr, ℕ, ◌<◌, ◌≤◌, Bool, IsTrue, List, [], ◌∷◌, length, slice_index_or, Option, None, sym, ap, ◌∙◌, subst, arith}
 use Rattle.std.specs.List.{flat_map}
 use Rattle.stamp_id.specs.VersionId.{id_bytes}
 use Rattle.stamp_id.specs.declared.version.VersionId.{VersionId}
@@ -9,7 +9,8 @@ use Rattle.call_types.specs.declared.names.Mode.{Mode}
 use Rattle.call_types.specs.declared.act.Act.{Act}
 use Rattle.version_list.specs.declared.state.KeyState.{KeyState}
 use Rattle.ostore.specs.Commits.{IsPrepared, NamesId}
-use Rattle.ostore.specs.KeyFiles.{data_name, StandsFor, KeyCause}
+use Rattle.ostore.specs.Holders.{data_names}
+use Rattle.ostore.specs.KeyFiles.{StandsFor, KeyCause}
 use Rattle.ostore.specs.Store.{OnlyRemoves}
 use Rattle.ostore.specs.Leaves.{FilesStay, WritesAll, Shows, LookCause}
 
@@ -29,7 +30,7 @@ module _ {D : Type 0} (tell : D → Bool) (files : D → Files) (count : D → �
   pub writes_and_removes : (loose name file gone : List ℕ) (old mid new : List D)
       → length mid ≡ length old → length new ≡ length mid → AtEach (λ a b. tell b ≡ tell a) old mid
       → AtEach (λ a b. IsTrue (tell a) → (files a).loose loose ≡ None → Written loose name file (files a) (files b)) old mid
-      → ((ids : List VersionId) → gone ≡ flat_map id_bytes ids → AtEach (λ a b. IsTrue (tell a) → OnlyRemoves (map data_name ids) (files a) (files b)) mid new)
+      → ((ids : List VersionId) → gone ≡ flat_map id_bytes ids → AtEach (λ a b. IsTrue (tell a) → OnlyRemoves (data_names ids) (files a) (files b)) mid new)
       → WritesAll tell files count loose name file gone old new
   writes_and_removes loose name file gone old mid new same later tells writes removes = record {
     mid = mid;

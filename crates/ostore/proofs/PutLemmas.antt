@@ -1,5 +1,5 @@
 -- What a PUT leads to.
-use Rattle.std.proofs.Common.{◌≡◌, ◌⊎◌, inl, inr, ℕ, zero, suc, ◌+◌, ◌<◌, ◌≤◌, Bool, true, false, cond, nat_eq, IsTrue, List, [], length, map, Option, None, refl, sym, ap, ◌∙◌, subst, arith, append-nil}
+use Rattle.std.proofs.Common.{◌≡◌, ◌⊎◌, inl, inr, ℕ, zero, suc, ◌+◌, ◌<◌, ◌≤◌, Bool, true, false, cond, nat_eq, IsTrue, List, [], length, map, slice_index_or, Option, None, refl, sym, ap, ◌∙◌, subst, arith, append-nil}
 use Rattle.std.proofs.Math.Path.{fun_ext}
 use Rattle.md5.specs.Md5.{md5}
 use Rattle.stamp_id.specs.declared.version.VersionId.{VersionId}
@@ -14,19 +14,21 @@ use Rattle.version_list.specs.Step.{Step, replaced, told, new_name}
 use Rattle.ostore.specs.declared.connection.Turn.{Turn}
 use Rattle.ostore.specs.declared.connection.ConnectionEnd.TheVariants.{NoMemory}
 use Rattle.ostore.specs.Commits.{IsPrepared}
-use Rattle.ostore.specs.Drives.{AllTell, AtEach, SomeDrive, DriveCause, DrivesCause, Written, MayBeWritten, name_of}
-use Rattle.ostore.specs.KeyFiles.{data_name, data_loose}
+use Rattle.ostore.specs.Drives.{AllTell, AtEach, SomeDrive, DriveCause, DrivesCause, name_of}
+use Rattle.put_stage.specs.OnDrives.{MayBeStaged, manifest_and_shard}
+use Rattle.ostore.specs.Holders.{IsPrintOf, Coding, shard_file, manifest_file, HasHolders}
 use Rattle.ostore.specs.Leaves.{sides, Shows, FilesStay, Starves, LooksInVain, ChangesNothing}
 use Rattle.ostore.specs.Objects.{Objects, Answer, Asks, put, replied, unavailable, put_act, MayPut, with_numbers, with_change, with_body}
 use Rattle.ostore.specs.Replies.{unavailable_text}
 use Rattle.ostore.specs.Session.{Exchange, Gives, Agrees, wires, TurnOver}
 use Rattle.ostore.specs.Slots.{slot_of, Drawn, with_drawn}
-use Rattle.ostore.specs.Store.{Ready}
+use Rattle.ostore.specs.Store.{HasNoLoose, Ready}
 use Rattle.ostore.proofs.ChangeLemmas.{Begins, is_next, room_now, agrees_none}
-use Rattle.ostore.proofs.StandsLemmas.{shown_is, look_cause}
+use Rattle.ostore.proofs.StandsLemmas.{shown_is, shows_only, look_cause}
 use Rattle.ostore.proofs.SessionLemmas.{rose_later, nothing_taken, nothing_given}
 use Rattle.ostore.proofs.StateLemmas.{put_version, with_front, with_drawn_here, next_not_drawn}
-use Rattle.ostore.proofs.StoreLemmas.{drawn_most, ready_same, ready_later, ready_staged}
+use Rattle.ostore.proofs.DriveLemmas.{drawn_most}
+use Rattle.ostore.proofs.StoreLemmas.{ready_same, ready_later, ready_staged}
 use Rattle.ostore.proofs.TurnLemmas.{tells_each, tells_same, counts_each, cause_of_some, unanswered, answered}
 
 -- the exchange of a PUT
@@ -40,12 +42,12 @@ high_or_low (suc m) zero = inr (omega arith)
 high_or_low (suc m) (suc n) = elim (high_or_low m n) [ inl high ↦ inl (omega arith) | inr low ↦ inr (omega arith) ]
 
 -- a PUT has a step, whatever the state
-pub put_has_step : (old : KeyState) (mode : Mode) (id : VersionId) (body : List ℕ) (now : ℕ) → (reply : Reply) × (state : KeyState) × Step old mode (put_act id body) id now reply state
-put_has_step old mode id body now = elim (high_or_low 10000 (length (kept (replaced mode) old.versions))) [
+pub put_has_step : (old : KeyState) (mode : Mode) (id : VersionId) (print body : List ℕ) (now : ℕ) → (reply : Reply) × (state : KeyState) × Step old mode (put_act id print body) id now reply state
+put_has_step old mode id print body now = elim (high_or_low 10000 (length (kept (replaced mode) old.versions))) [
   | inl full ↦ (Refused VersionLimit, old, inl (full, (refl, refl)))
   | inr fits ↦ (
     Stored (record { md5 = md5 body; parts = 0 }) (told mode (new_name mode id)),
-    with_front old mode (put_version mode id body now),
+    with_front old mode (put_version mode id print body now),
     inr (fits, (refl, refl)),
   )
 ]
@@ -72,14 +74,24 @@ pub change_twice : (objects : Objects) (key : List ℕ) (state : KeyState) → w
 change_twice objects key state = ap (λ (f : Drawn). record { states = (with_change objects key state 2).states; bodies = objects.bodies; drawn = f }) (fun_ext (twice_drawn objects.drawn (slot_of key)))
 
 module _ {D : Type 0} (clock : Option ℕ) (mode : Mode) (tell : D → Bool) (files : D → Files) (count : D → ℕ) where
-  -- the data of a PUT was written: the drives before it, after it, and in the end
+  -- each drive that tells has none of the files of a body, its manifest alone, or both
+  abbrev pub IsStagedAs : (id : VersionId) (body : List ℕ) (coding : Coding body) (old new : List D) → Type 0
+  IsStagedAs id body coding old new = (k : ℕ) (d : D) → k < length old → IsTrue (tell (slice_index_or old k d)) → HasNoLoose id (files (slice_index_or old k d))
+      → MayBeStaged (manifest_and_shard id (manifest_file id body coding) (shard_file body coding k)) (files (slice_index_or old k d)) (files (slice_index_or new k d))
+
+  -- the body of a PUT was staged: the drives before it, after it, and in the end
   pub record Staged (number : ℕ) (key body : List ℕ) (objects : Objects) (id : VersionId) (now : ℕ) (old mid new : List D) (before staged : Drawn) : Type 0 where
     pub begins : Begins clock mode tell files count number key objects id now old new before
     pub length_mid : length mid ≡ length old
     pub tells_mid : AtEach (λ a b. tell b ≡ tell a) old mid
     pub counts_mid : AtEach (λ a b. count a ≤ count b) old mid
     pub draws : (slot : ℕ) → staged slot ≡ with_drawn before (slot_of key) (before (slot_of key) + 1) slot
-    pub writes : AtEach (λ a b. IsTrue (tell a) → (files a).loose (data_loose id) ≡ None → Written (data_loose id) (data_name id) body (files a) (files b)) old mid
+    pub print : List ℕ
+    pub printed : IsPrintOf body print
+    pub small : length body ≤ 5368709120
+    pub coding : Coding body
+    pub stages : IsStagedAs id body coding old mid
+    pub holders : AllTell (map tell old) → HasHolders files id body mid
 
   pub agrees_one : (objects : Objects) (key : List ℕ) (before staged : Drawn) → Agrees before objects
       → ((slot : ℕ) → staged slot ≡ with_drawn before (slot_of key) (before (slot_of key) + 1) slot)
@@ -95,20 +107,20 @@ module _ {D : Type 0} (clock : Option ℕ) (mode : Mode) (tell : D → Bool) (fi
       drawn_most objects.drawn (slot_of key) (objects.drawn (slot_of key) + n) (number + number + 2) slot (omega arith)
       (room_now clock mode tell files count number key objects id now old new before begins slot)
 
-  -- the data that was written, or perhaps was, is that of the objects with the body
-  abbrev pub staged_maybe : (number : ℕ) (key body : List ℕ) (objects : Objects) (id : VersionId) (now : ℕ) (old mid new : List D) (before : Drawn)
+  -- the drives keep the objects with the body, whatever each of them has of its files
+  abbrev pub staged_maybe : (number : ℕ) (key body : List ℕ) (coding : Coding body) (objects : Objects) (id : VersionId) (now : ℕ) (old mid new : List D) (before : Drawn)
       → Begins clock mode tell files count number key objects id now old new before → length mid ≡ length old
-      → AtEach (λ a b. IsTrue (tell a) → (files a).loose (data_loose id) ≡ None → MayBeWritten (data_loose id) (data_name id) body (files a) (files b)) old mid
+      → IsStagedAs id body coding old mid
       → AllTell (map tell old) → Ready files number (number + number + 1) (with_numbers (with_body objects id body) key 1) mid
-  staged_maybe number key body objects id now old mid new before begins same writes all =
+  staged_maybe number key body coding objects id now old mid new before begins same stages all =
       let r = begins.ready all in
-      ready_staged files number (number + number) objects key id body old mid begins.some same r begins.next
-      (λ k d lt. writes k d lt (tells_each clock mode tell files count old all k d lt) ((r.every k d lt).unused.datas id (next_not_drawn objects.drawn (slot_of key) id begins.next)))
+      ready_staged files number (number + number) objects key id body coding old mid begins.some same r begins.next
+      (λ k d lt. stages k d lt (tells_each clock mode tell files count old all k d lt) ((r.every k d lt).unused.datas id (next_not_drawn objects.drawn (slot_of key) id begins.next)))
 
   abbrev pub staged_ready : (number : ℕ) (key body : List ℕ) (objects : Objects) (id : VersionId) (now : ℕ) (old mid new : List D) (before staged : Drawn)
       → (st : Staged number key body objects id now old mid new before staged) → AllTell (map tell old) → Ready files number (number + number + 1) (with_numbers (with_body objects id body) key 1) mid
   staged_ready number key body objects id now old mid new before staged st all =
-      staged_maybe number key body objects id now old mid new before st.begins st.length_mid (λ k d lt told unused. inr (st.writes k d lt told unused)) all
+      staged_maybe number key body st.coding objects id now old mid new before st.begins st.length_mid st.stages all
 
   pub all_mid : (number : ℕ) (key body : List ℕ) (objects : Objects) (id : VersionId) (now : ℕ) (old mid new : List D) (before staged : Drawn)
       → (st : Staged number key body objects id now old mid new before staged) → AllTell (map tell old) → AllTell (map tell mid)
@@ -144,37 +156,39 @@ module _ {D : Type 0} (clock : Option ℕ) (mode : Mode) (tell : D → Bool) (fi
       (λ k d lt. stays k d lt (tells_each clock mode tell files count mid (all_mid number key body objects id now old mid new before staged st all) k d lt)))
 
   -- a PUT that isn't answered and drew an id
-  may_put : (number : ℕ) (key body : List ℕ) (objects : Objects) (id : VersionId) (now : ℕ) (old new : List D) (before : Drawn)
-      → Begins clock mode tell files count number key objects id now old new before → AllTell (map tell old) → MayPut clock mode objects key body (with_numbers (with_body objects id body) key 1)
-  may_put number key body objects id now old new before begins all =
-      let step = put_has_step (objects.states key) mode id body now in
+  may_put : (number : ℕ) (key print body : List ℕ) (objects : Objects) (id : VersionId) (now : ℕ) (old new : List D) (before : Drawn)
+      → Begins clock mode tell files count number key objects id now old new before → IsPrintOf body print → AllTell (map tell old) → MayPut clock mode objects key body (with_numbers (with_body objects id body) key 1)
+  may_put number key print body objects id now old new before begins printed all =
+      let step = put_has_step (objects.states key) mode id print body now in
       record {
         id = id;
         now = now;
         next = is_next clock mode tell files count number key objects id now old new before begins all;
         reply = step.0;
+        print = print;
+        printed = printed;
         state = step.1;
         step = step.2;
         is = inl refl;
       }
 
-  -- some drive refused the data
-  pub put_unstaged : (number : ℕ) (key body : List ℕ) (objects : Objects) (id : VersionId) (now : ℕ) (old new : List D) (turn : Turn)
+  -- too few drives took the files of the body
+  pub put_unstaged : (number : ℕ) (key print body : List ℕ) (coding : Coding body) (objects : Objects) (id : VersionId) (now : ℕ) (old new : List D) (turn : Turn)
       (left given later : Option (List ℕ)) (reads faults more : ℕ) (before after : Drawn) (bytes : List ℕ)
       → Begins clock mode tell files count number key objects id now old new before → Asks (put key body) bytes
       → ((slot : ℕ) → after slot ≡ with_drawn before (slot_of key) (before (slot_of key) + 1) slot)
-      → AtEach (λ a b. IsTrue (tell a) → (files a).loose (data_loose id) ≡ None → MayBeWritten (data_loose id) (data_name id) body (files a) (files b)) old new
-      → SomeDrive (λ a b. DriveCause (tell a) (count a) (count b)) old new → Gives unavailable_text turn given later faults more
+      → IsPrintOf body print → IsStagedAs id body coding old new → SomeDrive (λ a b. DriveCause (tell a) (count a) (count b)) old new → Gives unavailable_text turn given later faults more
       → TurnOver clock mode tell files count number bytes objects old (wires left given reads faults) turn new (wires left later reads more) after
-  put_unstaged number key body objects id now old new turn left given later reads faults more before after bytes begins asks draws writes cause gives =
+  put_unstaged number key print body coding objects id now old new turn left given later reads faults more before after bytes begins asks draws printed stages cause gives =
       answered clock mode tell files count number objects (with_numbers (with_body objects id body) key 1) old new (putting key body bytes unavailable) turn left given later reads faults more after
       (agrees_one objects key before after begins.agrees draws) (room_more number key objects id now old new before 1 (omega arith) begins)
       (λ all. ready_later files number (number + 1) (number + number + 1) (number + number + 2) (with_numbers (with_body objects id body) key 1) new (omega arith) (omega arith)
-      (staged_maybe number key body objects id now old new new before begins begins.same writes all))
+      (staged_maybe number key body coding objects id now old new new before begins begins.same stages all))
       (record {
         asks = asks;
         fits = tt;
-        serves = may_put number key body objects id now old new before begins;
+        shows = λ all. shows_only clock mode tell files count number (number + number) objects old (begins.ready all);
+        serves = may_put number key print body objects id now old new before begins printed;
         cause = cause_of_some clock mode tell files count old new begins.same cause;
         counts = counts_each clock mode tell files count old new begins.same begins.counts;
       }) gives
@@ -206,29 +220,30 @@ module _ {D : Type 0} (clock : Option ℕ) (mode : Mode) (tell : D → Bool) (fi
       (record {
         asks = asks;
         fits = tt;
-        serves = may_put number key body objects id now old new before st.begins;
+        shows = λ all. shows_only clock mode tell files count number (number + number) objects old (st.begins.ready all);
+        serves = may_put number key st.print body objects id now old new before st.begins st.printed;
         cause = cause_then number key body objects id now old mid new before staged st (look_cause clock mode tell files count number (number + number + 1) (with_numbers (with_body objects id body) key 1) key id mid new (some_mid number key body objects id now old mid new before staged st) (same_mid number key body objects id now old mid new before staged st)
             (λ all. staged_ready number key body objects id now old mid new before staged st (all_old number key body objects id now old mid new before staged st all)) (λ all. (is_next clock mode tell files count number key objects id now old new before st.begins (all_old number key body objects id now old mid new before staged st all)).fresh) looks.cause);
         counts = counts_each clock mode tell files count old new st.begins.same st.begins.counts;
       }) looks.gives
 
-  pub put_step_of : (key body : List ℕ) (objects : Objects) (id : VersionId) (now : ℕ) (mid : List D) (text gone : List ℕ) (file : Option (List ℕ))
-      (p : IsPrepared mode (put_act id body) id now (Shows tell files count mid (name_of key)) text file gone)
-      → p.state ≡ objects.states key → Step (objects.states key) mode (put_act id body) id now p.changes.reply p.changes.new
-  put_step_of key body objects id now mid text gone file p same =
-      subst (λ s. Step s mode (put_act id body) id now p.changes.reply p.changes.new) same p.changes.step
+  pub put_step_of : (key print body : List ℕ) (objects : Objects) (id : VersionId) (now : ℕ) (mid : List D) (text gone : List ℕ) (file : Option (List ℕ))
+      (p : IsPrepared mode (put_act id print body) id now (Shows tell files count mid (name_of key)) text file gone)
+      → p.state ≡ objects.states key → Step (objects.states key) mode (put_act id print body) id now p.changes.reply p.changes.new
+  put_step_of key print body objects id now mid text gone file p same =
+      subst (λ s. Step s mode (put_act id print body) id now p.changes.reply p.changes.new) same p.changes.step
 
   -- what was prepared is of the objects' state, where the drives tell
   pub put_shown : (number : ℕ) (key body : List ℕ) (objects : Objects) (id : VersionId) (now : ℕ) (old mid new : List D) (before staged : Drawn)
-      → (st : Staged number key body objects id now old mid new before staged) → (text gone : List ℕ) (file : Option (List ℕ)) (p : IsPrepared mode (put_act id body) id now (Shows tell files count mid (name_of key)) text file gone)
+      → (st : Staged number key body objects id now old mid new before staged) → (text gone : List ℕ) (file : Option (List ℕ)) (p : IsPrepared mode (put_act id st.print body) id now (Shows tell files count mid (name_of key)) text file gone)
       → AllTell (map tell old) → p.state ≡ objects.states key
   put_shown number key body objects id now old mid new before staged st text gone file p all =
       shown_is clock mode tell files count number (number + number + 1) (with_numbers (with_body objects id body) key 1) key p.state mid (some_mid number key body objects id now old mid new before staged st) (all_mid number key body objects id now old mid new before staged st all) (staged_ready number key body objects id now old mid new before staged st all) p.canonical p.shown
 
   pub put_nothing : (number : ℕ) (key body : List ℕ) (objects : Objects) (id : VersionId) (now : ℕ) (old mid new : List D) (turn : Turn)
       (left given later : Option (List ℕ)) (reads faults more : ℕ) (before staged after : Drawn) (bytes : List ℕ)
-      → Staged number key body objects id now old mid new before staged → Asks (put key body) bytes
-      → ChangesNothing tell files count mode (put_act id body) id now (name_of key) turn mid (sides given faults staged) new (sides later more after)
+      → (st : Staged number key body objects id now old mid new before staged) → Asks (put key body) bytes
+      → ChangesNothing tell files count mode (put_act id st.print body) id now (name_of key) turn mid (sides given faults staged) new (sides later more after)
       → TurnOver clock mode tell files count number bytes objects old (wires left given reads faults) turn new (wires left later reads more) after
   put_nothing number key body objects id now old mid new turn left given later reads faults more before staged after bytes st asks nothing =
       let p = nothing.prepared in
@@ -238,14 +253,17 @@ module _ {D : Type 0} (clock : Option ℕ) (mode : Mode) (tell : D → Bool) (fi
       (record {
         asks = asks;
         fits = refl;
+        shows = λ all. shows_only clock mode tell files count number (number + number) objects old (st.begins.ready all);
         serves = λ all.
             let same = put_shown number key body objects id now old mid new before staged st nothing.text nothing.gone None p all in (
               record {
                 id = id;
                 now = now;
                 next = is_next clock mode tell files count number key objects id now old new before st.begins all;
+                print = st.print;
+                printed = st.printed;
                 state = p.changes.new;
-                step = put_step_of key body objects id now mid nothing.text nothing.gone None p same;
+                step = put_step_of key st.print body objects id now mid nothing.text nothing.gone None p same;
                 is = inr (p.changes.has_file ∙ same, refl);
               },
               refl,

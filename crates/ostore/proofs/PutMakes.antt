@@ -1,6 +1,5 @@
 -- What a PUT leads to whose change is written.
 use Rattle.std.proofs.Common.{◌≡◌, ◌⊎◌, inl, inr, ℕ, ◌+◌, ◌<◌, ◌≤◌, Bool, cond, nat_eq, IsTrue, List, [], length, map, slice_index_or, Option, Some, refl, sym, ap, ◌∙◌, subst, arith}
-use Rattle.std.specs.Prelude.{All}
 use Rattle.std.specs.List.{AllByRecursion}
 use Rattle.stamp_id.specs.declared.version.VersionId.{VersionId}
 use Rattle.call_types.specs.declared.names.Mode.{Mode}
@@ -11,17 +10,18 @@ use Rattle.version_list.specs.Step.{Step}
 use Rattle.version_list.specs.Gone.{gone_ids}
 use Rattle.ostore.specs.declared.connection.Turn.{Turn}
 use Rattle.ostore.specs.Drives.{AllTell, Written, MayBeWritten, name_of, loose_name_of}
-use Rattle.ostore.specs.KeyFiles.{data_name}
+use Rattle.body_print.specs.Names.{shard_name}
+use Rattle.ostore.specs.Holders.{IsHeld}
 use Rattle.ostore.specs.Leaves.{sides, Draws, CommitLeaves, WritesInVain, Makes}
 use Rattle.ostore.specs.Objects.{Objects, Asks, put, replied, unavailable, put_act, with_numbers, with_change, with_body}
 use Rattle.ostore.specs.Session.{Gives, Agrees, wires, TurnOver}
 use Rattle.ostore.specs.Slots.{slot_of, Drawn, with_drawn}
-use Rattle.ostore.specs.Store.{Ready, IsSound, KeepsDataOf}
+use Rattle.ostore.specs.Store.{Ready, IsSound}
 use Rattle.ostore.proofs.ChangeLemmas.{is_next, apart_after}
 use Rattle.ostore.proofs.MakingLemmas.{cause_later}
 use Rattle.ostore.proofs.PutLemmas.{Staged, putting, agrees_one, room_more, staged_ready, all_mid, some_mid, same_mid, put_step_of, put_shown, put_starves, put_looks, put_nothing, twice_drawn, numbers_twice, change_twice}
-use Rattle.ostore.proofs.StandsLemmas.{all_or_not}
-use Rattle.ostore.proofs.StateLemmas.{step_keeps, step_uploads, sound_drawn_later, grows_with_drawn, with_drawn_here, put_is_sound, next_was_drawn, next_not_drawn, this_body}
+use Rattle.ostore.proofs.StandsLemmas.{all_or_not, shows_only}
+use Rattle.ostore.proofs.StateLemmas.{step_keeps, step_uploads, sound_drawn_later, grows_with_drawn, with_drawn_here, put_is_sound, next_was_drawn, this_body}
 use Rattle.ostore.proofs.StoreLemmas.{ready_written, ready_refused, ready_removed}
 use Rattle.ostore.proofs.TurnLemmas.{tells_each, counts_each, cause_of_some, answered}
 
@@ -47,7 +47,7 @@ module _ {D : Type 0} (clock : Option ℕ) (mode : Mode) (tell : D → Bool) (fi
           ∙ ap (λ n. put_there at other (with_drawn objects.drawn (slot_of key) (objects.drawn (slot_of key) + 1) at + 1) n) there
 
   put_sound : (number : ℕ) (key body : List ℕ) (objects : Objects) (id : VersionId) (now : ℕ) (old mid new : List D) (before staged : Drawn)
-      → (st : Staged clock mode tell files count number key body objects id now old mid new before staged) → (all : AllTell (map tell old)) → (reply : Reply) (state : KeyState) → Step (objects.states key) mode (put_act id body) id now reply state
+      → (st : Staged clock mode tell files count number key body objects id now old mid new before staged) → (all : AllTell (map tell old)) → (reply : Reply) (state : KeyState) → Step (objects.states key) mode (put_act id st.print body) id now reply state
       → AllByRecursion (IsSound (with_drawn (with_numbers (with_body objects id body) key 1).drawn (slot_of key) ((with_numbers (with_body objects id body) key 1).drawn (slot_of key) + 1)) (staged_ready clock mode tell files count number key body objects id now old mid new before staged st all).owner (with_numbers (with_body objects id body) key 1).bodies key) state.versions
   put_sound number key body objects id now old mid new before staged st all reply state step =
       let r = st.begins.ready all in
@@ -56,19 +56,17 @@ module _ {D : Type 0} (clock : Option ℕ) (mode : Mode) (tell : D → Bool) (fi
       let later2 = with_drawn drawn1 (slot_of key) (drawn1 (slot_of key) + 1) in
       let one : drawn1 (slot_of key) ≡ objects.drawn (slot_of key) + 1 = with_drawn_here objects.drawn (slot_of key) (objects.drawn (slot_of key) + 1) in
       let here : later2 (slot_of key) ≡ drawn1 (slot_of key) + 1 = with_drawn_here drawn1 (slot_of key) (drawn1 (slot_of key) + 1) in
-      step_keeps (IsSound later2 r1.owner (with_numbers (with_body objects id body) key 1).bodies key) (objects.states key) state mode id body now reply step
+      step_keeps (IsSound later2 r1.owner (with_numbers (with_body objects id body) key 1).bodies key) (objects.states key) state mode id st.print body now reply step
       (sound_drawn_later drawn1 later2 r1.owner (with_numbers (with_body objects id body) key 1).bodies key (objects.states key).versions (grows_with_drawn drawn1 (slot_of key) (drawn1 (slot_of key) + 1) (omega arith)) (r1.sound.versions key))
-      (put_is_sound later2 r.owner objects.bodies key mode id body now (next_was_drawn objects.drawn later2 (slot_of key) id st.begins.next (omega arith)))
+      (put_is_sound later2 r.owner objects.bodies key mode id st.print body now (next_was_drawn objects.drawn later2 (slot_of key) id st.begins.next (omega arith)) st.printed st.small)
 
   put_datas : (number : ℕ) (key body : List ℕ) (objects : Objects) (id : VersionId) (now : ℕ) (old mid new : List D) (before staged : Drawn)
-      → (st : Staged clock mode tell files count number key body objects id now old mid new before staged) → (all : AllTell (map tell old)) → (reply : Reply) (state : KeyState) → Step (objects.states key) mode (put_act id body) id now reply state
-      → All (λ d. AllByRecursion (λ v. KeepsDataOf (with_numbers (with_body objects id body) key 1).bodies (files d) v.what) state.versions) mid
-  put_datas number key body objects id now old mid new before staged st all reply state step k d lt =
-      let within : k < length old = (let n : length mid ≡ length old = st.length_mid in omega arith) in
-      let written = st.writes k d within (tells_each clock mode tell files count old all k d within) (((st.begins.ready all).every k d within).unused.datas id (next_not_drawn objects.drawn (slot_of key) id st.begins.next)) in
-      step_keeps (λ v. KeepsDataOf (with_numbers (with_body objects id body) key 1).bodies (files (slice_index_or mid k d)) v.what) (objects.states key) state mode id body now reply step
-      (((staged_ready clock mode tell files count number key body objects id now old mid new before staged st all).every k d lt).datas key)
-      (ap (λ f. f (data_name id)) written.kept ∙ this_body (files (slice_index_or old k d)).kept (data_name id) (Some body) ∙ sym (this_body objects.bodies (data_name id) (Some body)))
+      → (st : Staged clock mode tell files count number key body objects id now old mid new before staged) → (all : AllTell (map tell old)) → (reply : Reply) (state : KeyState) → Step (objects.states key) mode (put_act id st.print body) id now reply state
+      → AllByRecursion (λ v. IsHeld files (with_numbers (with_body objects id body) key 1).bodies mid v.what) state.versions
+  put_datas number key body objects id now old mid new before staged st all reply state step =
+      step_keeps (λ v. IsHeld files (with_numbers (with_body objects id body) key 1).bodies mid v.what) (objects.states key) state mode id st.print body now reply step
+      ((staged_ready clock mode tell files count number key body objects id now old mid new before staged st all).datas key)
+      (body, this_body objects.bodies (shard_name id) (Some body), st.holders all)
 
   drawn_of : (objects after : Objects) (key : List ℕ) (state : KeyState) → (after ≡ with_numbers objects key 2) ⊎ (after ≡ with_change objects key state 2)
       → after.drawn ≡ with_drawn objects.drawn (slot_of key) (objects.drawn (slot_of key) + 2)
@@ -85,7 +83,7 @@ module _ {D : Type 0} (clock : Option ℕ) (mode : Mode) (tell : D → Bool) (fi
   refused_so : (number : ℕ) (key body : List ℕ) (objects : Objects) (id : VersionId) (now : ℕ) (old mid new : List D) (turn : Turn)
       (left given later : Option (List ℕ)) (reads faults more : ℕ) (before staged after : Drawn) (bytes : List ℕ)
       → (st : Staged clock mode tell files count number key body objects id now old mid new before staged) → Asks (put key body) bytes
-      → (vain : WritesInVain tell files count mode (put_act id body) id now (slot_of key) 1 (loose_name_of number) (name_of key) turn mid (sides given faults staged) new (sides later more after))
+      → (vain : WritesInVain tell files count mode (put_act id st.print body) id now (slot_of key) 1 (loose_name_of number) (name_of key) turn mid (sides given faults staged) new (sides later more after))
       → (objects_after : Objects) → (objects_after ≡ with_numbers (with_body objects id body) key 2) ⊎ (objects_after ≡ with_change (with_body objects id body) key vain.prepared.changes.new 2)
       → (AllTell (map tell old) → Ready files (number + 1) (number + number + 2) objects_after new)
       → TurnOver clock mode tell files count number bytes objects old (wires left given reads faults) turn new (wires left later reads more) after
@@ -99,6 +97,7 @@ module _ {D : Type 0} (clock : Option ℕ) (mode : Mode) (tell : D → Bool) (fi
       (record {
         asks = asks;
         fits = tt;
+        shows = λ all. shows_only clock mode tell files count number (number + number) objects old (st.begins.ready all);
         serves = λ all.
             let same = put_shown clock mode tell files count number key body objects id now old mid new before staged st vain.text vain.gone (Some vain.file) p all in
             record {
@@ -106,8 +105,10 @@ module _ {D : Type 0} (clock : Option ℕ) (mode : Mode) (tell : D → Bool) (fi
               now = now;
               next = is_next clock mode tell files count number key objects id now old new before st.begins all;
               reply = p.changes.reply;
+              print = st.print;
+              printed = st.printed;
               state = p.changes.new;
-              step = put_step_of clock mode tell files count key body objects id now mid vain.text vain.gone (Some vain.file) p same;
+              step = put_step_of clock mode tell files count key st.print body objects id now mid vain.text vain.gone (Some vain.file) p same;
               is = inr is;
             };
         cause = cause_of_some clock mode tell files count old new st.begins.same (cause_later tell files count old mid new st.length_mid st.tells_mid st.counts_mid vain.cause);
@@ -116,17 +117,17 @@ module _ {D : Type 0} (clock : Option ℕ) (mode : Mode) (tell : D → Bool) (fi
 
   put_refused_write : (number : ℕ) (key body : List ℕ) (objects : Objects) (id : VersionId) (now : ℕ) (old mid new : List D) (turn : Turn)
       (left given later : Option (List ℕ)) (reads faults more : ℕ) (before staged after : Drawn) (bytes : List ℕ)
-      → Staged clock mode tell files count number key body objects id now old mid new before staged → Asks (put key body) bytes
-      → WritesInVain tell files count mode (put_act id body) id now (slot_of key) 1 (loose_name_of number) (name_of key) turn mid (sides given faults staged) new (sides later more after)
+      → (st : Staged clock mode tell files count number key body objects id now old mid new before staged) → Asks (put key body) bytes
+      → WritesInVain tell files count mode (put_act id st.print body) id now (slot_of key) 1 (loose_name_of number) (name_of key) turn mid (sides given faults staged) new (sides later more after)
       → TurnOver clock mode tell files count number bytes objects old (wires left given reads faults) turn new (wires left later reads more) after
   put_refused_write number key body objects id now old mid new turn left given later reads faults more before staged after bytes st asks vain = elim (all_or_not (map tell old)) [
     | inl all ↦
         let p = vain.prepared in
         let r = staged_ready clock mode tell files count number key body objects id now old mid new before staged st all in
         let same = put_shown clock mode tell files count number key body objects id now old mid new before staged st vain.text vain.gone (Some vain.file) p all in
-        let step = put_step_of clock mode tell files count key body objects id now mid vain.text vain.gone (Some vain.file) p same in
+        let step = put_step_of clock mode tell files count key st.print body objects id now mid vain.text vain.gone (Some vain.file) p same in
         let found = ready_refused files number (number + number + 1) 1 (with_numbers (with_body objects id body) key 1) key p.changes.new mid new st.begins.few (some_mid clock mode tell files count number key body objects id now old mid new before staged st) (same_mid clock mode tell files count number key body objects id now old mid new before staged st) r
-        p.changes.has_file.1 (step_uploads (objects.states key) p.changes.new mode id body now p.changes.reply step ∙ r.sound.no_uploads key)
+        p.changes.has_file.1 (step_uploads (objects.states key) p.changes.new mode id st.print body now p.changes.reply step ∙ r.sound.no_uploads key)
         (put_sound number key body objects id now old mid new before staged st all p.changes.reply p.changes.new step) (put_datas number key body objects id now old mid new before staged st all p.changes.reply p.changes.new step)
         (λ k d lt. subst (λ f. MayBeWritten (loose_name_of number) (name_of key) f (files (slice_index_or mid k d)) (files (slice_index_or new k d))) p.changes.has_file.3
         (vain.writes k d lt (tells_each clock mode tell files count mid (all_mid clock mode tell files count number key body objects id now old mid new before staged st all) k d lt) ((r.every k d lt).unused.writes number (omega arith) st.begins.few))) in
@@ -137,7 +138,7 @@ module _ {D : Type 0} (clock : Option ℕ) (mode : Mode) (tell : D → Bool) (fi
   put_makes : (number : ℕ) (key body : List ℕ) (objects : Objects) (id : VersionId) (now : ℕ) (old mid new : List D) (turn : Turn)
       (left given later : Option (List ℕ)) (reads faults more : ℕ) (before staged after : Drawn) (bytes : List ℕ)
       → (st : Staged clock mode tell files count number key body objects id now old mid new before staged) → Asks (put key body) bytes
-      → Makes tell files count mode (put_act id body) id now (slot_of key) 1 (loose_name_of number) (name_of key) turn mid (sides given faults staged) new (sides later more after)
+      → Makes tell files count mode (put_act id st.print body) id now (slot_of key) 1 (loose_name_of number) (name_of key) turn mid (sides given faults staged) new (sides later more after)
       → TurnOver clock mode tell files count number bytes objects old (wires left given reads faults) turn new (wires left later reads more) after
   put_makes number key body objects id now old mid new turn left given later reads faults more before staged after bytes st asks makes =
       let p = makes.prepared in
@@ -147,9 +148,9 @@ module _ {D : Type 0} (clock : Option ℕ) (mode : Mode) (tell : D → Bool) (fi
       (λ all.
       let r = staged_ready clock mode tell files count number key body objects id now old mid new before staged st all in
       let same = put_shown clock mode tell files count number key body objects id now old mid new before staged st makes.text makes.gone (Some makes.file) p all in
-      let step = put_step_of clock mode tell files count key body objects id now mid makes.text makes.gone (Some makes.file) p same in
+      let step = put_step_of clock mode tell files count key st.print body objects id now mid makes.text makes.gone (Some makes.file) p same in
       let ready = ready_written files number (number + number + 1) 1 (with_numbers (with_body objects id body) key 1) key p.changes.new mid w.mid st.begins.few (some_mid clock mode tell files count number key body objects id now old mid new before staged st) w.same r
-      p.changes.has_file.1 (step_uploads (objects.states key) p.changes.new mode id body now p.changes.reply step ∙ r.sound.no_uploads key)
+      p.changes.has_file.1 (step_uploads (objects.states key) p.changes.new mode id st.print body now p.changes.reply step ∙ r.sound.no_uploads key)
       (put_sound number key body objects id now old mid new before staged st all p.changes.reply p.changes.new step) (put_datas number key body objects id now old mid new before staged st all p.changes.reply p.changes.new step)
       (λ k d lt. subst (λ f. Written (loose_name_of number) (name_of key) f (files (slice_index_or mid k d)) (files (slice_index_or w.mid k d))) p.changes.has_file.3
       (w.writes k d lt (tells_each clock mode tell files count mid (all_mid clock mode tell files count number key body objects id now old mid new before staged st all) k d lt) ((r.every k d lt).unused.writes number (omega arith) st.begins.few))) in
@@ -164,14 +165,17 @@ module _ {D : Type 0} (clock : Option ℕ) (mode : Mode) (tell : D → Bool) (fi
       (record {
         asks = asks;
         fits = refl;
+        shows = λ all. shows_only clock mode tell files count number (number + number) objects old (st.begins.ready all);
         serves = λ all.
             let same = put_shown clock mode tell files count number key body objects id now old mid new before staged st makes.text makes.gone (Some makes.file) p all in (
               record {
                 id = id;
                 now = now;
                 next = is_next clock mode tell files count number key objects id now old new before st.begins all;
+                print = st.print;
+                printed = st.printed;
                 state = p.changes.new;
-                step = put_step_of clock mode tell files count key body objects id now mid makes.text makes.gone (Some makes.file) p same;
+                step = put_step_of clock mode tell files count key st.print body objects id now mid makes.text makes.gone (Some makes.file) p same;
                 is = inl (p.changes.has_file.0, refl);
               },
               refl,
@@ -182,8 +186,8 @@ module _ {D : Type 0} (clock : Option ℕ) (mode : Mode) (tell : D → Bool) (fi
 
   pub put_turn : (number : ℕ) (key body : List ℕ) (objects : Objects) (id : VersionId) (now : ℕ) (old mid new : List D) (turn : Turn)
       (left given later : Option (List ℕ)) (reads faults more : ℕ) (before staged after : Drawn) (bytes : List ℕ)
-      → Staged clock mode tell files count number key body objects id now old mid new before staged → Asks (put key body) bytes
-      → CommitLeaves tell files count mode (put_act id body) id now (slot_of key) 1 (loose_name_of number) (name_of key) turn mid (sides given faults staged) new (sides later more after)
+      → (st : Staged clock mode tell files count number key body objects id now old mid new before staged) → Asks (put key body) bytes
+      → CommitLeaves tell files count mode (put_act id st.print body) id now (slot_of key) 1 (loose_name_of number) (name_of key) turn mid (sides given faults staged) new (sides later more after)
       → TurnOver clock mode tell files count number bytes objects old (wires left given reads faults) turn new (wires left later reads more) after
   put_turn number key body objects id now old mid new turn left given later reads faults more before staged after bytes st asks (inl starves) = put_starves clock mode tell files count number key body objects id now old mid new turn left given later reads faults more before staged after bytes st asks starves
   put_turn number key body objects id now old mid new turn left given later reads faults more before staged after bytes st asks (inr (inl looks)) = put_looks clock mode tell files count number key body objects id now old mid new turn left given later reads faults more before staged after bytes st asks looks

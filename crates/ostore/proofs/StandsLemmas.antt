@@ -9,10 +9,13 @@ use Rattle.version_list.specs.State.{IsCanonical}
 use Rattle.version_list.specs.Naming.{has_id}
 use Rattle.version_list.specs.Spelling.{spelling}
 use Rattle.version_list.proofs.LawProofs.{injective}
-use Rattle.ostore.specs.Drives.{AllTell, SomeDrive, DriveCause, DrivesCause, name_of}
+use Rattle.std.proofs.lemmas.List.{get_or-map, length-map}
+use Rattle.ostore.specs.Drives.{AllTell, SomeDrive, DriveCause, DrivesCause, DriveView, views_of, name_of}
+use Rattle.ostore.specs.Holders.{HasOnly}
 use Rattle.ostore.specs.KeyFiles.{StandsFor, KeyCause, key_kind}
 use Rattle.ostore.specs.Leaves.{Shows, LookCause}
 use Rattle.ostore.specs.Objects.{Objects}
+use Rattle.ostore.specs.Session.{ShowOnly}
 use Rattle.ostore.specs.Store.{Ready}
 use Rattle.ostore.proofs.TurnLemmas.{tells_each, cause_of_some}
 
@@ -40,6 +43,10 @@ module _ {D : Type 0} (clock : Option ℕ) (mode : Mode) (tell : D → Bool) (fi
   first_drive [] some = absurd (omega arith)
   first_drive (d ∷ drives) some = d
 
+  some_drive : (drives : List D) (k : ℕ) → k < length drives → D
+  some_drive [] k lt = absurd (omega arith)
+  some_drive (d ∷ drives) k lt = d
+
   -- the state that drive 0 shows is the objects'
   pub shown_is : (number most : ℕ) (objects : Objects) (key : List ℕ) (state : KeyState) (old : List D) → 0 < length old → AllTell (map tell old)
       → Ready files number most objects old → IsCanonical state → Shows tell files count old (name_of key) state → state ≡ objects.states key
@@ -48,6 +55,15 @@ module _ {D : Type 0} (clock : Option ℕ) (mode : Mode) (tell : D → Bool) (fi
       let here : StandsFor ((files (slice_index_or old 0 d)).kept (name_of key)) state =
       subst (λ f. StandsFor (f (name_of key)) state) (ready.every 0 d some).shows (shows d (tells_each clock mode tell files count old all 0 d some)) in
       stands_one ((files (slice_index_or old 0 d)).kept (name_of key)) state (objects.states key) canonical (ready.sound.canonical key) here (ready.first d key)
+
+  -- under the names of data the drives show nothing but files of bodies that were brought
+  pub shows_only : (number most : ℕ) (objects : Objects) (drives : List D) → Ready files number most objects drives → ShowOnly objects (views_of tell files drives)
+  shows_only number most objects drives ready k d lt id =
+      let within : k < length drives = subst (λ n. k < n) (length-map drives (λ (x : D). record { tells = tell x; files = files x })) lt in
+      let c = some_drive drives k within in
+      let keeps = ready.every k c within in
+      subst (λ (v : DriveView). HasOnly objects.bodies k id v.files.shown) (sym (get_or-map (λ (x : D). record { tells = tell x; files = files x }) drives k c d within))
+      (subst (HasOnly objects.bodies k id) (sym keeps.shows) (keeps.datas id))
 
   -- a drive that keeps some state under each key's name has no other cause than its count
   state_stands : (number most : ℕ) (objects : Objects) (key : List ℕ) (old new : List D) (k : ℕ) (d : D) → k < length old → Ready files number most objects old

@@ -1,12 +1,11 @@
 -- What steps, reads and draws keep of a key's versions.
 use Rattle.std.proofs.Common.{◌≡◌, ◌≢◌, ◌⊎◌, inl, inr, ◌+◌, ◌≤◌, ◌<◌, ℕ, zero, suc, Bool, true, false, not, cond, ◌||◌, filter, nat_eq, length, List, [], ◌∷◌, Option, Some, None, Result, Ok, Err, refl, sym, ap, ◌∙◌, subst, arith}
-use Rattle.std.specs.Prelude.{MatchBool, MatchOption, slice_get, position, map, bytes_eq, if◌then◌else◌, ⊤}
-use Rattle.std.specs.List.{AllByRecursion, list_any, filter_map, cons_option}
+use Rattle.std.specs.Prelude.{MatchBool, MatchOption, slice_get, position, bytes_eq, if◌then◌else◌}
+use Rattle.std.specs.List.{AllByRecursion, list_any}
 use Rattle.std.proofs.lemmas.Bool.{eqb-true, eq-eqb}
 use Rattle.std.proofs.lemmas.Bool.Decides.{nat_tests}
 use Rattle.std.proofs.lemmas.Map.{update_same, update_other}
 use Rattle.std.proofs.lemmas.Slice.Eq.{bytes_eq-Decides}
-use Rattle.sha2.specs.Sha256.{sha256}
 use Rattle.md5.specs.Md5.{md5}
 use Rattle.stamp_id.specs.declared.version.VersionId.{VersionId}
 use Rattle.call_types.specs.declared.names.Mode.{Mode}
@@ -28,14 +27,13 @@ use Rattle.version_list.specs.declared.state.KeyState.{KeyState}
 use Rattle.version_list.specs.Naming.{same_id, same_name, has_name, has_id, is_upload, is_named, kept, is_marker}
 use Rattle.version_list.specs.Step.{Step, AddsVersion, new_name, replaced, told}
 use Rattle.version_list.specs.Answers.{IsServed}
-use Rattle.version_list.specs.Gone.{data_of, is_data, has_data, gone_ids}
 use Rattle.version_list.proofs.Distinct.{each_item}
-use Rattle.version_list.proofs.NamingLemmas.{same_id-refl}
 use Rattle.version_list.specs.Reads.{Reads, ReadsAt, ReadsNamed}
-use Rattle.ostore.specs.KeyFiles.{data_name}
+use Rattle.body_print.specs.Names.{shard_name}
+use Rattle.ostore.specs.Holders.{IsPrintOf}
 use Rattle.ostore.specs.Slots.{slot_of, Drawn, with_drawn, IsIdOf, WasDrawn}
 use Rattle.ostore.specs.Objects.{put_act, usual_kind, HasBody}
-use Rattle.ostore.proofs.DataNames.{data_names_differ}
+use Rattle.ostore.proofs.DataNames.{shard_names_differ}
 use Rattle.ostore.specs.Store.{IsDrawnName, HasDataOf, IsSound}
 
 -- ---- lists
@@ -80,9 +78,9 @@ next_is_fresh-sound drawn owner bodies key id state next none all =
 
 -- ---- steps
 
--- the version that a PUT of this body makes
-abbrev pub put_version : Mode → VersionId → List ℕ → ℕ → Version
-put_version mode id body now = record { id = new_name mode id; modified = now; what = Object id (sha256 body) (length body) (md5 body) 0 None usual_kind }
+-- the version that a PUT of this body makes, where it has this print
+abbrev pub put_version : Mode → VersionId → List ℕ → List ℕ → ℕ → Version
+put_version mode id print body now = record { id = new_name mode id; modified = now; what = Object id print (length body) (md5 body) 0 None usual_kind }
 
 -- the marker that a DELETE makes
 abbrev pub marker_version : Mode → VersionId → ℕ → Version
@@ -117,37 +115,37 @@ AddsVersion-uploads old new mode v done reply (inr (room, (is, made))) = ap (λ 
 
 -- what holds of the old versions and of the new one holds after a PUT
 pub step_keeps :
-    (P : Version → Type 0) (old new : KeyState) (mode : Mode) (id : VersionId) (body : List ℕ) (now : ℕ) (reply : Reply)
-    → Step old mode (put_act id body) id now reply new
-    → AllByRecursion P old.versions → P (put_version mode id body now) → AllByRecursion P new.versions
-step_keeps P old new mode id body now reply step all one =
-    AddsVersion-keeps P old new mode (put_version mode id body now) (Stored (record { md5 = md5 body; parts = 0 }) (told mode (new_name mode id))) reply step all one
+    (P : Version → Type 0) (old new : KeyState) (mode : Mode) (id : VersionId) (print body : List ℕ) (now : ℕ) (reply : Reply)
+    → Step old mode (put_act id print body) id now reply new
+    → AllByRecursion P old.versions → P (put_version mode id print body now) → AllByRecursion P new.versions
+step_keeps P old new mode id print body now reply step all one =
+    AddsVersion-keeps P old new mode (put_version mode id print body now) (Stored (record { md5 = md5 body; parts = 0 }) (told mode (new_name mode id))) reply step all one
 
 pub step_uploads :
-    (old new : KeyState) (mode : Mode) (id : VersionId) (body : List ℕ) (now : ℕ) (reply : Reply)
-    → Step old mode (put_act id body) id now reply new → new.uploads ≡ old.uploads
-step_uploads old new mode id body now reply step =
-    AddsVersion-uploads old new mode (put_version mode id body now) (Stored (record { md5 = md5 body; parts = 0 }) (told mode (new_name mode id))) reply step
+    (old new : KeyState) (mode : Mode) (id : VersionId) (print body : List ℕ) (now : ℕ) (reply : Reply)
+    → Step old mode (put_act id print body) id now reply new → new.uploads ≡ old.uploads
+step_uploads old new mode id print body now reply step =
+    AddsVersion-uploads old new mode (put_version mode id print body now) (Stored (record { md5 = md5 body; parts = 0 }) (told mode (new_name mode id))) reply step
 
 -- a PUT is served and its version is in front, or it is refused and the state stays
 pub put_cases :
-    (old new : KeyState) (mode : Mode) (id : VersionId) (body : List ℕ) (now : ℕ) (reply : Reply)
-    → Step old mode (put_act id body) id now reply new
-    → ((IsServed reply) × (new ≡ with_front old mode (put_version mode id body now))) ⊎ ((IsServed reply → ⊥) × (new ≡ old))
-put_cases old new mode id body now reply (inl (full, (refused, same))) = inr (λ served. subst IsServed refused served, same)
-put_cases old new mode id body now reply (inr (room, (is, made))) = inl (subst IsServed (sym is) tt, made)
+    (old new : KeyState) (mode : Mode) (id : VersionId) (print body : List ℕ) (now : ℕ) (reply : Reply)
+    → Step old mode (put_act id print body) id now reply new
+    → ((IsServed reply) × (new ≡ with_front old mode (put_version mode id print body now))) ⊎ ((IsServed reply → ⊥) × (new ≡ old))
+put_cases old new mode id print body now reply (inl (full, (refused, same))) = inr (λ served. subst IsServed refused served, same)
+put_cases old new mode id print body now reply (inr (room, (is, made))) = inl (subst IsServed (sym is) tt, made)
 
 pub put_served :
-    (old new : KeyState) (mode : Mode) (id : VersionId) (body : List ℕ) (now : ℕ) (reply : Reply)
-    → Step old mode (put_act id body) id now reply new → IsServed reply → new ≡ with_front old mode (put_version mode id body now)
-put_served old new mode id body now reply (inl (full, (refused, same))) served = absurd (subst IsServed refused served)
-put_served old new mode id body now reply (inr (room, (is, made))) served = made
+    (old new : KeyState) (mode : Mode) (id : VersionId) (print body : List ℕ) (now : ℕ) (reply : Reply)
+    → Step old mode (put_act id print body) id now reply new → IsServed reply → new ≡ with_front old mode (put_version mode id print body now)
+put_served old new mode id print body now reply (inl (full, (refused, same))) served = absurd (subst IsServed refused served)
+put_served old new mode id print body now reply (inr (room, (is, made))) served = made
 
 pub put_refused :
-    (old new : KeyState) (mode : Mode) (id : VersionId) (body : List ℕ) (now : ℕ) (reply : Reply)
-    → Step old mode (put_act id body) id now reply new → (IsServed reply → ⊥) → new ≡ old
-put_refused old new mode id body now reply (inl (full, (refused, same))) not_served = same
-put_refused old new mode id body now reply (inr (room, (is, made))) not_served = absurd (not_served (subst IsServed (sym is) tt))
+    (old new : KeyState) (mode : Mode) (id : VersionId) (print body : List ℕ) (now : ℕ) (reply : Reply)
+    → Step old mode (put_act id print body) id now reply new → (IsServed reply → ⊥) → new ≡ old
+put_refused old new mode id print body now reply (inl (full, (refused, same))) not_served = same
+put_refused old new mode id print body now reply (inr (room, (is, made))) not_served = absurd (not_served (subst IsServed (sym is) tt))
 
 removed : (P : Version → Type 0) (old new : KeyState) (name : VersionName) → new ≡ record { versions = kept (Some name) old.versions; uploads = old.uploads } → AllByRecursion P old.versions → AllByRecursion P new.versions
 removed P old new name made all = subst (λ (s : KeyState). AllByRecursion P s.versions) (sym made) (kept_keeps P (Some name) old.versions all)
@@ -233,148 +231,6 @@ pub object_has_body :
 object_has_body drawn owner bodies key Marker marker has = absurd cc
 object_has_body drawn owner bodies key (Object data_id print size md5 parts upload kind) marker has = (has.body, has.is)
 
--- ---- data that is gone
-
--- a fact of the data of a version; a marker has none
-abbrev pub OnData : (VersionId → Type 0) → What → Type 0
-OnData F Marker = ⊤
-OnData F (Object data_id print size md5 parts upload kind) = F data_id
-
--- the names of data
-abbrev pub data_names : List VersionId → List (List ℕ)
-data_names ids = map data_name ids
-
--- the data isn't among these names
-abbrev pub IsNotAmong : List (List ℕ) → VersionId → Type 0
-IsNotAmong names id = list_any (λ n. bytes_eq n (data_name id)) names ≡ false
-
--- a weaker fact of the data
-pub on_data : (F G : VersionId → Type 0) → ((id : VersionId) → F id → G id) → (what : What) → OnData F what → OnData G what
-on_data F G f Marker has = tt
-on_data F G f (Object data_id print size md5 parts upload kind) has = f data_id has
-
-data_once : (F : VersionId → Type 0) (what : What) (rest : List VersionId) → OnData F what → AllByRecursion F rest → AllByRecursion F (cons_option (data_of what) rest)
-data_once F Marker rest has all = all
-data_once F (Object data_id print size md5 parts upload kind) rest has all = (has, all)
-
-each_data : (F : VersionId → Type 0) (versions : List Version) → AllByRecursion (λ v. OnData F v.what) versions → AllByRecursion F (filter_map (λ v. data_of v.what) versions)
-each_data F [] all = tt
-each_data F (v ∷ versions) all = data_once F v.what (filter_map (λ v. data_of v.what) versions) all.0 (each_data F versions all.1)
-
--- the data that is gone is that of old versions
-pub gone_from_old : (F : VersionId → Type 0) (old new : List Version) → AllByRecursion (λ v. OnData F v.what) old → AllByRecursion F (gone_ids old new)
-gone_from_old F old new all =
-    each_passed F (λ id. not (list_any (has_data id) new)) (filter_map (λ v. data_of v.what) old) (each_data F old all)
-
--- the items that pass a test pass it
-passes : {A : Type 0} (p : A → Bool) (xs : List A) → AllByRecursion (λ x. p x ≡ true) (filter p xs)
-passes p [] = tt
-passes p (x ∷ xs) = step (p x) refl (passes p xs)
-  where
-    step : (b : Bool) → p x ≡ b → AllByRecursion (λ x. p x ≡ true) (filter p xs) → AllByRecursion (λ x. p x ≡ true) (cond b (x ∷ filter p xs) (filter p xs))
-    step true h rest = (h, rest)
-    step false h rest = rest
-
-not_true : (b : Bool) → not b ≡ true → b ≡ false
-not_true true h = absurd cc
-not_true false h = refl
-
-left_false : (a b : Bool) → (a || b) ≡ false → a ≡ false
-left_false true b h = absurd cc
-left_false false b h = refl
-
-right_false : (a b : Bool) → (a || b) ≡ false → b ≡ false
-right_false true b h = absurd cc
-right_false false b h = h
-
-not_the_data :
-    (what : What) (gone : List VersionId) → AllByRecursion (λ g. is_data g what ≡ false) gone
-    → OnData (λ d. AllByRecursion (λ g. same_id d g ≡ false) gone) what
-not_the_data Marker gone all = tt
-not_the_data (Object data_id print size md5 parts upload kind) gone all = all
-
-not_among_new :
-    (gone : List VersionId) (new : List Version) → AllByRecursion (λ g. list_any (has_data g) new ≡ false) gone
-    → AllByRecursion (λ v. OnData (λ d. AllByRecursion (λ g. same_id d g ≡ false) gone) v.what) new
-not_among_new gone [] all = tt
-not_among_new gone (v ∷ new) all = (
-  not_the_data v.what gone
-      (each_item (λ g. list_any (has_data g) (v ∷ new) ≡ false) (λ g. is_data g v.what ≡ false) (λ g h. left_false (is_data g v.what) (list_any (has_data g) new) h) gone all),
-  not_among_new gone new
-      (each_item (λ g. list_any (has_data g) (v ∷ new) ≡ false) (λ g. list_any (has_data g) new ≡ false) (λ g h. right_false (is_data g v.what) (list_any (has_data g) new) h) gone all),
-)
-
--- no new version has data that is gone
-pub gone_not_new : (old new : List Version) → AllByRecursion (λ v. OnData (λ d. AllByRecursion (λ g. same_id d g ≡ false) (gone_ids old new)) v.what) new
-gone_not_new old new =
-    not_among_new (gone_ids old new) new
-    (each_item (λ g. not (list_any (has_data g) new) ≡ true) (λ g. list_any (has_data g) new ≡ false) (λ g h. not_true (list_any (has_data g) new) h)
-    (gone_ids old new) (passes (λ id. not (list_any (has_data id) new)) (filter_map (λ v. data_of v.what) old)))
-
--- two ids with different data
-pub ids_differ : (d g : VersionId) → same_id d g ≡ false → g ≢ d
-ids_differ d g apart e =
-    let own : same_id d g ≡ true = subst (λ (x : VersionId). same_id d x ≡ true) (sym e) (same_id-refl d) in
-    absurd cc
-
-none_among : (d : VersionId) (gone : List VersionId) → AllByRecursion (λ g. bytes_eq (data_name g) (data_name d) ≡ false) gone → IsNotAmong (data_names gone) d
-none_among d [] all = refl
-none_among d (g ∷ gone) all = ap (λ (b : Bool). b || list_any (λ n. bytes_eq n (data_name d)) (data_names gone)) all.0 ∙ none_among d gone all.1
-
--- the data of each new version isn't among the names of what is gone
-pub gone_names_not_new : (old new : List Version) → AllByRecursion (λ v. OnData (IsNotAmong (data_names (gone_ids old new))) v.what) new
-gone_names_not_new old new =
-    let gone = gone_ids old new in
-    let Apart : VersionId → VersionId → Type 0 = λ d g. same_id d g ≡ false in
-    each_item (λ v. OnData (λ d. AllByRecursion (Apart d) gone) v.what) (λ v. OnData (IsNotAmong (data_names gone)) v.what)
-    (λ v. on_data (λ d. AllByRecursion (Apart d) gone) (IsNotAmong (data_names gone))
-    (λ d all. none_among d gone (each_item (Apart d) (λ g. bytes_eq (data_name g) (data_name d) ≡ false) (λ g h. data_names_differ g d (ids_differ d g h)) gone all)) v.what)
-    new (gone_not_new old new)
-
--- data of another owner has another name
-owners_apart :
-    (owner : List ℕ → List ℕ) (key other a b : List ℕ) → owner a ≡ key → owner b ≡ other → bytes_eq key other ≡ false → bytes_eq a b ≡ false
-owners_apart owner key other a b owned owned_other apart = step (bytes_eq a b) refl
-  where
-    step : (t : Bool) → bytes_eq a b ≡ t → bytes_eq a b ≡ false
-    step true h =
-        let e : a ≡ b = (bytes_eq-Decides a b).0 h in
-        let same : bytes_eq key other ≡ true = (bytes_eq-Decides key other).1 (sym owned ∙ ap owner e ∙ owned_other) in
-        absurd cc
-    step false h = h
-
--- the data of another key isn't among the names of this one's
-pub other_key_not_among :
-    (owner : List ℕ → List ℕ) (key other : List ℕ) (gone : List VersionId) (d : VersionId)
-    → AllByRecursion (λ g. owner (data_name g) ≡ key) gone → owner (data_name d) ≡ other → bytes_eq key other ≡ false → IsNotAmong (data_names gone) d
-other_key_not_among owner key other gone d all owned apart =
-    none_among d gone
-    (each_item (λ g. owner (data_name g) ≡ key) (λ g. bytes_eq (data_name g) (data_name d) ≡ false)
-    (λ g h. owners_apart owner key other (data_name g) (data_name d) h owned apart) gone all)
-
-owned_data : (drawn : Drawn) (owner : List ℕ → List ℕ) (bodies : Named (List ℕ)) (key : List ℕ) (what : What) → HasDataOf drawn owner bodies key what → OnData (λ d. owner (data_name d) ≡ key) what
-owned_data drawn owner bodies key Marker has = tt
-owned_data drawn owner bodies key (Object data_id print size md5 parts upload kind) has = has.owned
-
--- the data of a key's sound versions is its own
-pub each_owned :
-    (drawn : Drawn) (owner : List ℕ → List ℕ) (bodies : Named (List ℕ)) (key : List ℕ) (versions : List Version)
-    → AllByRecursion (IsSound drawn owner bodies key) versions → AllByRecursion (λ v. OnData (λ d. owner (data_name d) ≡ key) v.what) versions
-each_owned drawn owner bodies key versions all =
-    each_item (IsSound drawn owner bodies key) (λ v. OnData (λ d. owner (data_name d) ≡ key) v.what) (λ v sound. owned_data drawn owner bodies key v.what sound.data) versions all
-
--- the data of another key's versions isn't among the names of what is gone of this one
-pub gone_names_not_other :
-    (drawn : Drawn) (owner : List ℕ → List ℕ) (bodies : Named (List ℕ)) (key other : List ℕ) (old new versions : List Version)
-    → AllByRecursion (IsSound drawn owner bodies key) old → AllByRecursion (IsSound drawn owner bodies other) versions → bytes_eq key other ≡ false
-    → AllByRecursion (λ v. OnData (IsNotAmong (data_names (gone_ids old new))) v.what) versions
-gone_names_not_other drawn owner bodies key other old new versions sound sound_other apart =
-    let gone = gone_ids old new in
-    let owned = gone_from_old (λ d. owner (data_name d) ≡ key) old new (each_owned drawn owner bodies key old sound) in
-    each_item (λ v. OnData (λ d. owner (data_name d) ≡ other) v.what) (λ v. OnData (IsNotAmong (data_names gone)) v.what)
-    (λ v. on_data (λ d. owner (data_name d) ≡ other) (IsNotAmong (data_names gone)) (λ d h. other_key_not_among owner key other gone d owned h apart) v.what)
-    versions (each_owned drawn owner bodies other versions sound_other)
-
 -- ---- later
 
 -- each slot has drawn what it had drawn
@@ -432,16 +288,18 @@ this_body bodies name w = update_same bytes_eq bodies name w name ((bytes_eq-Dec
 pub data_later :
     (drawn later : Drawn) (owner : List ℕ → List ℕ) (bodies : Named (List ℕ)) (key : List ℕ) (id : VersionId) (owned body : List ℕ) (what : What)
     → Grows drawn later → IsNotDrawn drawn id → HasDataOf drawn owner bodies key what
-    → HasDataOf later (with_owner owner (data_name id) owned) (with_name bodies (data_name id) (Some body)) key what
+    → HasDataOf later (with_owner owner (shard_name id) owned) (with_name bodies (shard_name id) (Some body)) key what
 data_later drawn later owner bodies key id owned body Marker grows new has = tt
 data_later drawn later owner bodies key id owned body (Object data_id print size md5 parts upload kind) grows new has =
-    let apart : bytes_eq (data_name id) (data_name data_id) ≡ false = data_names_differ id data_id (drawn_differs drawn (slot_of key) id data_id new has.drawn_id) in
+    let apart : bytes_eq (shard_name id) (shard_name data_id) ≡ false = shard_names_differ id data_id (drawn_differs drawn (slot_of key) id data_id new has.drawn_id) in
     record {
       drawn_id = was_drawn_later drawn later (slot_of key) data_id grows has.drawn_id;
-      owned = other_owner owner (data_name id) owned (data_name data_id) apart ∙ has.owned;
+      owned = other_owner owner (shard_name id) owned (shard_name data_id) apart ∙ has.owned;
       body = has.body;
-      is = other_body bodies (data_name id) (Some body) (data_name data_id) apart ∙ has.is;
+      is = other_body bodies (shard_name id) (Some body) (shard_name data_id) apart ∙ has.is;
       printed = has.printed;
+      sized = has.sized;
+      few = has.few;
     }
 
 pub data_drawn_later :
@@ -449,7 +307,7 @@ pub data_drawn_later :
     → Grows drawn later → HasDataOf drawn owner bodies key what → HasDataOf later owner bodies key what
 data_drawn_later drawn later owner bodies key Marker grows has = tt
 data_drawn_later drawn later owner bodies key (Object data_id print size md5 parts upload kind) grows has =
-    record { drawn_id = was_drawn_later drawn later (slot_of key) data_id grows has.drawn_id; owned = has.owned; body = has.body; is = has.is; printed = has.printed }
+    record { drawn_id = was_drawn_later drawn later (slot_of key) data_id grows has.drawn_id; owned = has.owned; body = has.body; is = has.is; printed = has.printed; sized = has.sized; few = has.few }
 
 -- sound versions stay sound where more is drawn
 pub sound_drawn_later :
@@ -466,9 +324,9 @@ sound_drawn_later drawn later owner bodies key versions grows all =
 pub sound_later :
     (drawn later : Drawn) (owner : List ℕ → List ℕ) (bodies : Named (List ℕ)) (key : List ℕ) (id : VersionId) (owned body : List ℕ) (versions : List Version)
     → Grows drawn later → IsNotDrawn drawn id → AllByRecursion (IsSound drawn owner bodies key) versions
-    → AllByRecursion (IsSound later (with_owner owner (data_name id) owned) (with_name bodies (data_name id) (Some body)) key) versions
+    → AllByRecursion (IsSound later (with_owner owner (shard_name id) owned) (with_name bodies (shard_name id) (Some body)) key) versions
 sound_later drawn later owner bodies key id owned body versions grows new all =
-    each_item (IsSound drawn owner bodies key) (IsSound later (with_owner owner (data_name id) owned) (with_name bodies (data_name id) (Some body)) key)
+    each_item (IsSound drawn owner bodies key) (IsSound later (with_owner owner (shard_name id) owned) (with_name bodies (shard_name id) (Some body)) key)
     (λ v sound. record {
       named = name_later drawn later (slot_of key) v.id grows sound.named;
       «data» = data_later drawn later owner bodies key id owned body v.what grows new sound.data;
@@ -491,17 +349,19 @@ new_name_drawn drawn slot Suspended id was = tt
 
 -- the version that a PUT makes is sound
 pub put_is_sound :
-    (later : Drawn) (owner : List ℕ → List ℕ) (bodies : Named (List ℕ)) (key : List ℕ) (mode : Mode) (id : VersionId) (body : List ℕ) (now : ℕ)
-    → WasDrawn later (slot_of key) id
-    → IsSound later (with_owner owner (data_name id) key) (with_name bodies (data_name id) (Some body)) key (put_version mode id body now)
-put_is_sound later owner bodies key mode id body now was = record {
+    (later : Drawn) (owner : List ℕ → List ℕ) (bodies : Named (List ℕ)) (key : List ℕ) (mode : Mode) (id : VersionId) (print body : List ℕ) (now : ℕ)
+    → WasDrawn later (slot_of key) id → IsPrintOf body print → length body ≤ 5368709120
+    → IsSound later (with_owner owner (shard_name id) key) (with_name bodies (shard_name id) (Some body)) key (put_version mode id print body now)
+put_is_sound later owner bodies key mode id print body now was printed few = record {
   named = new_name_drawn later (slot_of key) mode id was;
   «data» = record {
     drawn_id = was;
-    owned = this_owner owner (data_name id) key;
+    owned = this_owner owner (shard_name id) key;
     body = body;
-    is = this_body bodies (data_name id) (Some body);
-    printed = refl;
+    is = this_body bodies (shard_name id) (Some body);
+    printed = printed;
+    sized = refl;
+    few = few;
   };
 }
 

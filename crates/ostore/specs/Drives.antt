@@ -1,11 +1,11 @@
--- What the four drives of the first path hold and count.
-use Rattle.std.specs.Prelude.{◌≡◌, ◌⊎◌, ◌<◌, ◌≤◌, ℕ, Bool, IsTrue, List, ◌++◌, length, codes, slice_index_or, bytes_eq, false, Some, All}
+-- What the four drives hold and count.
+use Rattle.std.specs.Prelude.{◌≡◌, ◌⊎◌, ◌<◌, ◌≤◌, ℕ, Bool, IsTrue, List, ◌++◌, length, codes, slice_index_or, bytes_eq, false, Some, All, map}
 use Rattle.std.specs.Int.{w64, to_be_bytes}
 use Rattle.hex.specs.Hex.{encode_lower}
 use Rattle.drive_base.specs.Faults.{Rose}
 use Rattle.drive_base.specs.Files.{Files, with_name}
 
--- the name under which a key's body is kept
+-- the name of a key's file
 abbrev pub name_of : List ℕ → List ℕ
 name_of key = codes "k/pic/" ++ key
 
@@ -57,3 +57,12 @@ DriveCause tells old new = Rose old new ⊎ (IsTrue tells → ⊥)
 -- a refusal's cause: the count of some drive rose, or not every drive tells what it holds
 abbrev pub DrivesCause : List Bool → List ℕ → List ℕ → Type 0
 DrivesCause tells old new = SomeRose old new ⊎ (AllTell tells → ⊥)
+
+-- what is seen of a drive: whether it tells what it holds, and what it holds
+pub record DriveView : Type 0 where
+  pub tells : Bool
+  pub files : Files
+
+-- the same of each drive
+abbrev pub views_of : {D : Type 0} → (D → Bool) → (D → Files) → List D → List DriveView
+views_of {D} tells files drives = map (λ (d : D). record { tells = tells d; files = files d }) drives

@@ -32,13 +32,13 @@ pub record IsKey (key : List ℕ) : Type 0 where
 abbrev pub decimal_value : List ℕ → ℕ
 decimal_value = fold (λ n digit. n * 10 + (digit - 48)) 0
 
--- these digits give a body's length: 1 to 5 digits, and at most 65,536 bytes
+-- these digits give a body's length: 1 to 8 digits, and at most 16,777,216 bytes
 pub record GivesLength (digits : List ℕ) (n : ℕ) : Type 0 where
   pub some : 0 < length digits
-  pub short : length digits ≤ 5
+  pub short : length digits ≤ 8
   pub plain : AllPass is_ascii_digit digits
   pub value : decimal_value digits ≡ n
-  pub limit : n ≤ 65536
+  pub limit : n ≤ 16777216
 
 -- a PUT of n bytes under a key
 pub record SpellsPut (key : List ℕ) (n : ℕ) (head : List ℕ) : Type 0 where

@@ -1,15 +1,10 @@
--- The file of a key and the data of a version, as a drive has them.
-use Rattle.std.specs.Prelude.{◌≡◌, ◌≢◌, ◌⊎◌, ℕ, Bool, IsTrue, List, [], ◌++◌, codes, Option, Some, None, Result, Ok, Err, Vec, ⊤}
-use Rattle.hex.specs.Hex.{encode_lower}
-use Rattle.sha2.specs.Sha256.{sha256}
-use Rattle.stamp_id.specs.VersionId.{id_bytes}
-use Rattle.stamp_id.specs.declared.version.VersionId.{VersionId}
+-- The file of a key, as a drive has it.
+use Rattle.std.specs.Prelude.{◌≡◌, ◌⊎◌, ℕ, Bool, IsTrue, List, [], codes, Option, Some, None, Result, Ok, Err, Vec, ⊤}
 use Rattle.seal_file.specs.Sealing.{sealed}
 use Rattle.version_list.specs.declared.state.KeyState.{KeyState}
 use Rattle.version_list.specs.State.{IsCanonical}
 use Rattle.version_list.specs.Spelling.{spelling}
 use Rattle.drive_base.specs.Faults.{Rose}
-use Rattle.seal_file.specs.declared.damage.Damage.TheVariants.{Digest}
 use Rattle.ostore.specs.Drives.{DriveCause}
 use Rattle.ostore.specs.declared.keyfile.Trouble.{Trouble}
 use Rattle.ostore.specs.declared.keyfile.Trouble.TheVariants.{Failed, Damaged, Absent, NoMemory}
@@ -30,14 +25,6 @@ empty_state = record { versions = []; uploads = [] }
 abbrev pub StandsFor : Option (List ℕ) → KeyState → Type 0
 StandsFor None state = state ≡ empty_state
 StandsFor (Some bytes) state = bytes ≡ key_file state
-
--- the name of the data of this id
-abbrev pub data_name : VersionId → List ℕ
-data_name id = codes "s/" ++ encode_lower (id_bytes id)
-
--- the loose name under which the data of this id is written
-abbrev pub data_loose : VersionId → List ℕ
-data_loose id = codes "s" ++ encode_lower (id_bytes id)
 
 -- all that is shown under a name, or why it wasn't read: the count rose, or the drive doesn't tell
 abbrev pub ReadsFile : {A : Type 0} → Bool → Option (List ℕ) → Result (Option (Vec ℕ A)) Trouble → ℕ → ℕ → Type 0
@@ -79,27 +66,3 @@ ReadsStates tells shown (Err Failed) calm cause = cause
 ReadsStates tells shown (Err (Damaged damage)) calm cause = cause
 ReadsStates tells shown (Err Absent) calm cause = cause
 ReadsStates tells shown (Err NoMemory) calm cause = ⊤
-
--- what is shown isn't data with this print
-abbrev pub IsNoData : Option (List ℕ) → List ℕ → Type 0
-IsNoData shown print = (bytes : List ℕ) → shown ≡ Some bytes → sha256 bytes ≡ print → ⊥
-
--- the bytes, which have the print, or both digests
-abbrev pub PassesPrint : {A : Type 0} → List ℕ → List ℕ → Result (Vec ℕ A) Trouble → Type 0
-PassesPrint bytes print (Ok passed) = (passed.items ≡ bytes) × (sha256 bytes ≡ print)
-PassesPrint bytes print (Err Failed) = ⊥
-PassesPrint bytes print (Err (Damaged damage)) = (damage ≡ Digest print (sha256 bytes)) × (sha256 bytes ≢ print)
-PassesPrint bytes print (Err Absent) = ⊥
-PassesPrint bytes print (Err NoMemory) = ⊥
-
--- why data wasn't read
-abbrev pub DataCause : Bool → Option (List ℕ) → List ℕ → ℕ → ℕ → Type 0
-DataCause tells shown print old new = Rose old new ⊎ (IsTrue tells → IsNoData shown print)
-
--- the data read, which has the print, or why there is none
-abbrev pub ReadsData : {A : Type 0} → Bool → Option (List ℕ) → List ℕ → Result (Vec ℕ A) Trouble → ℕ → ℕ → Type 0
-ReadsData tells shown print (Ok body) old new = (sha256 body.items ≡ print) × (IsTrue tells → shown ≡ Some body.items) × (new ≡ old)
-ReadsData tells shown print (Err Failed) old new = DataCause tells shown print old new
-ReadsData tells shown print (Err (Damaged damage)) old new = DataCause tells shown print old new
-ReadsData tells shown print (Err Absent) old new = DataCause tells shown print old new
-ReadsData tells shown print (Err NoMemory) old new = ⊤

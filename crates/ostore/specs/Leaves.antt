@@ -1,5 +1,5 @@
 -- What making a change of a key leaves of the drives, the counters and the sink.
-use Rattle.std.specs.Prelude.{◌≡◌, ◌⊎◌, ◌+◌, ℕ, Bool, IsTrue, List, length, slice_index_or, Option, Some, None, map}
+use Rattle.std.specs.Prelude.{◌≡◌, ◌⊎◌, ◌+◌, ℕ, Bool, IsTrue, List, length, slice_index_or, Option, Some, None}
 use Rattle.std.specs.List.{flat_map}
 use Rattle.stamp_id.specs.VersionId.{id_bytes}
 use Rattle.stamp_id.specs.declared.version.VersionId.{VersionId}
@@ -12,7 +12,8 @@ use Rattle.ostore.specs.declared.connection.Turn.TheVariants.{Ended}
 use Rattle.ostore.specs.declared.connection.ConnectionEnd.TheVariants.{NoMemory}
 use Rattle.ostore.specs.Commits.{IsPrepared, NamesId}
 use Rattle.ostore.specs.Drives.{AtEach, SomeDrive, Written, MayBeWritten, DriveCause}
-use Rattle.ostore.specs.KeyFiles.{KeyCause, StandsFor, data_name}
+use Rattle.ostore.specs.Holders.{data_names}
+use Rattle.ostore.specs.KeyFiles.{KeyCause, StandsFor}
 use Rattle.ostore.specs.Replies.{unavailable_text}
 use Rattle.ostore.specs.Session.{Gives}
 use Rattle.ostore.specs.Slots.{Drawn, with_drawn}
@@ -60,7 +61,7 @@ module _ {D : Type 0} (tell : D → Bool) (files : D → Files) (count : D → �
     pub later : length new ≡ length mid
     pub tells : AtEach (λ a b. tell b ≡ tell a) old mid
     pub writes : AtEach (λ a b. IsTrue (tell a) → (files a).loose loose ≡ None → Written loose name file (files a) (files b)) old mid
-    pub removes : (ids : List VersionId) → gone ≡ flat_map id_bytes ids → AtEach (λ a b. IsTrue (tell a) → OnlyRemoves (map data_name ids) (files a) (files b)) mid new
+    pub removes : (ids : List VersionId) → gone ≡ flat_map id_bytes ids → AtEach (λ a b. IsTrue (tell a) → OnlyRemoves (data_names ids) (files a) (files b)) mid new
 
   -- no memory was found before anything was written
   pub record Starves (turn : Turn) (old : List D) (before : Sides) (new : List D) (after : Sides) : Type 0 where

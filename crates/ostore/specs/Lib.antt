@@ -3,6 +3,7 @@ pub mod Counters
 pub mod Drives
 pub mod Finding
 pub mod Heads
+pub mod Holders
 pub mod KeyFiles
 pub mod Leaves
 pub mod Objects

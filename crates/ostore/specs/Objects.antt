@@ -1,6 +1,5 @@
 -- The versioned objects that the replies are those of.
 use Rattle.std.specs.Prelude.{◌≡◌, ◌≢◌, ◌⊎◌, ◌+◌, ℕ, false, List, [], ◌++◌, length, codes, Option, Some, None, Ok, Err, IfSome, slice_get, bytes_eq, if◌then◌else◌}
-use Rattle.sha2.specs.Sha256.{sha256}
 use Rattle.md5.specs.Md5.{md5}
 use Rattle.stamp_id.specs.declared.version.VersionId.{VersionId}
 use Rattle.call_types.specs.declared.names.Mode.{Mode}
@@ -21,7 +20,11 @@ use Rattle.version_list.specs.Answers.{refusal_of, IsServed}
 use Rattle.version_list.specs.Reads.{Reads}
 use Rattle.version_list.specs.Step.{Step}
 use Rattle.ostore.specs.Heads.{SpellsPut, SpellsGet, SpellsDelete}
-use Rattle.ostore.specs.KeyFiles.{empty_state, data_name}
+use Rattle.body_print.specs.Clashes.{Clash}
+use Rattle.body_print.specs.Names.{shard_name}
+use Rattle.ostore.specs.Drives.{DriveView}
+use Rattle.ostore.specs.Holders.{IsPrintOf}
+use Rattle.ostore.specs.KeyFiles.{empty_state}
 use Rattle.ostore.specs.Replies.{reply_text, found_reply, unavailable_text}
 use Rattle.ostore.specs.Slots.{slot_of, Drawn, with_drawn, IsIdOf}
 
@@ -68,9 +71,9 @@ with_state states key state = λ other. if bytes_eq key other then state else st
 abbrev pub usual_kind : List ℕ
 usual_kind = codes "binary/octet-stream"
 
--- what a PUT of this body does, with this id
-abbrev pub put_act : VersionId → List ℕ → Act
-put_act id body = act.Put id (sha256 body) (length body) (md5 body) usual_kind
+-- what a PUT of this body does, with this id, where the body has this print
+abbrev pub put_act : VersionId → List ℕ → List ℕ → Act
+put_act id print body = act.Put id print (length body) (md5 body) usual_kind
 
 -- The id that a change of the key has: its slot's next number, which the key doesn't have yet. It is made at a moment
 -- that the clock told, where it tells.
@@ -91,15 +94,17 @@ with_change old key state more =
 
 -- the objects with a body that was brought
 abbrev pub with_body : Objects → VersionId → List ℕ → Objects
-with_body old id body = record { states = old.states; bodies = with_name old.bodies (data_name id) (Some body); drawn = old.drawn }
+with_body old id body = record { states = old.states; bodies = with_name old.bodies (shard_name id) (Some body); drawn = old.drawn }
 
 -- A PUT that is answered: it draws an id and, where it changes the key, a ballot.
 pub record Puts (clock : Option ℕ) (mode : Mode) (old : Objects) (key body : List ℕ) (reply : Reply) (new : Objects) : Type 0 where
   pub id : VersionId
   pub now : ℕ
   pub next : IsNext clock old key id now
+  pub print : List ℕ
+  pub printed : IsPrintOf body print
   pub state : KeyState
-  pub step : Step (old.states key) mode (put_act id body) id now reply state
+  pub step : Step (old.states key) mode (put_act id print body) id now reply state
   pub is : ((IsServed reply) × (new ≡ with_change (with_body old id body) key state 2))
       ⊎ ((state ≡ old.states key) × (new ≡ with_numbers (with_body old id body) key 1))
 
@@ -109,8 +114,10 @@ pub record MayPut (clock : Option ℕ) (mode : Mode) (old : Objects) (key body :
   pub now : ℕ
   pub next : IsNext clock old key id now
   pub reply : Reply
+  pub print : List ℕ
+  pub printed : IsPrintOf body print
   pub state : KeyState
-  pub step : Step (old.states key) mode (put_act id body) id now reply state
+  pub step : Step (old.states key) mode (put_act id print body) id now reply state
   pub is : (new ≡ with_numbers (with_body old id body) key 1)
       ⊎ (new ≡ with_numbers (with_body old id body) key 2)
       ⊎ (new ≡ with_change (with_body old id body) key state 2)
@@ -137,15 +144,21 @@ pub record MayDelete (clock : Option ℕ) (mode : Mode) (old : Objects) (key : L
 -- the body of a version, by the name of its data; a marker has none
 abbrev pub HasBody : Named (List ℕ) → What → List ℕ → Type 0
 HasBody bodies Marker body = ⊥
-HasBody bodies (Object data_id print size etag parts upload kind) body = bodies (data_name data_id) ≡ Some body
+HasBody bodies (Object data_id print size etag parts upload kind) body = bodies (shard_name data_id) ≡ Some body
 
--- A GET that is served: the version that is picked, and the body that its PUT brought.
-pub record Finds (mode : Mode) (old : Objects) (key : List ℕ) (pick : Pick) (reply : Reply) (body : List ℕ) : Type 0 where
+-- what the drives show and what is hashed for the body of a version are two byte strings with one SHA-256
+abbrev pub MeetsClash : Named (List ℕ) → List DriveView → What → Type 0
+MeetsClash bodies drives Marker = ⊥
+MeetsClash bodies drives (Object data_id print size etag parts upload kind) =
+    (body : List ℕ) × (bodies (shard_name data_id) ≡ Some body) × Clash (λ (d : DriveView). d.tells) (λ (d : DriveView). d.files) 4 2 body print drives
+
+-- A GET that is served: the version that is picked, and the body that its PUT brought, unless a clash is met.
+pub record Finds (drives : List DriveView) (mode : Mode) (old : Objects) (key : List ℕ) (pick : Pick) (reply : Reply) (body : List ℕ) : Type 0 where
   pub place : ℕ
   pub version : Version
   pub reads : Reads (old.states key).versions pick (Ok place)
   pub there : slice_get (old.states key).versions place ≡ Some version
-  pub has_body : HasBody old.bodies version.what body
+  pub gives : HasBody old.bodies version.what body ⊎ MeetsClash old.bodies drives version.what
   pub is : reply ≡ found_reply mode version body
 
 -- A GET that the key's state refuses.
@@ -156,10 +169,10 @@ pub record FindsNone (old : Objects) (key : List ℕ) (pick : Pick) (reply : Rep
   pub is : reply ≡ Refused (refusal_of why)
 
 -- One request of the versioned objects. A change that is answered 503 stands for its step or for none.
-abbrev pub Serves : Option ℕ → Mode → Objects → Request → Answer → Objects → Type 0
-Serves clock mode old (put key body) (replied reply told) new = Puts clock mode old key body reply new × (told ≡ [])
-Serves clock mode old (put key body) unavailable new = MayPut clock mode old key body new
-Serves clock mode old (delete key pick) (replied reply told) new = Deletes clock mode old key pick reply new × (told ≡ [])
-Serves clock mode old (delete key pick) unavailable new = (new ≡ old) ⊎ MayDelete clock mode old key pick new
-Serves clock mode old (get key pick) (replied reply body) new = (Finds mode old key pick reply body ⊎ FindsNone old key pick reply body) × (new ≡ old)
-Serves clock mode old (get key pick) unavailable new = new ≡ old
+abbrev pub Serves : Option ℕ → Mode → List DriveView → Objects → Request → Answer → Objects → Type 0
+Serves clock mode drives old (put key body) (replied reply told) new = Puts clock mode old key body reply new × (told ≡ [])
+Serves clock mode drives old (put key body) unavailable new = MayPut clock mode old key body new
+Serves clock mode drives old (delete key pick) (replied reply told) new = Deletes clock mode old key pick reply new × (told ≡ [])
+Serves clock mode drives old (delete key pick) unavailable new = (new ≡ old) ⊎ MayDelete clock mode old key pick new
+Serves clock mode drives old (get key pick) (replied reply body) new = (Finds drives mode old key pick reply body ⊎ FindsNone old key pick reply body) × (new ≡ old)
+Serves clock mode drives old (get key pick) unavailable new = new ≡ old

@@ -1,5 +1,5 @@
 -- A connection: the requests that were read, the replies that were given, and how it ended.
-use Rattle.std.specs.Prelude.{⊤, map, Bool, ◌≡◌, ◌⊎◌, ◌+◌, ◌<◌, ◌≤◌, ℕ, List, [], ◌∷◌, ◌++◌, length, take, Option}
+use Rattle.std.specs.Prelude.{⊤, map, Bool, ◌≡◌, ◌⊎◌, ◌+◌, ◌<◌, ◌≤◌, ℕ, List, [], ◌∷◌, ◌++◌, length, take, Option, slice_index_or}
 use Rattle.std.specs.Io.KnownBytes.{prepend_known, append_known, IsAtEnd}
 use Rattle.drive_base.specs.Files.{Files}
 use Rattle.io_base.specs.Count.{CountRose}
@@ -7,16 +7,19 @@ use Rattle.ostore.specs.declared.connection.Turn.{Turn}
 use Rattle.ostore.specs.declared.connection.Turn.TheVariants.{Answered, Ended}
 use Rattle.ostore.specs.declared.connection.ConnectionEnd.{ConnectionEnd}
 use Rattle.ostore.specs.declared.connection.ConnectionEnd.TheVariants.{Over, Closed, InputCut, ReadFault, WriteFault, NoMemory}
+use Rattle.ostore.specs.Holders.{HasOnly}
 use Rattle.ostore.specs.Heads.{HasNoBlankLine, SpellsPut, IsRefusedHead}
 use Rattle.ostore.specs.Replies.{bad_request}
-use Rattle.sha2.specs.Sha256.{sha256}
+use Rattle.body_print.specs.Clashes.{Clash}
+use Rattle.body_print.specs.Prints.{HasPrint}
+use Rattle.stamp_id.specs.declared.version.VersionId.{VersionId}
 use Rattle.call_types.specs.declared.names.Mode.{Mode}
 use Rattle.call_types.specs.declared.version.What.{What}
 use Rattle.call_types.specs.declared.version.What.TheVariants.{Marker, Object}
 use Rattle.call_types.specs.declared.reply.Reply.{Reply}
 use Rattle.call_types.specs.declared.reply.Reply.TheVariants.{Found}
 use Rattle.ostore.specs.Objects.{Request, Answer, put, get, delete, replied, unavailable, Asks, answer_text, Objects, Serves}
-use Rattle.ostore.specs.Drives.{AllTell, NoneFell, DrivesCause}
+use Rattle.ostore.specs.Drives.{AllTell, NoneFell, DrivesCause, DriveView, views_of}
 use Rattle.ostore.specs.Slots.{Drawn}
 use Rattle.ostore.specs.Store.{Keeps, Ready}
 
@@ -26,43 +29,61 @@ pub record Exchange : Type 0 where
   pub bytes : List ℕ
   pub answer : Answer
 
--- the objects and the drives' counts between two requests
+-- the objects, the drives' counts and what is seen of the drives between two requests
 pub record Moment : Type 0 where
   pub objects : Objects
   pub counts : List ℕ
+  pub drives : List DriveView
 
--- A read is answered only where no drive's count rose, and any request is answered 503 only where one did or a drive
--- doesn't tell what it holds. After a change that was answered, the data that it took out is removed, and a drive may fail there.
+-- a read of a key is answered that it has no such version only where no drive's count rose; data is read while drives fail
+abbrev pub IsCalm : Reply → List ℕ → List ℕ → Type 0
+IsCalm (Found version span id) old new = ⊤
+IsCalm _ old new = new ≡ old
+
+-- Any request is answered 503 only where a drive's count rose or a drive doesn't tell what it holds. After a change that
+-- was answered, the data that it took out is removed, and a drive may fail there.
 abbrev pub HasCause : List Bool → Request → Answer → List ℕ → List ℕ → Type 0
 HasCause tells (put key body) (replied reply told) old new = ⊤
-HasCause tells (get key pick) (replied reply told) old new = new ≡ old
+HasCause tells (get key pick) (replied reply told) old new = IsCalm reply old new
 HasCause tells (delete key pick) (replied reply told) old new = ⊤
 HasCause tells (put key body) unavailable old new = DrivesCause tells old new
 HasCause tells (get key pick) unavailable old new = DrivesCause tells old new
 HasCause tells (delete key pick) unavailable old new = DrivesCause tells old new
 
--- the body has the version's print
-abbrev pub IsPrinted : What → List ℕ → Type 0
-IsPrinted Marker body = ⊥
-IsPrinted (Object data_id print size md5 parts upload kind) body = sha256 body ≡ print
+-- bytes are each body of this length with this print, or what the drives show and what is hashed for that body are two
+-- byte strings with one SHA-256
+pub record IsRead (drives : List DriveView) (size : ℕ) (print bytes : List ℕ) : Type 0 where
+  pub long : length bytes ≡ size
+  pub exact : (body : List ℕ) → HasPrint 4 2 body print → length body ≡ size
+      → (bytes ≡ body) ⊎ Clash (λ (d : DriveView). d.tells) (λ (d : DriveView). d.files) 4 2 body print drives
 
--- a reply that finds a version gives a body with its print, and any other gives no body
-abbrev pub FitsBody : Reply → List ℕ → Type 0
-FitsBody (Found version span id) body = IsPrinted version.what body
-FitsBody _ body = body ≡ []
+-- the same of a version; a marker has no body
+abbrev pub IsReadOf : List DriveView → What → List ℕ → Type 0
+IsReadOf drives Marker bytes = ⊥
+IsReadOf drives (Object data_id print size md5 parts upload kind) bytes = IsRead drives size print bytes
+
+-- a reply that finds a version gives its body, and any other gives no body
+abbrev pub FitsBody : List DriveView → Reply → List ℕ → Type 0
+FitsBody drives (Found version span id) body = IsReadOf drives version.what body
+FitsBody drives _ body = body ≡ []
 
 -- what is known of an answer whatever the drives tell
-abbrev pub Fits : Request → Answer → Type 0
-Fits (get key pick) (replied reply body) = FitsBody reply body
-Fits (put key body) (replied reply told) = told ≡ []
-Fits (delete key pick) (replied reply told) = told ≡ []
-Fits request unavailable = ⊤
+abbrev pub Fits : List DriveView → Request → Answer → Type 0
+Fits drives (get key pick) (replied reply body) = FitsBody drives reply body
+Fits drives (put key body) (replied reply told) = told ≡ []
+Fits drives (delete key pick) (replied reply told) = told ≡ []
+Fits drives request unavailable = ⊤
+
+-- under the names of data each drive shows nothing but files of bodies that PUTs brought
+abbrev pub ShowOnly : Objects → List DriveView → Type 0
+ShowOnly objects drives = (k : ℕ) (d : DriveView) → k < length drives → (id : VersionId) → HasOnly objects.bodies k id (slice_index_or drives k d).files.shown
 
 -- one exchange: the bytes are the request's, and the answer is the versioned objects', or 503 with its cause
 pub record Step (clock : Option ℕ) (mode : Mode) (tells : List Bool) (old : Moment) (exchange : Exchange) (new : Moment) : Type 0 where
   pub asks : Asks exchange.request exchange.bytes
-  pub fits : Fits exchange.request exchange.answer
-  pub serves : AllTell tells → Serves clock mode old.objects exchange.request exchange.answer new.objects
+  pub fits : Fits old.drives exchange.request exchange.answer
+  pub shows : AllTell tells → ShowOnly old.objects old.drives
+  pub serves : AllTell tells → Serves clock mode old.drives old.objects exchange.request exchange.answer new.objects
   pub cause : HasCause tells exchange.request exchange.answer old.counts new.counts
   pub counts : NoneFell old.counts new.counts
 
@@ -223,7 +244,7 @@ Agrees counters objects = (slot : ℕ) → counters slot ≡ objects.drawn slot
 module _ {D : Type 0} (clock : Option ℕ) (mode : Mode) (tell : D → Bool) (files : D → Files) (count : D → ℕ) where
   -- what the drives tell of a moment
   abbrev pub moment : Objects → List D → Moment
-  moment objects drives = record { objects = objects; counts = map count drives }
+  moment objects drives = record { objects = objects; counts = map count drives; drives = views_of tell files drives }
 
   -- one turn over the drives, which go on keeping the objects
   pub record TurnOver (number : ℕ) (front : List ℕ) (objects : Objects) (old : List D) (before : Wires) (turn : Turn) (new : List D) (after : Wires) (counters : Drawn) : Type 0 where

@@ -4,14 +4,15 @@ ghost use Rattle.std.specs.Prelude.{ℕ, List, Option, ◌++◌, ◌≡◌, ◌+
 ghost use Rattle.version_list.specs.State.{IsMoment};
 ghost use Rattle.ostore.specs.Counters.{drawn_in};
 ghost use Rattle.ostore.specs.Heads.{IsKey, SpellsPut, SpellsDelete};
-ghost use Rattle.ostore.specs.Objects.{Objects, put_act};
+ghost use Rattle.call_types.specs.declared.act.Act.TheVariants as act;
+ghost use Rattle.ostore.specs.Objects.{Objects};
 ghost use Rattle.ostore.specs.Drives.{AllTell, name_of, loose_name_of};
-ghost use Rattle.ostore.specs.KeyFiles.{data_name, data_loose};
 ghost use Rattle.ostore.specs.Session.{TurnOver, Agrees, wires};
 ghost use Rattle.ostore.specs.Store.{Ready};
 
+use crate::bodies::{self, Unstaged};
 use crate::connection::{ConnectionEnd, Turn};
-use crate::files::{self, Refused, write_all};
+use crate::files;
 use crate::making::{Change, answer, make};
 use crate::reading::{BodyFault, read_body};
 use crate::reply::unavailable;
@@ -19,53 +20,49 @@ use crate::slots::{Counters, slot_of};
 use call_types::{Act, Mode, Pick};
 use drive_base::Drive;
 use io_base::{Sink, Source};
-use md5::{Digest as _, Md5};
+use put_stage::Staged;
 use seal_file::Text;
-use sha2::{Digest, Sha256};
-use stamp_id::{NoMemory, VersionId};
+use stamp_id::VersionId;
 use std::alloc::{AllocError, Global};
 
 /// The content type of a PUT that names none.
 const USUAL_KIND: &[u8] = b"binary/octet-stream";
 
-/// What a PUT of this body does, with this id.
-fn put_act(alloc: Global, id: VersionId, body: &[u8]) -> Result<Act, NoMemory>
-    ensures { IfOk result (λ act. act ≡ put_act id body.now) }
+/// What a PUT of a body does that was staged with this id.
+fn put_act(id: VersionId, staged: &Staged, kind: Text) -> Act
+    ensures { result ≡ act.Put id staged.now.print staged.now.length staged.now.etag kind }
 {
-    let kind = Text::from_slice(alloc, USUAL_KIND)?;
-    Ok(Act::Put {
+    Act::Put {
         data_id: id,
-        print: Sha256::digest(body),
-        length: body.len() as u64,
-        md5: Md5::digest(body),
+        print: staged.print,
+        length: staged.length,
+        md5: staged.etag,
         kind,
-    })
+    }
 }
 
-/// The name of a key's file, and the loose name under which this request writes it.
-fn key_names(alloc: Global, key: &[u8], number: u64) -> Result<(String, String), AllocError>
+/// The names under which a request writes a key's file.
+#[derive(Drop)]
+struct KeyNames {
+    /// The name of the file.
+    name: String,
+    /// The loose name under which this request writes it.
+    loose: String,
+}
+
+/// The names of a key's file, for the request of this number.
+fn key_names(alloc: Global, key: &[u8], number: u64) -> Result<KeyNames, AllocError>
     requires { IsKey key.now }
-    ensures name { IfOk result (λ names. string_bytes names.0 ≡ name_of key.now) }
-    ensures loose { IfOk result (λ names. string_bytes names.1 ≡ loose_name_of number) }
-    ensures short { IfOk result (λ names. string_len names.0 ≤ 1129) }
+    ensures name { IfOk result (λ names. string_bytes names.name ≡ name_of key.now) }
+    ensures loose { IfOk result (λ names. string_bytes names.loose ≡ loose_name_of number) }
+    ensures short { IfOk result (λ names. string_len names.name ≤ 1129) }
 {
     let name = files::name(alloc, key)?;
     let loose = files::loose_name(alloc, number)?;
-    Ok((name, loose))
+    Ok(KeyNames { name, loose })
 }
 
-/// The name of the data of an id, and the loose name under which it is written.
-fn data_names(alloc: Global, id: VersionId) -> Result<(String, String), AllocError>
-    ensures name { IfOk result (λ names. string_bytes names.0 ≡ data_name id) }
-    ensures loose { IfOk result (λ names. string_bytes names.1 ≡ data_loose id) }
-    ensures short { IfOk result (λ names. string_len names.0 ≤ 1129) }
-{
-    let name = files::data_name(alloc, id)?;
-    let loose = files::data_loose(alloc, id)?;
-    Ok((name, loose))
-}
-
-/// Writes the body of a PUT to every drive, makes the key's new version of it, and answers.
+/// Stages the body of a PUT over the drives, makes the key's new version of it, and answers.
 fn put<K: Sink, D: Drive>(
     alloc: Global,
     mode: Mode,
@@ -77,11 +74,12 @@ fn put<K: Sink, D: Drive>(
     key: &[u8],
     body: &[u8],
 ) -> Turn
-    requires some { 0 < length drives.old }
+    requires four { length drives.old ≡ 4 }
     requires few { number < 1000000 }
     requires moment { IsMoment now }
     requires room { (slot : ℕ) → drawn_in counters.old slot ≤ number + number }
     requires is_key { IsKey key.now }
+    requires small { length body.now ≤ 16777216 }
     ensures turn { (clock : Option ℕ) → IfSome clock (λ told. now ≡ told)
         → (head : List ℕ) → SpellsPut key.now (length body.now) head
         → (objects : Objects) → Agrees (drawn_in counters.old) objects
@@ -95,30 +93,31 @@ fn put<K: Sink, D: Drive>(
 {
     let slot = slot_of(key);
     let id = counters.next(slot);
-    let Ok((name, loose)) = key_names(alloc, key, number) else {
+    let Ok(KeyNames { name, loose }) = key_names(alloc, key, number) else {
         return Turn::Ended(ConnectionEnd::NoMemory);
     };
-    let Ok((data, data_loose)) = data_names(alloc, id) else {
+    let Ok(kind) = Text::from_slice(alloc, USUAL_KIND) else {
         return Turn::Ended(ConnectionEnd::NoMemory);
     };
-    let Ok(act) = put_act(alloc, id, body) else {
-        return Turn::Ended(ConnectionEnd::NoMemory);
-    };
-    counters.draw(slot, 1);
-    match write_all(drives, data_loose.as_str(), data.as_str(), body) {
-        Ok(()) => {
+    match bodies::stage(alloc, id, name.as_str(), body, drives) {
+        Ok(staged) => {
+            counters.draw(slot, 1);
             let change = Change {
                 name,
                 loose,
                 slot,
                 id,
-                act,
+                act: put_act(id, &staged, kind),
                 moment: now,
                 draws: 1,
             };
             make(alloc, mode, sink, drives, counters, &change)
         }
-        Err(Refused) => answer(sink, unavailable()),
+        Err(Unstaged::Refused) => {
+            counters.draw(slot, 1);
+            answer(sink, unavailable())
+        }
+        Err(Unstaged::NoMemory) => Turn::Ended(ConnectionEnd::NoMemory),
     }
 }
 
@@ -135,11 +134,12 @@ pub fn serve_put<S: Source, K: Sink, D: Drive>(
     key: &[u8],
     size: u32,
 ) -> Turn
-    requires some { 0 < length drives.old }
+    requires four { length drives.old ≡ 4 }
     requires few { number < 1000000 }
     requires moment { IsMoment now }
     requires room { (slot : ℕ) → drawn_in counters.old slot ≤ number + number }
     requires is_key { IsKey key.now }
+    requires small { size ≤ 16777216 }
     ensures turn { (clock : Option ℕ) → IfSome clock (λ told. now ≡ told)
         → (head : List ℕ) → SpellsPut key.now size head
         → (objects : Objects) → Agrees (drawn_in counters.old) objects
@@ -180,7 +180,7 @@ pub fn serve_delete<K: Sink, D: Drive>(
     key: &[u8],
     pick: Pick,
 ) -> Turn
-    requires some { 0 < length drives.old }
+    requires four { length drives.old ≡ 4 }
     requires few { number < 1000000 }
     requires moment { IsMoment now }
     requires room { (slot : ℕ) → drawn_in counters.old slot ≤ number + number }
@@ -198,7 +198,7 @@ pub fn serve_delete<K: Sink, D: Drive>(
 {
     let slot = slot_of(key);
     let id = counters.next(slot);
-    let Ok((name, loose)) = key_names(alloc, key, number) else {
+    let Ok(KeyNames { name, loose }) = key_names(alloc, key, number) else {
         return Turn::Ended(ConnectionEnd::NoMemory);
     };
     let change = Change {

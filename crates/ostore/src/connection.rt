@@ -73,7 +73,7 @@ fn serve_head<S: Source, K: Sink, D: Drive>(
     number: u64,
     head: &[u8],
 ) -> Turn
-    requires some { 0 < length drives.old }
+    requires four { length drives.old ≡ 4 }
     requires few { number < 1000000 }
     requires moment { IsMoment now }
     requires room { (slot : ℕ) → drawn_in counters.old slot ≤ number + number }
@@ -112,7 +112,7 @@ fn serve_one<S: Source, K: Sink, D: Drive>(
     counters: &mut Counters,
     number: u64,
 ) -> Turn
-    requires some { 0 < length drives.old }
+    requires four { length drives.old ≡ 4 }
     requires few { number < 1000000 }
     requires moment { IsMoment now }
     requires room { (slot : ℕ) → drawn_in counters.old slot ≤ number + number }
@@ -148,7 +148,7 @@ pub fn serve<S: Source, K: Sink, D: Drive, C: Clock>(
     sink: &mut K,
     drives: &mut [D],
 ) -> ConnectionEnd
-    requires some { 0 < length drives.old }
+    requires four { length drives.old ≡ 4 }
     ensures served { (objects : Objects) → Agrees (λ slot. 0) objects
         → (AllTell (map D.tells drives.old) → Ready D.files 0 0 objects drives.old)
         → Served (C.moment clock.now) mode D.tells D.files D.count objects

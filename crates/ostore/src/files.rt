@@ -6,18 +6,16 @@ ghost use Rattle.std.specs.String.{string_bytes};
 ghost use Rattle.std.specs.List.{AllPass};
 ghost use Rattle.std.specs.Char.{is_ascii_alphanumeric};
 ghost use Rattle.drive_base.specs.Faults.{Rose};
-ghost use Rattle.ostore.specs.KeyFiles.{data_name, data_loose};
 ghost use Rattle.ostore.specs.Drives.{name_of, loose_name_of, AtEach, SomeDrive, Written, MayBeWritten, DriveCause};
 
 use drive_base::Drive;
-use stamp_id::VersionId;
 use std::alloc::{AllocError, Global};
 
 /// Some drive didn't do what was asked.
 #[derive(Clone, Copy, Debug, PartialEq, Eq)]
 pub struct Refused;
 
-/// The name under which a key's body is kept.
+/// The name of a key's file.
 pub fn name(alloc: Global, key: &[u8]) -> Result<String, AllocError>
     requires { AllPass is_ascii_alphanumeric key.now }
     ensures { IfOk result (λ name. string_bytes name ≡ name_of key.now) }
@@ -36,26 +34,6 @@ pub fn loose_name(alloc: Global, number: u64) -> Result<String, AllocError>
     let counter = hex::encode(alloc, number.to_be_bytes())?;
     let mut name = String::from_str(alloc, "w000000000001")?;
     name.push_str(counter.as_str())?;
-    Ok(name)
-}
-
-/// The name of the data of an id.
-pub fn data_name(alloc: Global, id: VersionId) -> Result<String, AllocError>
-    ensures { IfOk result (λ name. string_bytes name ≡ data_name id) }
-{
-    let digits = hex::encode(alloc, id.bytes())?;
-    let mut name = String::from_str(alloc, "s/")?;
-    name.push_str(digits.as_str())?;
-    Ok(name)
-}
-
-/// The loose name under which the data of an id is written.
-pub fn data_loose(alloc: Global, id: VersionId) -> Result<String, AllocError>
-    ensures { IfOk result (λ name. string_bytes name ≡ data_loose id) }
-{
-    let digits = hex::encode(alloc, id.bytes())?;
-    let mut name = String::from_str(alloc, "s")?;
-    name.push_str(digits.as_str())?;
     Ok(name)
 }
 

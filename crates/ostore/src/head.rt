@@ -16,7 +16,7 @@ use std::str;
 pub const MOST_HEAD: usize = 1024;
 
 /// The most bytes of a body.
-pub const MOST_BODY: u32 = 65_536;
+pub const MOST_BODY: u32 = 16_777_216;
 
 /// What a head asks for. A key has 1 to 255 ASCII letters and digits.
 #[derive(Clone, Copy, Debug, PartialEq, Eq)]
@@ -140,13 +140,13 @@ fn split_run(bytes: &[u8]) -> (&[u8], &[u8])
     bytes.split_at(run)
 }
 
-/// The length that these digits give. None where they aren't 1 to 5 decimal digits, or give more
+/// The length that these digits give. None where they aren't 1 to 8 decimal digits, or give more
 /// than `MOST_BODY`.
 fn parse_length(digits: &[u8]) -> Option<u32>
     ensures given { IfSome result (λ n. GivesLength digits.now n) }
     ensures refused { IfNone result ((n : ℕ) → GivesLength digits.now n → ⊥) }
 {
-    if digits.is_empty() || digits.len() > 5 {
+    if digits.is_empty() || digits.len() > 8 {
         return None;
     }
     if !digits.iter().all(|digit| digit.is_ascii_digit()) {
@@ -160,9 +160,9 @@ fn parse_length(digits: &[u8]) -> Option<u32>
     }
 }
 
-/// The number that at most five decimal digits stand for.
+/// The number that at most eight decimal digits stand for.
 fn value_of(digits: &[u8]) -> u32
-    requires short { length digits.now ≤ 5 }
+    requires short { length digits.now ≤ 8 }
     requires plain { AllPass is_ascii_digit digits.now }
     ensures { result ≡ decimal_value digits.now }
 {
@@ -213,12 +213,12 @@ mod tests {
                 9876,
             ),
             (
-                b"PUT /pic/aZ09 HTTP/1.1\r\nContent-Length: 65535\r\n\r\n",
-                65535,
+                b"PUT /pic/aZ09 HTTP/1.1\r\nContent-Length: 00065536\r\n\r\n",
+                65_536,
             ),
             (
-                b"PUT /pic/aZ09 HTTP/1.1\r\nContent-Length: 65536\r\n\r\n",
-                65536,
+                b"PUT /pic/aZ09 HTTP/1.1\r\nContent-Length: 16777216\r\n\r\n",
+                16_777_216,
             ),
         ];
         for (head, length) in lengths {
@@ -242,9 +242,9 @@ mod tests {
             b"GET /pic/c-t HTTP/1.1\r\n\r\n",
             b"PUT /pic/cat HTTP/1.1\r\nContent-Length: \r\n\r\n",
             b"PUT /pic/cat HTTP/1.1\r\nContent-Length: +5\r\n\r\n",
-            b"PUT /pic/cat HTTP/1.1\r\nContent-Length: 65537\r\n\r\n",
-            b"PUT /pic/cat HTTP/1.1\r\nContent-Length: 99999\r\n\r\n",
-            b"PUT /pic/cat HTTP/1.1\r\nContent-Length: 000005\r\n\r\n",
+            b"PUT /pic/cat HTTP/1.1\r\nContent-Length: 16777217\r\n\r\n",
+            b"PUT /pic/cat HTTP/1.1\r\nContent-Length: 99999999\r\n\r\n",
+            b"PUT /pic/cat HTTP/1.1\r\nContent-Length: 000000005\r\n\r\n",
         ];
         for head in heads {
             assert!(rt; parse_head(head).is_none());

@@ -1,14 +1,13 @@
-//! Reads the file of a key and the data of a version from the drives.
+//! Reads the file of a key from the drives.
 
 ghost use Rattle.std.specs.Prelude.{◌≡◌, ◌<◌, ◌≤◌, IsTrue, IfOk, length, slice_index_or};
 ghost use Rattle.version_list.specs.State.{IsCanonical};
 ghost use Rattle.ostore.specs.Drives.{AtEach, SomeDrive};
-ghost use Rattle.ostore.specs.KeyFiles.{empty_state, KeyCause, ReadsFile, OpensState, ReadsState, ReadsStates, PassesPrint, ReadsData};
+ghost use Rattle.ostore.specs.KeyFiles.{empty_state, KeyCause, ReadsFile, OpensState, ReadsState, ReadsStates};
 
 use call_types::{ListRead, Uploads, Versions};
 use drive_base::{Drive, DriveFault};
 use seal_file::{Damage, unseal};
-use sha2::{Digest, Sha256};
 use std::alloc::Global;
 use version_list::KeyState;
 
@@ -17,10 +16,10 @@ use version_list::KeyState;
 pub enum Trouble {
     /// The drive failed.
     Failed,
-    /// What the drive showed is damaged: it isn't a sealed file with the spelling of a state, or not the bytes with
-    /// the print. It carries both digests, the length, the kind or the place.
+    /// What the drive showed is damaged: it isn't a sealed file with the spelling of a state. It carries both digests,
+    /// the length, the kind or the place.
     Damaged(Damage),
-    /// The drive showed no file where one was named, or where it had just shown one.
+    /// The drive showed no file where it had just shown one.
     Absent,
     /// No memory was found for the file.
     NoMemory,
@@ -120,38 +119,6 @@ fn earliest(index: usize, before: KeyState, now: KeyState) -> KeyState
     if index == 0 { now } else { before }
 }
 
-/// The bytes, if their SHA-256 is this.
-fn with_print(bytes: Vec<u8>, print: [u8; 32]) -> Result<Vec<u8>, Trouble>
-    ensures { PassesPrint bytes.items print result }
-{
-    let computed = Sha256::digest(bytes.as_slice());
-    if computed != print {
-        return Err(Trouble::Damaged(Damage::Digest {
-            stored: print,
-            computed,
-        }));
-    }
-    Ok(bytes)
-}
-
-/// Reads the data under a name, which must have this SHA-256.
-pub fn read_data<D: Drive>(
-    alloc: Global,
-    drive: &mut D,
-    name: &str,
-    print: [u8; 32],
-) -> Result<Vec<u8>, Trouble>
-    ensures read { ReadsData (D.tells drive.old) ((D.files drive.old).shown name.now) print result (D.count drive.old) (D.count drive.new) }
-    ensures files { IsTrue (D.tells drive.old) → D.files drive.new ≡ D.files drive.old }
-    ensures tells { D.tells drive.new ≡ D.tells drive.old }
-    ensures count { D.count drive.old ≤ D.count drive.new }
-{
-    match read_file(alloc, drive, name)? {
-        Some(bytes) => with_print(bytes, print),
-        None => Err(Trouble::Absent),
-    }
-}
-
 #[cfg(test)]
 mod tests {
     use super::*;
@@ -166,13 +133,6 @@ mod tests {
         0x34, 0x17, 0x34, 0x8e, 0xc4, 0x07, 0x50, 0x16, 0x7d, 0x65, 0x06, 0x90, 0xb4, 0x5a, 0xff,
         0x45, 0x70, 0x2a, 0x1e, 0x60, 0x11, 0x3a, 0x2e, 0x6e, 0x7d, 0x09, 0xdb, 0xda, 0x94, 0x18,
         0x5e, 0x11,
-    ];
-
-    // The digest of `abc` in FIPS 180-4's examples.
-    const ABC_DIGEST: [u8; 32] = [
-        0xba, 0x78, 0x16, 0xbf, 0x8f, 0x01, 0xcf, 0xea, 0x41, 0x41, 0x40, 0xde, 0x5d, 0xae, 0x22,
-        0x23, 0xb0, 0x03, 0x61, 0xa3, 0x96, 0x17, 0x7a, 0x9c, 0xb4, 0x10, 0xff, 0x61, 0xf2, 0x00,
-        0x15, 0xad,
     ];
 
     /// Writes a file as the store does: under a loose name, synced, then put in place.
@@ -233,26 +193,6 @@ mod tests {
         assert_eq!(rt; trouble, Some(Trouble::Damaged(damage)));
         let trouble = read_states(rt.alloc(), &mut drives, "k/b").err();
         assert_eq!(rt; trouble, Some(Trouble::Damaged(Damage::Spelling(2))));
-        Ok(())
-    }
-
-    #[test]
-    fn data_is_read_with_its_print(rt: HostRuntime) -> Result<(), Fail> {
-        let mut drive = MemDrive::new(rt.alloc());
-        place(&mut drive, "s/1", b"abc")?;
-        let body = read_data(rt.alloc(), &mut drive, "s/1", ABC_DIGEST)?;
-        assert_eq!(rt; body.as_slice(), b"abc".as_slice());
-        let trouble = read_data(rt.alloc(), &mut drive, "s/1", [1; 32]).err();
-        let damage = Damage::Digest {
-            stored: [1; 32],
-            computed: ABC_DIGEST,
-        };
-        assert_eq!(rt; trouble, Some(Trouble::Damaged(damage)));
-        let trouble = read_data(rt.alloc(), &mut drive, "s/2", ABC_DIGEST).err();
-        assert_eq!(rt; trouble, Some(Trouble::Absent));
-        drive.lose();
-        let trouble = read_data(rt.alloc(), &mut drive, "s/1", ABC_DIGEST).err();
-        assert_eq!(rt; trouble, Some(Trouble::Failed));
         Ok(())
     }
 }

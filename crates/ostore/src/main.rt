@@ -3,11 +3,12 @@
 //!
 //! `main` makes the real objects and hands them to `run`, whose contract is the promise of the program. `run` serves
 //! one connection by `connection`, which reads requests by `reading` and `head`. `reads` serves a GET: it reads the
-//! key's file and the version's data by `keyfile`. `changes` serves a PUT and a DELETE: it writes the body by `files`,
-//! and `making` prepares the key's new state by `commit`, writes it, and removes the data that is gone by `trash`.
-//! Ids come from the numbers that `slots` draws, and replies are written by `reply`.
+//! key's file by `keyfile` and the version's data by `bodies`. `changes` serves a PUT and a DELETE: it stages the body by
+//! `bodies`, and `making` prepares the key's new state by `commit`, writes it by `files`, and removes the data that is
+//! gone by `trash`. Ids come from the numbers that `slots` draws, and replies are written by `reply`.
 #![tactic(auto)]
 
+mod bodies;
 mod changes;
 mod commit;
 mod connection;

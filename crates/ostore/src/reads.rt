@@ -1,11 +1,10 @@
 //! Serving the requests that read a key: GET.
 
-ghost use Rattle.std.specs.Prelude.{ℕ, List, Option, ◌++◌, ◌≡◌, ◌+◌, ◌≤◌, ◌<◌, length, map, [], slice_index_or, IfOk, OnOk, IsTrue, Err, Ok, false};
+ghost use Rattle.std.specs.Prelude.{ℕ, List, Option, ◌++◌, ◌≡◌, ◌+◌, ◌≤◌, ◌<◌, length, map, [], IfOk, IsTrue, Err, false};
 ghost use Rattle.version_list.specs.Naming.{is_marker};
-ghost use Rattle.ostore.specs.Drives.{AllTell, AtEach};
-ghost use Rattle.ostore.specs.Finding.{GivesVersion, LacksBody, FoundOn, UnreadCause};
+ghost use Rattle.ostore.specs.Drives.{AllTell, AtEach, views_of};
+ghost use Rattle.ostore.specs.Finding.{GivesVersion, LacksBody, IsFound, UnreadCause};
 ghost use Rattle.ostore.specs.Heads.{IsKey, SpellsGet};
-ghost use Rattle.ostore.specs.KeyFiles.{ReadsData};
 ghost use Rattle.ostore.specs.Objects.{Objects};
 ghost use Rattle.ostore.specs.Session.{TurnOver, Agrees, wires};
 ghost use Rattle.ostore.specs.Slots.{Drawn};
@@ -17,10 +16,10 @@ ghost use Rattle.call_types.specs.declared.reply.Reply.TheVariants.{Refused as R
 
 use crate::commit::refusal_of;
 use crate::connection::{ConnectionEnd, Turn};
-use crate::files;
-use crate::keyfile::{Trouble, read_data, read_states};
+use crate::keyfile::{Trouble, read_states};
 use crate::making::answer;
 use crate::reply::{self, unavailable};
+use crate::{bodies, files};
 use call_types::{KeyRefusal, Mode, Pick, Reply, Version, What};
 use drive_base::Drive;
 use io_base::Sink;
@@ -31,7 +30,7 @@ use version_list::find;
 /// Why a key wasn't read.
 #[derive(Clone, Copy, Debug, PartialEq, Eq)]
 pub enum Unread {
-    /// Some drive failed, or showed no state, or drive 0 didn't show the data of the version with its print.
+    /// Some drive failed, or showed no state, or too few drives gave the data of the version.
     Refused,
     /// No memory was found.
     NoMemory,
@@ -45,24 +44,6 @@ impl From<NoMemory> for Unread {
     }
 }
 
-/// Reads the data under a name from drive 0.
-fn read_first<D: Drive>(
-    alloc: Global,
-    drives: &mut [D],
-    name: &str,
-    print: [u8; 32],
-) -> Result<Vec<u8>, Trouble>
-    requires some { 0 < length drives.old }
-    ensures read { (d : D) → ReadsData (D.tells (slice_index_or drives.old 0 d)) ((D.files (slice_index_or drives.old 0 d)).shown name.now) print result
-        (D.count (slice_index_or drives.old 0 d)) (D.count (slice_index_or drives.new 0 d)) }
-    ensures calm { OnOk result (AtEach (λ old new. D.count new ≡ D.count old) drives.old drives.new) }
-    ensures files { AtEach (λ old new. IsTrue (D.tells old) → D.files new ≡ D.files old) drives.old drives.new }
-    ensures tells { AtEach (λ old new. D.tells new ≡ D.tells old) drives.old drives.new }
-    ensures counts { AtEach (λ old new. D.count old ≤ D.count new) drives.old drives.new }
-{
-    read_data(alloc, &mut drives[0], name, print)
-}
-
 /// The text of the reply to a GET of this version.
 fn found<D: Drive>(
     alloc: Global,
@@ -70,27 +51,24 @@ fn found<D: Drive>(
     drives: &mut [D],
     version: &Version,
 ) -> Result<Vec<u8>, Unread>
-    requires some { 0 < length drives.old }
+    requires four { length drives.old ≡ 4 }
     requires object { is_marker version.now.what ≡ false }
-    ensures ok { IfOk result (λ text. (d : D) → GivesVersion mode (D.tells (slice_index_or drives.old 0 d)) (D.files (slice_index_or drives.old 0 d)).shown version.now text.items) }
-    ensures calm { OnOk result (AtEach (λ old new. D.count new ≡ D.count old) drives.old drives.new) }
-    ensures refused { result ≡ Err Refused → (d : D) → LacksBody (D.tells (slice_index_or drives.old 0 d)) (D.files (slice_index_or drives.old 0 d)).shown version.now.what
-        (D.count (slice_index_or drives.old 0 d)) (D.count (slice_index_or drives.new 0 d)) }
+    ensures ok { IfOk result (λ text. GivesVersion mode (views_of D.tells D.files drives.old) version.now text.items) }
+    ensures refused { result ≡ Err Refused → LacksBody D.tells D.files D.count version.now.what drives.old drives.new }
     ensures files { AtEach (λ old new. IsTrue (D.tells old) → D.files new ≡ D.files old) drives.old drives.new }
     ensures tells { AtEach (λ old new. D.tells new ≡ D.tells old) drives.old drives.new }
     ensures counts { AtEach (λ old new. D.count old ≤ D.count new) drives.old drives.new }
 {
     match &version.what {
         What::Marker => unreachable!(),
-        What::Object { data_id, print, .. } => {
-            let Ok(name) = files::data_name(alloc, *data_id) else {
-                return Err(Unread::NoMemory);
-            };
-            match read_first(alloc, drives, name.as_str(), *print) {
-                Ok(body) => Ok(reply::found(alloc, mode, version, body.as_slice())?),
-                Err(Trouble::NoMemory) => Err(Unread::NoMemory),
-                Err(_) => Err(Unread::Refused),
-            }
+        What::Object {
+            data_id,
+            print,
+            length,
+            ..
+        } => {
+            let body = bodies::read(alloc, *data_id, *print, *length, drives)?;
+            Ok(reply::found(alloc, mode, version, body.as_slice())?)
         }
     }
 }
@@ -110,10 +88,9 @@ fn read_key<D: Drive>(
     name: &str,
     pick: &Pick,
 ) -> Result<Vec<u8>, Unread>
-    requires some { 0 < length drives.old }
-    ensures ok { IfOk result (λ text. FoundOn D.tells D.files D.count mode pick.now name.now text.items drives.old) }
-    ensures calm { OnOk result (AtEach (λ old new. D.count new ≡ D.count old) drives.old drives.new) }
-    ensures refused { result ≡ Err Refused → UnreadCause D.tells D.files D.count pick.now name.now drives.old drives.new }
+    requires four { length drives.old ≡ 4 }
+    ensures ok { IfOk result (λ text. IsFound D.tells D.files D.count mode pick.now name.now text.items drives.old drives.new) }
+    ensures refused { result ≡ Err Refused → (d : D) → UnreadCause D.tells D.files D.count pick.now name.now drives.old drives.new }
     ensures files { AtEach (λ old new. IsTrue (D.tells old) → D.files new ≡ D.files old) drives.old drives.new }
     ensures tells { AtEach (λ old new. D.tells new ≡ D.tells old) drives.old drives.new }
     ensures counts { AtEach (λ old new. D.count old ≤ D.count new) drives.old drives.new }
@@ -138,7 +115,7 @@ pub fn serve_get<K: Sink, D: Drive>(
     key: &[u8],
     pick: Pick,
 ) -> Turn
-    requires some { 0 < length drives.old }
+    requires four { length drives.old ≡ 4 }
     requires is_key { IsKey key.now }
     ensures turn { (clock : Option ℕ) (number : ℕ) (drawn : Drawn) (head : List ℕ) → SpellsGet key.now pick head
         → (objects : Objects) → Agrees drawn objects → ((slot : ℕ) → drawn slot ≤ number + number)

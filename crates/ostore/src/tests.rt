@@ -5,7 +5,9 @@ mod failing;
 mod faults;
 mod heads;
 mod limits;
+mod lying;
 mod objects;
+mod prints;
 mod versions;
 
 ghost use Rattle.ostore.specs.Program.{AreFresh};

@@ -1,24 +1,24 @@
 //! Takes data that no version names any more off the drives.
 
-ghost use Rattle.std.specs.Prelude.{◌≡◌, ◌≤◌, ◌++◌, ◌∷◌, [], IsTrue, IfOk, List, codes, map};
+ghost use Rattle.std.specs.Prelude.{◌≡◌, ◌≤◌, ◌++◌, ◌∷◌, [], IsTrue, IfOk, List, codes};
 ghost use Rattle.std.specs.List.{flat_map};
 ghost use Rattle.std.specs.String.{string_bytes};
 ghost use Rattle.hex.specs.Hex.{encode_lower};
 ghost use Rattle.stamp_id.specs.VersionId.{id_bytes};
 ghost use Rattle.stamp_id.specs.declared.version.VersionId.{VersionId};
 ghost use Rattle.ostore.specs.Drives.{AtEach};
-ghost use Rattle.ostore.specs.KeyFiles.{data_name};
+ghost use Rattle.ostore.specs.Holders.{data_names};
 ghost use Rattle.ostore.specs.Store.{OnlyRemoves};
 
 use drive_base::Drive;
 use std::alloc::{AllocError, Global};
 
-/// The name of the data of the id with these bytes: `s/` and the bytes in hex.
-fn name_of_id(alloc: Global, id: &[u8; 16]) -> Result<String, AllocError>
-    ensures { IfOk result (λ name. string_bytes name ≡ codes "s/" ++ encode_lower id.now) }
+/// The name of a file of the data of the id with these bytes: `s/` or `m/`, and the bytes in hex.
+fn name_of_id(alloc: Global, front: &str, id: &[u8; 16]) -> Result<String, AllocError>
+    ensures { IfOk result (λ name. string_bytes name ≡ front.now ++ encode_lower id.now) }
 {
     let digits = hex::encode(alloc, *id)?;
-    let mut name = String::from_str(alloc, "s/")?;
+    let mut name = String::from_str(alloc, front)?;
     name.push_str(digits.as_str())?;
     Ok(name)
 }
@@ -34,24 +34,35 @@ fn remove_all<D: Drive>(drives: &mut [D], name: &str)
     }
 }
 
-/// Removes the data of the id with these bytes from every drive. Without memory for its name it removes nothing.
-fn remove_one<D: Drive>(alloc: Global, drives: &mut [D], id: &[u8; 16])
+/// Removes one file of the data of the id with these bytes from every drive. Without memory for its name it removes nothing.
+fn remove_named<D: Drive>(alloc: Global, drives: &mut [D], front: &str, id: &[u8; 16])
     ensures removes { AtEach (λ old new. IsTrue (D.tells old)
-        → OnlyRemoves ((codes "s/" ++ encode_lower id.now) ∷ []) (D.files old) (D.files new)) drives.old drives.new }
+        → OnlyRemoves ((front.now ++ encode_lower id.now) ∷ []) (D.files old) (D.files new)) drives.old drives.new }
     ensures tells { AtEach (λ old new. D.tells new ≡ D.tells old) drives.old drives.new }
     ensures counts { AtEach (λ old new. D.count old ≤ D.count new) drives.old drives.new }
 {
-    match name_of_id(alloc, id) {
+    match name_of_id(alloc, front, id) {
         Ok(name) => remove_all(drives, name.as_str()),
         Err(_) => (),
     }
+}
+
+/// Removes the data of the id with these bytes: its shard file from every drive, and then its manifest.
+fn remove_one<D: Drive>(alloc: Global, drives: &mut [D], id: &[u8; 16])
+    ensures removes { AtEach (λ old new. IsTrue (D.tells old)
+        → OnlyRemoves ((codes "s/" ++ encode_lower id.now) ∷ (codes "m/" ++ encode_lower id.now) ∷ []) (D.files old) (D.files new)) drives.old drives.new }
+    ensures tells { AtEach (λ old new. D.tells new ≡ D.tells old) drives.old drives.new }
+    ensures counts { AtEach (λ old new. D.count old ≤ D.count new) drives.old drives.new }
+{
+    remove_named(alloc, drives, "s/", id);
+    remove_named(alloc, drives, "m/", id);
 }
 
 /// Removes the data of these ids, 16 bytes each, from every drive. A failure is passed over, also want of memory: what is
 /// left then is no longer named by any version.
 pub fn remove_data<D: Drive>(alloc: Global, drives: &mut [D], gone: &[u8])
     ensures removes { (ids : List VersionId) → gone.now ≡ flat_map id_bytes ids
-        → AtEach (λ old new. IsTrue (D.tells old) → OnlyRemoves (map data_name ids) (D.files old) (D.files new)) drives.old drives.new }
+        → AtEach (λ old new. IsTrue (D.tells old) → OnlyRemoves (data_names ids) (D.files old) (D.files new)) drives.old drives.new }
     ensures tells { AtEach (λ old new. D.tells new ≡ D.tells old) drives.old drives.new }
     ensures counts { AtEach (λ old new. D.count old ≤ D.count new) drives.old drives.new }
 {
@@ -70,13 +81,19 @@ mod tests {
     use drive_memory::MemDrive;
     use std::test::Fail;
 
-    const FIRST: &str = "s/01010101010101010101010101010101";
+    const FIRST_SHARD: &str = "s/01010101010101010101010101010101";
 
-    const SECOND: &str = "s/abababababababababababababababab";
+    const FIRST_MANIFEST: &str = "m/01010101010101010101010101010101";
 
-    const OTHER: &str = "s/02020202020202020202020202020202";
+    const SECOND_SHARD: &str = "s/abababababababababababababababab";
 
-    /// The bytes of the ids whose data is `FIRST` and `SECOND`.
+    const SECOND_MANIFEST: &str = "m/abababababababababababababababab";
+
+    const OTHER_SHARD: &str = "s/02020202020202020202020202020202";
+
+    const OTHER_MANIFEST: &str = "m/02020202020202020202020202020202";
+
+    /// The bytes of the first and of the second id.
     fn gone() -> [u8; 32] {
         let mut gone = [0x01; 32];
         for place in 16..32usize {
@@ -85,21 +102,36 @@ mod tests {
         gone
     }
 
-    /// What a drive says of the three files: their lengths, or why there is none.
-    fn sizes<D: Drive>(drive: &mut D) -> [Result<u64, DriveFault>; 3] {
-        [drive.size(FIRST), drive.size(SECOND), drive.size(OTHER)]
+    /// What a drive says of the six files: their lengths, or why there is none.
+    fn sizes<D: Drive>(drive: &mut D) -> [Result<u64, DriveFault>; 6] {
+        [
+            drive.size(FIRST_SHARD),
+            drive.size(FIRST_MANIFEST),
+            drive.size(SECOND_SHARD),
+            drive.size(SECOND_MANIFEST),
+            drive.size(OTHER_SHARD),
+            drive.size(OTHER_MANIFEST),
+        ]
     }
 
     #[test]
     fn data_is_removed_from_every_drive(rt: HostRuntime) -> Result<(), Fail> {
         let mut drives = [MemDrive::new(rt.alloc()), MemDrive::new(rt.alloc())];
-        for name in [FIRST, SECOND, OTHER] {
+        for name in [
+            FIRST_SHARD,
+            FIRST_MANIFEST,
+            SECOND_SHARD,
+            SECOND_MANIFEST,
+            OTHER_SHARD,
+            OTHER_MANIFEST,
+        ] {
             prove!(name.len() <= 1129);
             let written = write_all(&mut drives, "w1", name, b"abc");
             assert!(rt; written.is_ok());
         }
         remove_data(rt.alloc(), &mut drives, &gone());
-        let want = [Err(DriveFault::Absent), Err(DriveFault::Absent), Ok(3)];
+        let absent = Err(DriveFault::Absent);
+        let want = [absent, absent, absent, absent, Ok(3), Ok(3)];
         assert_eq!(rt; sizes(&mut drives[0]), want);
         assert_eq!(rt; sizes(&mut drives[1]), want);
         Ok(())
@@ -108,7 +140,7 @@ mod tests {
     #[test]
     fn lost_drives_and_absent_data_are_passed_over(rt: HostRuntime) -> Result<(), Fail> {
         let mut drives = [MemDrive::new(rt.alloc()), MemDrive::new(rt.alloc())];
-        for name in [SECOND, OTHER] {
+        for name in [SECOND_SHARD, SECOND_MANIFEST, OTHER_SHARD, OTHER_MANIFEST] {
             prove!(name.len() <= 1129);
             let written = write_all(&mut drives, "w1", name, b"abc");
             assert!(rt; written.is_ok());
@@ -116,12 +148,15 @@ mod tests {
         drives[0].lose();
         remove_data(rt.alloc(), &mut drives, &gone());
         drives[0].back();
+        let absent = Err(DriveFault::Absent);
         assert_eq!(rt;
             sizes(&mut drives[0]),
-            [Err(DriveFault::Absent), Ok(3), Ok(3)]
+            [absent, absent, Ok(3), Ok(3), Ok(3), Ok(3)]
         );
-        let absent = Err(DriveFault::Absent);
-        assert_eq!(rt; sizes(&mut drives[1]), [absent, absent, Ok(3)]);
+        assert_eq!(rt;
+            sizes(&mut drives[1]),
+            [absent, absent, absent, absent, Ok(3), Ok(3)]
+        );
         Ok(())
     }
 }

@@ -140,12 +140,12 @@ fn a_put_writes_data_and_state_on_each_drive(rt: HostRuntime) -> Result<(), Fail
         counted_rig(rt.alloc(), false)?,
     )?;
     assert_eq!(rt; outcome.sink.given(), STORED);
-    check_calls(&rt, outcome, [calls_of(1, 0, 2); 4]);
+    check_calls(&rt, outcome, [calls_of(1, 0, 3); 4]);
     Ok(())
 }
 
 #[test]
-fn a_get_asks_all_drives_and_reads_the_data_from_the_first(rt: HostRuntime) -> Result<(), Fail> {
+fn a_get_asks_all_drives_and_reads_the_data_from_two(rt: HostRuntime) -> Result<(), Fail> {
     let found = pipe_on(
         &rt,
         "off",
@@ -153,8 +153,10 @@ fn a_get_asks_all_drives_and_reads_the_data_from_the_first(rt: HostRuntime) -> R
         counted_rig(rt.alloc(), false)?,
     )?;
     assert_eq!(rt; found.status, 0);
-    let other = calls_of(2, 1, 2);
-    check_calls(&rt, found, [calls_of(3, 2, 2), other, other, other]);
+    let first = calls_of(5, 4, 3);
+    let second = calls_of(4, 3, 3);
+    let other = calls_of(2, 1, 3);
+    check_calls(&rt, found, [first, second, other, other]);
     let missing = pipe_on(
         &rt,
         "off",
@@ -175,15 +177,15 @@ fn a_delete_writes_the_state_and_removes_the_data(rt: HostRuntime) -> Result<(),
     )?;
     assert_eq!(rt; outcome.status, 0);
     let calls = Calls {
-        remove: 1,
-        ..calls_of(3, 2, 3)
+        remove: 2,
+        ..calls_of(3, 2, 4)
     };
     check_calls(&rt, outcome, [calls; 4]);
     Ok(())
 }
 
 #[test]
-fn no_drive_is_called_behind_one_that_fails(rt: HostRuntime) -> Result<(), Fail> {
+fn a_stage_goes_on_past_a_failing_drive_and_a_look_does_not(rt: HostRuntime) -> Result<(), Fail> {
     let put = pipe_on(
         &rt,
         "off",
@@ -191,15 +193,19 @@ fn no_drive_is_called_behind_one_that_fails(rt: HostRuntime) -> Result<(), Fail>
         counted_rig(rt.alloc(), true)?,
     )?;
     assert_eq!(rt; put.sink.given(), UNAVAILABLE);
-    let none = calls_of(0, 0, 0);
-    let failed = Calls { append: 1, ..none };
-    check_calls(&rt, put, [calls_of(0, 0, 1), failed, none, none]);
+    let failed = Calls {
+        append: 1,
+        ..calls_of(1, 0, 0)
+    };
+    let staged = calls_of(0, 0, 2);
+    check_calls(&rt, put, [calls_of(1, 0, 2), failed, staged, staged]);
     let get = pipe_on(
         &rt,
         "off",
         b"GET /pic/a HTTP/1.1\r\n\r\n",
         counted_rig(rt.alloc(), true)?,
     )?;
+    let none = calls_of(0, 0, 0);
     let asked = calls_of(1, 0, 0);
     check_calls(&rt, get, [asked, asked, none, none]);
     Ok(())

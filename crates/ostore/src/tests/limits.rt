@@ -19,8 +19,8 @@ const STORED: &[u8] =
 
 /// The entity tags are MD5 digests computed by Python's hashlib.
 #[test]
-fn a_body_has_at_most_65536_bytes(rt: HostRuntime) -> Result<(), Fail> {
-    let table: [(u32, &[u8], &[u8]); 5] = [
+fn bodies_are_stored_and_found(rt: HostRuntime) -> Result<(), Fail> {
+    let table: [(u32, &[u8], &[u8]); 6] = [
         (
             0,
             b"PUT /pic/a HTTP/1.1\r\nContent-Length: 0\r\n\r\n",
@@ -28,7 +28,7 @@ fn a_body_has_at_most_65536_bytes(rt: HostRuntime) -> Result<(), Fail> {
         ),
         (
             5,
-            b"PUT /pic/a HTTP/1.1\r\nContent-Length: 00005\r\n\r\n",
+            b"PUT /pic/a HTTP/1.1\r\nContent-Length: 00000005\r\n\r\n",
             b"HTTP/1.1 200 OK\r\nContent-Length: 0\r\nETag: \"d05374dc381d9b52806446a71c8e79b1\"\r\n\r\nHTTP/1.1 200 OK\r\nContent-Length: 5\r\nETag: \"d05374dc381d9b52806446a71c8e79b1\"\r\n\r\n",
         ),
         (
@@ -45,6 +45,11 @@ fn a_body_has_at_most_65536_bytes(rt: HostRuntime) -> Result<(), Fail> {
             65_536,
             b"PUT /pic/a HTTP/1.1\r\nContent-Length: 65536\r\n\r\n",
             b"HTTP/1.1 200 OK\r\nContent-Length: 0\r\nETag: \"9cc60713923528a1dd94e1c1ab0ebc9e\"\r\n\r\nHTTP/1.1 200 OK\r\nContent-Length: 65536\r\nETag: \"9cc60713923528a1dd94e1c1ab0ebc9e\"\r\n\r\n",
+        ),
+        (
+            1_048_577,
+            b"PUT /pic/a HTTP/1.1\r\nContent-Length: 1048577\r\n\r\n",
+            b"HTTP/1.1 200 OK\r\nContent-Length: 0\r\nETag: \"79b67c7fbf43b76e5b7f182328bdc4b6\"\r\n\r\nHTTP/1.1 200 OK\r\nContent-Length: 1048577\r\nETag: \"79b67c7fbf43b76e5b7f182328bdc4b6\"\r\n\r\n",
         ),
     ];
     for (size, head, replies) in table {
@@ -64,9 +69,9 @@ fn a_body_has_at_most_65536_bytes(rt: HostRuntime) -> Result<(), Fail> {
 #[test]
 fn larger_numbers_are_refused(rt: HostRuntime) -> Result<(), Fail> {
     let table: [&[u8]; 4] = [
-        b"PUT /pic/a HTTP/1.1\r\nContent-Length: 65537\r\n\r\nthe body",
-        b"PUT /pic/a HTTP/1.1\r\nContent-Length: 99999\r\n\r\nthe body",
-        b"PUT /pic/a HTTP/1.1\r\nContent-Length: 000005\r\n\r\nthe body",
+        b"PUT /pic/a HTTP/1.1\r\nContent-Length: 16777217\r\n\r\nthe body",
+        b"PUT /pic/a HTTP/1.1\r\nContent-Length: 99999999\r\n\r\nthe body",
+        b"PUT /pic/a HTTP/1.1\r\nContent-Length: 000000005\r\n\r\nthe body",
         b"PUT /pic/a HTTP/1.1\r\nContent-Length: 4294967296\r\n\r\nthe body",
     ];
     for input in table {

@@ -208,13 +208,19 @@ fn data_that_no_version_names_is_removed(rt: HostRuntime) -> Result<(), Fail> {
         (
             "off",
             b"PUT /pic/a HTTP/1.1\r\nContent-Length: 3\r\n\r\nonePUT /pic/a HTTP/1.1\r\nContent-Length: 3\r\n\r\ntwo",
-            &["k/pic/a", "s/000000000001801c8000000000000003"],
+            &[
+                "k/pic/a",
+                "m/000000000001801c8000000000000003",
+                "s/000000000001801c8000000000000003",
+            ],
         ),
         (
             "on",
             b"PUT /pic/a HTTP/1.1\r\nContent-Length: 3\r\n\r\nonePUT /pic/a HTTP/1.1\r\nContent-Length: 3\r\n\r\ntwoDELETE /pic/a HTTP/1.1\r\n\r\n",
             &[
                 "k/pic/a",
+                "m/000000000001801c8000000000000001",
+                "m/000000000001801c8000000000000003",
                 "s/000000000001801c8000000000000001",
                 "s/000000000001801c8000000000000003",
             ],

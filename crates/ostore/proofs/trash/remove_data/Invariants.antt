@@ -1,8 +1,8 @@
-use Rattle.std.proofs.Common.{◌≡◌, ◌<◌, ◌≤◌, ℕ, IsTrue, List, length, map, slice_index_or}
+use Rattle.std.proofs.Common.{◌≡◌, ◌<◌, ◌≤◌, ℕ, IsTrue, List, length, slice_index_or}
 use Rattle.std.specs.List.{flat_map}
 use Rattle.stamp_id.specs.VersionId.{id_bytes}
 use Rattle.stamp_id.specs.declared.version.VersionId.{VersionId}
-use Rattle.ostore.specs.KeyFiles.{data_name}
+use Rattle.ostore.specs.Holders.{data_names}
 use Rattle.ostore.specs.Store.{OnlyRemoves}
 use Rattle.ostore.proofs.TrashLemmas.{AreLeft}
 use Rattle.ostore.proofs.trash.remove_data.Given as goal
@@ -13,7 +13,7 @@ invariant-loop-id g l = let D = g.D.Drive in record {
   left : (ids : List VersionId) → l.fn.gone ≡ flat_map id_bytes ids → AreLeft ids l.left;
   removes : (ids : List VersionId) → l.fn.gone ≡ flat_map id_bytes ids
       → (k : ℕ) (d : g.row.D.Denot) → k < length l.initial.drives → IsTrue (D.tells (slice_index_or l.initial.drives k d))
-      → OnlyRemoves (map data_name ids) (D.files (slice_index_or l.initial.drives k d)) (D.files (slice_index_or l.drives k d));
+      → OnlyRemoves (data_names ids) (D.files (slice_index_or l.initial.drives k d)) (D.files (slice_index_or l.drives k d));
   tells : (k : ℕ) (d : g.row.D.Denot) → k < length l.initial.drives → D.tells (slice_index_or l.drives k d) ≡ D.tells (slice_index_or l.initial.drives k d);
   counts : (k : ℕ) (d : g.row.D.Denot) → k < length l.initial.drives → D.count (slice_index_or l.initial.drives k d) ≤ D.count (slice_index_or l.drives k d);
 }
