@@ -27,7 +27,8 @@ cat >"$work/crates/register_bench/src/main.rt" <<'END'
 //! Times the calls of one change of a register over four memory drives, and counts the calls of the drives.
 #![tactic(auto)]
 
-ghost use Rattle.std.specs.Prelude.{None};
+ghost use Rattle.std.specs.Prelude.{None, IfSome};
+ghost use Rattle.register_file.specs.Record.{IsCanonicalNext};
 
 mod counted;
 
@@ -195,7 +196,12 @@ fn draw(world: &mut World) -> Option<Ballot> {
 }
 
 /// A change over what a look found.
-fn next_over(alloc: Global, world: &mut World, looked: &Looked, content: &[u8]) -> Option<Next> {
+fn next_over(alloc: Global, world: &mut World, looked: &Looked, content: &[u8]) -> Option<Next>
+    ensures { IfSome result (IsCanonicalNext looked.now.base.change) }
+{
+    if content.len() > 1_000_000 {
+        return None;
+    }
     let change = ChangeId(draw(world)?);
     Some(Next {
         ballot: draw(world)?,
@@ -207,11 +213,10 @@ fn next_over(alloc: Global, world: &mut World, looked: &Looked, content: &[u8]) 
 }
 
 /// The draft of a change.
-fn drafted(alloc: Global, looked: &Looked, next: &Next) -> Option<Draft> {
-    if looked.base.content.len() > 1_000_000 || next.content.len() > 1_000_000 {
-        return None;
-    }
-    if next.parent != looked.base.change {
+fn drafted(alloc: Global, looked: &Looked, next: &Next) -> Option<Draft>
+    requires { IsCanonicalNext looked.now.base.change next.now }
+{
+    if looked.base.content.len() > 1_000_000 {
         return None;
     }
     draft(alloc, looked, next).ok()

@@ -32,11 +32,11 @@ cat >"$work/crates/whole_bench/src/main.rt" <<'END'
 
 use drive_base::SetPlan;
 use hash_lanes::hash_equal_blocks;
-use md5::Md5;
+use md5::{Digest as _, Md5};
 use poly_code::{encode, rebuild};
 use sha2::{Digest, Sha256};
 use std::process::ExitCode;
-use std::time::Duration;
+use std::time::{CpuClock, Duration};
 
 const ROUNDS: u32 = 32;
 
