@@ -4,6 +4,7 @@
 # alone: SHA-256 of the blocks (twice the body in a PUT, once in a GET), MD5 of the body, and the code. Each is timed in
 # a small program, which is proved and built in a temporary repository with copies of the crates; the first time that
 # takes some minutes. With a number: so many PUTs and GETs.
+# It stops before it measures: one bound in that program, of a slice of the blocks, is not proved yet.
 set -euo pipefail
 
 top="$(cd "$(dirname "$(readlink -f "${BASH_SOURCE[0]}")")/.." && pwd)"
@@ -35,6 +36,7 @@ use hash_lanes::hash_equal_blocks;
 use md5::{Digest as _, Md5};
 use poly_code::{encode, rebuild};
 use sha2::{Digest, Sha256};
+use std::alloc::Global;
 use std::process::ExitCode;
 use std::time::{CpuClock, Duration};
 
@@ -56,11 +58,11 @@ fn main(rt: HostRuntime) -> ExitCode {
 }
 
 fn measure(rt: &HostRuntime) -> Option<()> {
-    let mut blocks = vec![in rt.alloc(); 7u8; 2_097_152].ok()?;
-    for i in 0..blocks.len() {
-        blocks[i] = (i % 251) as u8;
+    let blocks = filled(rt.alloc(), 4 * BLOCK)?;
+    let mut parity = filled(rt.alloc(), STRIPE)?;
+    if blocks.len() != 4 * BLOCK || parity.len() != STRIPE {
+        return None;
     }
-    let mut parity = vec![in rt.alloc(); 0u8; STRIPE].ok()?;
     let mut digests = [[0u8; 32]; 4];
     let from = rt.thread_cpu_time().ok()?;
     for _ in 0..ROUNDS {
@@ -92,6 +94,15 @@ fn measure(rt: &HostRuntime) -> Option<()> {
     }
     report(rt, "rebuild", 1, since(rt, from)?)?;
     println!(rt; "check {} {} {}", digests[0][0], tag[0], parity[0]).ok()
+}
+
+/// So many bytes, not all the same.
+fn filled(alloc: Global, size: usize) -> Option<Vec<u8>> {
+    let mut bytes = Vec::new(alloc);
+    for i in 0..size {
+        bytes.push((i % 251) as u8).ok()?;
+    }
+    Some(bytes)
 }
 
 /// The time since this moment of the thread's clock.
