@@ -1,1 +1,3 @@
+pub mod GoodLemmas
+pub mod MaskLemmas
 pub mod WhysLemmas

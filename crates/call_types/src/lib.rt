@@ -3,7 +3,8 @@
 //!
 //! The crate stands on `stamp_id` for ids and ballots and on `seal_file` for texts and damages. All fields are public.
 //! It promises that a `Listing` is the list of its items, made of a `Vec` and given back without memory, that the clone
-//! of a version or an upload is equal to it, and that `Whys` keeps one `Why` for each of 1 to 16 drives in place.
+//! of a version or an upload is equal to it, and that `Whys` keeps one `Why` for each of 1 to 16 drives in place and tells
+//! how many drives served, and which.
 #![tactic(auto)]
 
 mod act;

@@ -44,6 +44,11 @@ fn each_drive_has_its_why(rt: HostRuntime) {
     assert_eq!(rt; whys.get(1), Why::Good);
     assert_eq!(rt; whys.get(2), Why::Lacks(FileKind::Shard));
     assert_eq!(rt; whys.as_slice().len(), 4);
+    assert_eq!(rt; whys.good(), 3);
+    assert_eq!(rt; whys.good_mask(), 0b1011);
+    assert_eq!(rt; Whys::all_good(16).good_mask(), u16::MAX);
+    assert!(rt; Why::Good.is_good());
+    assert!(rt; !whys.get(2).is_good());
     assert!(rt; whys != Whys::all_good(4));
     assert_eq!(rt; Whys::all_good(16).len(), MOST_DRIVES);
 }

@@ -1,6 +1,7 @@
 //! Why each drive of a set served a call or did not.
 
 ghost use Rattle.std.specs.Prelude.{◌≡◌, ◌<◌, ◌≤◌, Some, length, replicate, slice_get, slice_set};
+ghost use Rattle.call_types.specs.Good.{IsGoodMask, good_count, is_good};
 
 use seal_file::Damage;
 use stamp_id::Ballot;
@@ -37,6 +38,15 @@ pub enum Why {
     Behind(Ballot),
     /// It has no file of this kind.
     Lacks(FileKind),
+}
+
+impl Why {
+    /// Whether the drive served.
+    pub fn is_good(self) -> bool
+        ensures { result ≡ is_good self }
+    {
+        matches!(self, Why::Good)
+    }
 }
 
 /// The most drives of a set.
@@ -111,5 +121,31 @@ impl Whys {
         ensures { result.now ≡ self.now }
     {
         &self.whys[..self.count as usize]
+    }
+
+    /// How many drives served.
+    pub fn good(&self) -> u8
+        ensures { result ≡ good_count self.now }
+    {
+        let mut count = 0;
+        for k in 0..self.len() {
+            if self.get(k).is_good() {
+                count += 1;
+            }
+        }
+        count
+    }
+
+    /// The mask of the drives that served: bit k is drive k's.
+    pub fn good_mask(&self) -> u16
+        ensures { IsGoodMask self.now result }
+    {
+        let mut mask = 0;
+        for k in 0..self.len() {
+            if self.get(k).is_good() {
+                mask |= 1 << k;
+            }
+        }
+        mask
     }
 }
