@@ -1,6 +1,6 @@
 //! The arithmetic of whole blocks.
 
-ghost use Rattle.std.specs.Prelude.{◌≡◌, ℕ, ◌*◌, ◌<◌, length, slice_index};
+ghost use Rattle.std.specs.Prelude.{◌≡◌, ℕ, ◌*◌, ◌<◌, bit_xor, length, slice_index};
 ghost use Rattle.gf256.specs.Field.{product};
 ghost use Rattle.poly_code.specs.Codeword.{AreDistinct};
 ghost use Rattle.poly_code.specs.Columns.{AddsProduct, byte_of_block};
@@ -31,11 +31,22 @@ pub fn add_product(element: u8, source: &[u8], into: &mut [u8])
     requires { length source.now ≡ length into.old }
     ensures { AddsProduct element source.now into.old into.new }
 {
-    if source.len() < 256 {
-        add_byte_by_byte(element, source, into);
-        return;
+    match element {
+        0 => (),
+        1 => add_block(source, into),
+        _ if source.len() < 256 => add_byte_by_byte(element, source, into),
+        _ => add_by_table(element, source, into),
     }
-    add_by_table(element, source, into);
+}
+
+/// Adds the bytes of a block to those of another: the element 1 has the bytes themselves as its products.
+fn add_block(source: &[u8], into: &mut [u8])
+    requires { length source.now ≡ length into.old }
+    ensures { (k : ℕ) → k < length into.old → slice_index into.new k ≡ bit_xor (slice_index into.old k) (slice_index source.now k) }
+{
+    for k in 0..into.len() {
+        into[k] ^= source[k];
+    }
 }
 
 /// The same, with one multiplication a byte: for short blocks.
