@@ -1,5 +1,4 @@
 pub mod CodingLemmas
 pub mod ManifestLemmas
-pub mod MaskLemmas
 pub mod NameLemmas
 pub mod ShardLemmas

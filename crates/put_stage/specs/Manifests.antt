@@ -1,7 +1,7 @@
 -- What a stage of a manifest alone answers.
 use Rattle.std.specs.Prelude.{◌≡◌, ◌<◌, ℕ, Bool, List, map, sum_by, Result, Ok, Err}
-use Rattle.std.specs.List.{count_by}
 use Rattle.stamp_id.specs.declared.version.VersionId.{VersionId}
+use Rattle.call_types.specs.Good.{good_count}
 use Rattle.call_types.specs.declared.why.Why.{Why}
 use Rattle.drive_base.specs.Files.{Files}
 use Rattle.drive_base.specs.Plan.{write_drives}
@@ -11,7 +11,7 @@ use Rattle.manifest_file.specs.Spelling.{file_of}
 use Rattle.manifest_file.specs.declared.manifest.Manifest.{Manifest}
 use Rattle.manifest_file.specs.declared.manifest.ManifestPart.{ManifestPart}
 use Rattle.put_stage.specs.OnDrives.{StagedFile, StagesOn, manifest_alone}
-use Rattle.put_stage.specs.Outcomes.{Acknowledges, is_good}
+use Rattle.put_stage.specs.Outcomes.{Acknowledges}
 use Rattle.put_stage.specs.declared.staged.Staged.{Staged}
 use Rattle.put_stage.specs.declared.staged.StageFault.{StageFault}
 use Rattle.put_stage.specs.declared.staged.StageFault.TheVariants.{WriteQuorum, BadDigest, BodyCut, ReadFault, NoMemory}
@@ -47,7 +47,7 @@ module _ {D : Type 0} (tells : D → Bool) (files : D → Files) (count : D → 
   -- fewer drives than a write needs took it
   pub record IsManifestShort (set : SetPlan) (id : VersionId) (manifest : Manifest) (whys : List Why) (old new : List D) : Type 0 where
     pub wrote : WroteManifest set id manifest whys old new
-    pub few : count_by is_good whys < write_drives set.drives set.parity
+    pub few : good_count whys < write_drives set.drives set.parity
 
   -- each answer of a stage of a manifest
   abbrev pub StagesManifest : SetPlan → VersionId → Manifest → List ℕ → Result Staged StageFault → List D → List D → Type 0

@@ -1,12 +1,12 @@
 -- What a stage of a body answers.
-use Rattle.std.specs.Prelude.{◌≡◌, ◌≢◌, ◌↔◌, ◌<◌, ◌≤◌, ◌^◌, ℕ, Bool, true, false, List, [], ◌∷◌, length, map, Option, Some, Result, Ok, Err, slice_index_or}
+use Rattle.std.specs.Prelude.{◌≡◌, ◌≢◌, ◌↔◌, ◌<◌, ◌≤◌, ◌^◌, ℕ, Bool, List, [], ◌∷◌, length, map, Option, Some, Result, Ok, Err, slice_index_or}
 use Rattle.std.specs.Int.{IsBitSet}
-use Rattle.std.specs.List.{count_by}
 use Rattle.md5.specs.Md5.{md5}
 use Rattle.stamp_id.specs.declared.version.VersionId.{VersionId}
+use Rattle.call_types.specs.Good.{good_count}
 use Rattle.call_types.specs.declared.why.FileKind.TheVariants.{Format}
 use Rattle.call_types.specs.declared.why.Why.{Why}
-use Rattle.call_types.specs.declared.why.Why.TheVariants.{Good, Failed, Damaged, Behind, Lacks}
+use Rattle.call_types.specs.declared.why.Why.TheVariants.{Good, Lacks}
 use Rattle.drive_base.specs.Files.{Files}
 use Rattle.drive_base.specs.Plan.{data_drives, write_drives}
 use Rattle.drive_base.specs.declared.plan.SetPlan.{SetPlan}
@@ -20,14 +20,6 @@ use Rattle.put_stage.specs.OnDrives.{StagedFile, StagesOn, manifest_and_shard}
 use Rattle.put_stage.specs.declared.staged.Staged.{Staged}
 use Rattle.put_stage.specs.declared.staged.StageFault.{StageFault}
 use Rattle.put_stage.specs.declared.staged.StageFault.TheVariants.{WriteQuorum, BadDigest, BodyCut, ReadFault, NoMemory}
-
--- whether a drive took all
-abbrev pub is_good : Why → Bool
-is_good Good = true
-is_good (Failed _ _) = false
-is_good (Damaged _) = false
-is_good (Behind _) = false
-is_good (Lacks _) = false
 
 -- the manifest of a body that is one part
 abbrev pub manifest_of : SetPlan → VersionId → List ℕ → ℕ → List (List ℕ) → Manifest
@@ -48,14 +40,9 @@ Compares stated computed (Err BodyCut) = ⊥
 Compares stated computed (Err ReadFault) = ⊥
 Compares stated computed (Err NoMemory) = ⊥
 
--- the bits of a mask say of each drive whether it took all
-pub record IsMaskOf (whys : List Why) (mask : ℕ) : Type 0 where
-  pub bits : (k : ℕ) → k < length whys → IsBitSet mask k ↔ (slice_index_or whys k (Lacks Format) ≡ Good)
-  pub none_else : mask < 2 ^ length whys
-
 -- enough drives took all, and the answer tells which, and this print, length and ETag
 pub record Acknowledges (set : SetPlan) (whys : List Why) (digest : List ℕ) (size : ℕ) (tag : List ℕ) (staged : Staged) : Type 0 where
-  pub enough : write_drives set.drives set.parity ≤ count_by is_good whys
+  pub enough : write_drives set.drives set.parity ≤ good_count whys
   pub took : (k : ℕ) → k < set.drives → IsBitSet staged.took k ↔ (slice_index_or whys k (Lacks Format) ≡ Good)
   pub none_else : staged.took < 2 ^ set.drives
   pub print : staged.print ≡ digest
@@ -65,7 +52,7 @@ pub record Acknowledges (set : SetPlan) (whys : List Why) (digest : List ℕ) (s
 -- the answer of a stage of which each drive answered with a `Why`
 abbrev pub Answers : SetPlan → List Why → List ℕ → ℕ → List ℕ → Result Staged StageFault → Type 0
 Answers set whys print long etag (Ok staged) = Acknowledges set whys print long etag staged
-Answers set whys print long etag (Err (WriteQuorum given)) = (given ≡ whys) × (count_by is_good whys < write_drives set.drives set.parity)
+Answers set whys print long etag (Err (WriteQuorum given)) = (given ≡ whys) × (good_count whys < write_drives set.drives set.parity)
 Answers set whys print long etag (Err (BadDigest given computed)) = ⊥
 Answers set whys print long etag (Err BodyCut) = ⊥
 Answers set whys print long etag (Err ReadFault) = ⊥
@@ -94,7 +81,7 @@ module _ {D : Type 0} (tells : D → Bool) (files : D → Files) (count : D → 
   pub record IsShort (set : SetPlan) (id : VersionId) (name body : List ℕ) (stated : Option (List ℕ)) (whys : List Why) (old new : List D) : Type 0 where
     pub shards : List (List (List ℕ))
     pub wrote : Wrote set id name body shards whys old new
-    pub few : count_by is_good whys < write_drives set.drives set.parity
+    pub few : good_count whys < write_drives set.drives set.parity
     pub agrees : Agrees stated body
 
   -- each answer of a stage that has the whole body
