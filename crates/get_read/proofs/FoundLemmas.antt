@@ -2,7 +2,6 @@
 use Rattle.std.proofs.Common.{◌≡◌, ◌≢◌, ℕ, zero, suc, ◌+◌, ◌*◌, ◌<◌, ◌≤◌, ◌∙◌, List, [], ◌∷◌, ◌++◌, length, slice_index, slice_index_or, slice_set, replicate, take, drop, subst, sym, ap, refl, get_or-set_other, inl, inr, arith}
 use Rattle.std.specs.Prelude.{All, Bool, cond, false, sum_by}
 use Rattle.std.specs.Int.{IsBitSet}
-use Rattle.std.specs.List.{count_by}
 use Rattle.std.proofs.Math.Nat.{mul-le-mul_left}
 use Rattle.std.proofs.Math.ListN.{length-set}
 use Rattle.std.proofs.lemmas.Bool.{cases_eq, cases_lt}
@@ -13,6 +12,7 @@ use Rattle.std.proofs.lemmas.List.Quantifiers.{all_pairs_push}
 use Rattle.std.proofs.lemmas.List.Folds.{sum_by-replicate}
 use Rattle.std.proofs.lemmas.List.Sums.{sum_by-set}
 use Rattle.std.proofs.Math.Seq.{drop-append_seam, get_or-append_seam}
+use Rattle.call_types.specs.Good.{good_count, is_good}
 use Rattle.call_types.specs.declared.why.Why.{Why}
 use Rattle.call_types.specs.declared.why.Why.TheVariants.{Good}
 use Rattle.drive_base.specs.Files.{Files}
@@ -23,7 +23,6 @@ use Rattle.poly_code.specs.Codeword.{AreDistinct}
 use Rattle.shard_file.specs.Stripes.{piece, stripe_length, block_size}
 use Rattle.get_read.specs.Blocks.{AreEnough, IsNoBlock, IsVerified, NoneMore}
 use Rattle.get_read.specs.Causes.{NoBlock}
-use Rattle.get_read.specs.Outcomes.{is_good}
 use Rattle.drive_files.specs.declared.cause.NotGiven.TheVariants.{Because}
 use Rattle.get_read.proofs.KeepingLemmas.{some_of}
 
@@ -45,7 +44,7 @@ module _ {D : Type 0} (tells : D → Bool) (files : D → Files) (count : D → 
   -- the drives before a place gave the blocks of the rows, or their `Why` says why not, and the others are as they were
   pub record AreFound (set : SetPlan) (part : ManifestPart) (i place : ℕ) (rows bytes : List ℕ) (whys : List Why) (old new : List D) : Type 0 where
     pub counted : length whys ≡ set.drives
-    pub sum : count_by is_good whys + place ≡ length rows + set.drives
+    pub sum : good_count whys + place ≡ length rows + set.drives
     pub good : (k : ℕ) → place ≤ k → slice_index_or whys k Good ≡ Good
     pub below : All (λ row. row < place) rows
     pub distinct : AreDistinct rows
@@ -76,7 +75,7 @@ row_added rows place = get_or-append_seam rows place [] 0
 
 -- drives that gave a block where their `Why` is good, and one that gave none less
 count_less : (whys : List Why) (i : ℕ) (why : Why) → i < length whys → slice_index_or whys i Good ≡ Good → is_good why ≡ false
-    → count_by is_good (slice_set whys i why) + 1 ≡ count_by is_good whys
+    → good_count (slice_set whys i why) + 1 ≡ good_count whys
 count_less whys i why low was bad =
     let one : Why → ℕ = λ (w : Why). cond (is_good w) 1 0 in
     let moved = sum_by-set one whys i why Good low in

@@ -1,8 +1,8 @@
 -- Digest tables that are held while a part is read, and verified blocks of a stripe.
 use Rattle.std.specs.Prelude.{◌≡◌, ◌⊎◌, ◌<◌, ◌*◌, ℕ, Bool, false, IsTrue, All, List, [], Some, length, slice_index, slice_index_or, Vec}
 use Rattle.std.specs.Int.{IsBitSet}
-use Rattle.std.specs.List.{count_by}
 use Rattle.sha2.specs.Sha256.{sha256}
+use Rattle.call_types.specs.Good.{good_count, is_good}
 use Rattle.call_types.specs.declared.why.Why.{Why}
 use Rattle.call_types.specs.declared.why.Why.TheVariants.{Good}
 use Rattle.drive_base.specs.Files.{Files}
@@ -13,7 +13,6 @@ use Rattle.shard_file.specs.Stripes.{piece, stripe_count, stripe_length, block_s
 use Rattle.poly_code.specs.Codeword.{AreDistinct}
 use Rattle.body_print.specs.Names.{shard_name}
 use Rattle.get_read.specs.Causes.{IsTableOf, NoBlock, digest_in}
-use Rattle.get_read.specs.Outcomes.{is_good}
 use Rattle.get_read.specs.Steps.{ShowsPiece}
 use Rattle.drive_files.specs.declared.cause.NotGiven.{NotGiven}
 use Rattle.drive_files.specs.declared.cause.NotGiven.TheVariants.{Because, NoMemory}
@@ -69,7 +68,7 @@ module _ {D : Type 0} (tells : D → Bool) (files : D → Files) (count : D → 
   -- fewer drives gave a block, and why each other gave none
   pub record NoneMore (set : SetPlan) (part : ManifestPart) (whys : List Why) (old new : List D) : Type 0 where
     pub counted : length whys ≡ set.drives
-    pub few : count_by is_good whys < data_drives set.drives set.parity
+    pub few : good_count whys < data_drives set.drives set.parity
     pub each : (k : ℕ) (default : D) → k < set.drives
         → NoBlock (data_drives set.drives set.parity) part (slice_index_or part.roots k []) (slice_index_or whys k Good) (IsBitSet set.out k)
         (tells (slice_index_or old k default)) (files (slice_index_or old k default))

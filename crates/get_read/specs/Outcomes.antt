@@ -1,10 +1,10 @@
 -- What a reader answers.
-use Rattle.std.specs.Prelude.{◌≡◌, ◌⊎◌, ◌<◌, ℕ, Bool, true, false, IsTrue, Some, List, [], length, take, drop, slice_index_or, Contains, Result, Ok, Err}
+use Rattle.std.specs.Prelude.{◌≡◌, ◌⊎◌, ◌<◌, ℕ, Bool, IsTrue, Some, List, [], length, take, drop, slice_index_or, Contains, Result, Ok, Err}
 use Rattle.std.specs.Int.{IsBitSet}
-use Rattle.std.specs.List.{count_by}
 use Rattle.stamp_id.specs.declared.version.VersionId.{VersionId}
+use Rattle.call_types.specs.Good.{good_count}
 use Rattle.call_types.specs.declared.why.Why.{Why}
-use Rattle.call_types.specs.declared.why.Why.TheVariants.{Good, Failed, Damaged, Behind, Lacks}
+use Rattle.call_types.specs.declared.why.Why.TheVariants.{Good}
 use Rattle.drive_base.specs.Files.{Files}
 use Rattle.drive_base.specs.Plan.{data_drives}
 use Rattle.drive_base.specs.declared.plan.SetPlan.{SetPlan}
@@ -18,14 +18,6 @@ use Rattle.body_print.specs.Prints.{HasPrint}
 use Rattle.get_read.specs.Causes.{Wanted, Serves, NoManifest, NoBlock}
 use Rattle.get_read.specs.declared.faults.ReadFaultKind.{ReadFaultKind}
 use Rattle.get_read.specs.declared.faults.ReadFaultKind.TheVariants.{InvalidRange, ShardQuorum, NoMemory}
-
--- whether a drive gave what was asked
-abbrev pub is_good : Why → Bool
-is_good Good = true
-is_good (Failed _ _) = false
-is_good (Damaged _) = false
-is_good (Behind _) = false
-is_good (Lacks _) = false
 
 -- what is wanted of a set
 abbrev pub wanted_of : SetPlan → List ℕ → ℕ → Wanted
@@ -61,7 +53,7 @@ module _ {D : Type 0} (tells : D → Bool) (files : D → Files) (count : D → 
     pub part : ManifestPart
     pub among : Contains manifest.parts part
     pub counted : length whys ≡ set.drives
-    pub few : count_by is_good whys < data_drives set.drives set.parity
+    pub few : good_count whys < data_drives set.drives set.parity
     pub each : (k : ℕ) (default : D) → k < set.drives
         → NoBlock (data_drives set.drives set.parity) part (slice_index_or part.roots k []) (slice_index_or whys k Good) (IsBitSet set.out k)
         (tells (slice_index_or old k default)) (files (slice_index_or old k default))
