@@ -10,22 +10,24 @@ some_of [] some = absurd (omega arith)
 some_of (x ∷ xs) some = x
 
 -- drives that are left alone are kept
-pub kept_alone : {D : Type 0} (tells : D → Bool) (files : D → Files) (count : D → ℕ) (drives : List D)
-    → AreKept tells files count drives drives
-kept_alone tells files count drives = record {
+pub kept_alone : {D : Type 0} (tells : D → Bool) (files : D → Files) (count : D → ℕ) (out : ℕ) (drives : List D)
+    → AreKept tells files count out drives drives
+kept_alone tells files count out drives = record {
   long = refl;
   held = λ k d low told. refl;
   same = λ k d low. refl;
   faults = λ k d low. omega arith;
+  stay = λ k d is_out. refl;
 }
 
 -- drives that are kept twice are kept
-pub kept_on : {D : Type 0} (tells : D → Bool) (files : D → Files) (count : D → ℕ) (old mid new : List D)
-    → AreKept tells files count old mid → AreKept tells files count mid new → AreKept tells files count old new
-kept_on tells files count old mid new first then = record {
+pub kept_on : {D : Type 0} (tells : D → Bool) (files : D → Files) (count : D → ℕ) (out : ℕ) (old mid new : List D)
+    → AreKept tells files count out old mid → AreKept tells files count out mid new → AreKept tells files count out old new
+kept_on tells files count out old mid new first then = record {
   long = then.long ∙ first.long;
   held = λ k d low told.
       then.held k d (omega (arith, low, first.long)) (subst IsTrue (sym (first.same k d low)) told) ∙ first.held k d low told;
   same = λ k d low. then.same k d (omega (arith, low, first.long)) ∙ first.same k d low;
   faults = λ k d low. omega (arith, first.faults k d low, then.faults k d (omega (arith, low, first.long)));
+  stay = λ k d is_out. then.stay k d is_out ∙ first.stay k d is_out;
 }

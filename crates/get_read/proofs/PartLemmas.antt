@@ -50,9 +50,9 @@ module _ {D : Type 0} (tells : D → Bool) (files : D → Files) (count : D → 
         → (new ≡ old ++ take (stripe_size * i) bytes) ⊎ PartClash tells files set.drives (data_drives set.drives set.parity) bytes drives
 
   -- what was read of drives that were kept was read of what they were
-  pub read_before : (old mid : List D) (bytes : List ℕ) → AreKept tells files count old mid → WasRead tells files mid bytes
+  pub read_before : (out : ℕ) (old mid : List D) (bytes : List ℕ) → AreKept tells files count out old mid → WasRead tells files mid bytes
       → WasRead tells files old bytes
-  read_before old mid bytes kept read =
+  read_before out old mid bytes kept read =
       let low : read.0 < length old = omega (arith, read.1, kept.long) in (
         read.0,
         low,
@@ -61,19 +61,19 @@ module _ {D : Type 0} (tells : D → Bool) (files : D → Files) (count : D → 
             (read.2 default (subst IsTrue (sym (kept.same read.0 default low)) told))),
       )
 
-  pub clash_before : (n d : ℕ) (bytes : List ℕ) (old mid : List D) → AreKept tells files count old mid → PartClash tells files n d bytes mid
+  pub clash_before : (n d out : ℕ) (bytes : List ℕ) (old mid : List D) → AreKept tells files count out old mid → PartClash tells files n d bytes mid
       → PartClash tells files n d bytes old
-  clash_before n d bytes old mid kept clash = record {
+  clash_before n d out bytes old mid kept clash = record {
     read = clash.read;
     other = clash.other;
     differ = clash.differ;
     same = clash.same;
-    was_read = read_before old mid clash.read kept clash.was_read;
+    was_read = read_before out old mid clash.read kept clash.was_read;
     is = clash.is;
   }
 
   pub few_before : (set : SetPlan) (part : ManifestPart) (fault : ReadFaultKind) (old mid new : List D) → length old ≡ set.drives
-      → AreKept tells files count old mid → AreFew tells files count set part fault mid new → AreFew tells files count set part fault old new
+      → AreKept tells files count set.out old mid → AreFew tells files count set part fault mid new → AreFew tells files count set part fault old new
   few_before set part (InvalidRange end) old mid new all kept few = few
   few_before set part NoMemory old mid new all kept few = few
   few_before set part (ShardQuorum whys) old mid new all kept few = record {
@@ -89,7 +89,7 @@ module _ {D : Type 0} (tells : D → Bool) (files : D → Files) (count : D → 
   }
 
   pub refused_before : {T : Type 0} (set : SetPlan) (part : ManifestPart) (result : Result T ReadFaultKind) (old mid new : List D)
-      → length old ≡ set.drives → AreKept tells files count old mid → IfErr result (λ fault. AreFew tells files count set part fault mid new)
+      → length old ≡ set.drives → AreKept tells files count set.out old mid → IfErr result (λ fault. AreFew tells files count set part fault mid new)
       → IfErr result (λ fault. AreFew tells files count set part fault old new)
   refused_before set part (Ok value) old mid new all kept few = few
   refused_before set part (Err fault) old mid new all kept few = few_before set part fault old mid new all kept few
@@ -103,7 +103,7 @@ module _ {D : Type 0} (tells : D → Bool) (files : D → Files) (count : D → 
 
   -- one more stripe
   pub front_more : (set : SetPlan) (part : ManifestPart) (i : ℕ) (drives mid_drives : List D) (old mid new : List ℕ) → i < stripe_count part.length
-      → AreKept tells files count drives mid_drives
+      → AreKept tells files count set.out drives mid_drives
       → AddsFront set part i drives old mid → AddsStripe tells files set part i mid_drives mid new → AddsFront set part (i + 1) drives old new
   front_more set part i drives mid_drives old mid new within kept front stripe = record {
     long = omega (arith, front.long, stripe.long, within);
@@ -116,7 +116,7 @@ module _ {D : Type 0} (tells : D → Bool) (files : D → Files) (count : D → 
           | inl before ↦ elim (stripe.exact bytes is roots) [
             | inl last ↦ inl (last ∙ ap (λ (m : List ℕ). m ++ piece stripe_size bytes i) before
                 ∙ append_assoc old (take (stripe_size * i) bytes) (piece stripe_size bytes i) ∙ ap (λ (m : List ℕ). old ++ m) (sym split))
-            | inr clash ↦ inr (clash_before set.drives dd bytes drives mid_drives kept clash)
+            | inr clash ↦ inr (clash_before set.drives dd set.out bytes drives mid_drives kept clash)
           ]
           | inr clash ↦ inr clash
         ];

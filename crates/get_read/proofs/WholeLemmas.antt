@@ -20,8 +20,7 @@ use Rattle.shard_file.specs.Shards.{root_of, table_of}
 use Rattle.body_print.specs.Prints.{HasPrint, IsCutOf}
 use Rattle.get_read.specs.Causes.{Serves, body_length}
 use Rattle.get_read.specs.Keeping.{AreKept}
-use Rattle.get_read.specs.Manifests.{FindsManifest}
-use Rattle.get_read.specs.Outcomes.{AreOfSpan, IsFound, IsRefused, wanted_of}
+use Rattle.get_read.specs.Outcomes.{AreOfSpan, FindsManifest, IsFound, IsRefused, wanted_of}
 use Rattle.get_read.specs.Parts.{AddsPart, AreFront, CutClash, IsCutAs, SomeAreFew}
 use Rattle.get_read.specs.Blocks.{AreFew}
 use Rattle.get_read.specs.declared.faults.ReadFaultKind.{ReadFaultKind}
@@ -122,7 +121,7 @@ module _ {D : Type 0} (tells : D → Bool) (files : D → Files) (count : D → 
   }
 
   pub first_more : (set : SetPlan) (parts : List ManifestPart) (part : ManifestPart) (i : ℕ) (drives mid : List D) (old new : List ℕ) → i < length parts
-      → slice_index_or parts i part ≡ part → AreKept tells files count drives mid
+      → slice_index_or parts i part ≡ part → AreKept tells files count set.out drives mid
       → AreFirst set parts i drives old → AddsPart tells files set part mid old new → AreFirst set parts (i + 1) drives new
   first_more set parts part i drives mid old new low at kept first adds = record {
     long = omega (arith, adds.long, first.long, ap (λ (q : ManifestPart). q.length) at, sum_by_more (λ (q : ManifestPart). q.length) parts i part low);
@@ -133,7 +132,7 @@ module _ {D : Type 0} (tells : D → Bool) (files : D → Files) (count : D → 
         elim (first.exact cut is) [
           | inl before ↦ elim (adds.exact piece (sym so.0) so.1) [
             | inl last ↦ inl (last ∙ ap (λ (m : List ℕ). m ++ piece) before ∙ sym (concat-take_more cut i inside))
-            | inr clash ↦ inr (i, inside, clash_before tells files count set.drives (set.drives - set.parity) piece drives mid kept clash)
+            | inr clash ↦ inr (i, inside, clash_before tells files count set.drives (set.drives - set.parity) set.out piece drives mid kept clash)
           ]
           | inr clash ↦ inr clash
         ];
@@ -231,19 +230,19 @@ module _ {D : Type 0} (tells : D → Bool) (files : D → Files) (count : D → 
 
   -- some blocks were few while drives were kept
   pub some_before : {T : Type 0} (set : SetPlan) (parts : List ManifestPart) (result : Result T ReadFaultKind) (old mid new : List D)
-      → length old ≡ set.drives → AreKept tells files count old mid → IfErr result (λ fault. SomeAreFew tells files count set parts fault mid new)
+      → length old ≡ set.drives → AreKept tells files count set.out old mid → IfErr result (λ fault. SomeAreFew tells files count set parts fault mid new)
       → IfErr result (λ fault. SomeAreFew tells files count set parts fault old new)
   some_before set parts (Ok value) old mid new all kept some = some
   some_before set parts (Err fault) old mid new all kept some =
       (some.0, some.1, few_before tells files count set some.0 fault old mid new all kept some.2)
 
   -- the first parts of drives that were kept
-  pub front_before : (set : SetPlan) (parts : List ManifestPart) (old mid : List D) (body : List ℕ) → AreKept tells files count old mid
+  pub front_before : (set : SetPlan) (parts : List ManifestPart) (old mid : List D) (body : List ℕ) → AreKept tells files count set.out old mid
       → AreFront tells files set parts mid body → AreFront tells files set parts old body
   front_before set parts old mid body kept front = (
     front.0,
     (λ cut is. elim (front.1 cut is) [
       | inl same ↦ inl same
-      | inr clash ↦ inr (clash.0, clash.1, clash_before tells files count set.drives (set.drives - set.parity) (slice_index_or cut clash.0 []) old mid kept clash.2)
+      | inr clash ↦ inr (clash.0, clash.1, clash_before tells files count set.drives (set.drives - set.parity) set.out (slice_index_or cut clash.0 []) old mid kept clash.2)
     ]),
   )

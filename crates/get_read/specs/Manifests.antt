@@ -4,17 +4,13 @@ use Rattle.stamp_id.specs.declared.version.VersionId.{VersionId}
 use Rattle.call_types.specs.declared.why.Why.{Why}
 use Rattle.call_types.specs.declared.why.Why.TheVariants.{Good, Failed, Damaged, Behind, Lacks}
 use Rattle.drive_base.specs.Files.{Files}
-use Rattle.drive_base.specs.declared.plan.SetPlan.{SetPlan}
 use Rattle.manifest_file.specs.Canonical.{IsCanonical}
 use Rattle.manifest_file.specs.Spelling.{file_of}
 use Rattle.manifest_file.specs.declared.manifest.Manifest.{Manifest as ManifestRecord}
 use Rattle.body_print.specs.Names.{manifest_name}
 use Rattle.get_read.specs.Causes.{Wanted, Serves, IsManifestDamage, NoManifest}
-use Rattle.get_read.specs.Outcomes.{IsFound, NoneServes, wanted_of}
 use Rattle.drive_files.specs.declared.cause.NotGiven.{NotGiven}
 use Rattle.drive_files.specs.declared.cause.NotGiven.TheVariants.{Because, NoMemory}
-use Rattle.get_read.specs.declared.faults.ReadFaultKind.{ReadFaultKind}
-use Rattle.get_read.specs.declared.faults.ReadFaultKind.TheVariants.{InvalidRange, ShardQuorum, NoMemory as NoRoom}
 
 -- only a damage is told, and the file has it
 abbrev pub IsDamagedSo : Wanted → List ℕ → Why → Type 0
@@ -36,11 +32,3 @@ GivesManifest wanted id out (Ok m) tells files old new =
     IsCanonical m × Serves wanted m × (IsTrue tells → files.shown (manifest_name id) ≡ Some (file_of m))
 GivesManifest wanted id out (Err (Because why)) tells files old new = NoManifest wanted id why out tells files old new
 GivesManifest wanted id out (Err NoMemory) tells files old new = Unit {0}
-
-module _ {D : Type 0} (tells : D → Bool) (files : D → Files) (count : D → ℕ) where
-  -- a manifest that serves, which a drive that tells shows, or why no drive gave one
-  abbrev pub FindsManifest : SetPlan → List ℕ → VersionId → ℕ → Result ManifestRecord ReadFaultKind → List D → List D → Type 0
-  FindsManifest set print id reach (Ok m) old new = IsFound tells files id m old × IsCanonical m × Serves (wanted_of set print reach) m
-  FindsManifest set print id reach (Err (InvalidRange _)) old new = ⊥
-  FindsManifest set print id reach (Err (ShardQuorum whys)) old new = NoneServes tells files count set print id reach whys old new
-  FindsManifest set print id reach (Err NoRoom) old new = Unit {0}

@@ -66,9 +66,14 @@ module _ {D : Type 0} (tells : D → Bool) (files : D → Files) (count : D → 
       NoneServes set print id reach whys old new ⊎ FewBlocks set print id reach whys old new
   IsRefused set print id reach NoMemory old new = Unit {0}
 
+  -- what a search for a manifest whose body reaches so far answers: one that serves, which a drive that tells shows, or
+  -- why no drive gave one
+  abbrev pub FindsManifest : SetPlan → List ℕ → VersionId → ℕ → Result Manifest ReadFaultKind → List D → List D → Type 0
+  FindsManifest set print id reach (Ok m) old new = IsFound tells files id m old × IsCanonical m × Serves (wanted_of set print reach) m
+  FindsManifest set print id reach (Err (InvalidRange _)) old new = ⊥
+  FindsManifest set print id reach (Err (ShardQuorum whys)) old new = NoneServes set print id reach whys old new
+  FindsManifest set print id reach (Err NoMemory) old new = Unit {0}
+
   -- what reading the manifest answers
   abbrev pub ReadsManifest : SetPlan → List ℕ → VersionId → Result Manifest ReadFaultKind → List D → List D → Type 0
-  ReadsManifest set print id (Ok m) old new = IsCanonical m × Serves (wanted_of set print 0) m
-  ReadsManifest set print id (Err (InvalidRange _)) old new = ⊥
-  ReadsManifest set print id (Err (ShardQuorum whys)) old new = NoneServes set print id 0 whys old new
-  ReadsManifest set print id (Err NoMemory) old new = Unit {0}
+  ReadsManifest set print id result old new = FindsManifest set print id 0 result old new

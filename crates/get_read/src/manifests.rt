@@ -7,8 +7,8 @@ ghost use Rattle.manifest_file.specs.Spelling.{file_of};
 ghost use Rattle.body_print.specs.Names.{manifest_name};
 ghost use Rattle.stamp_id.specs.declared.version.VersionId.{VersionId};
 ghost use Rattle.get_read.specs.Causes.{Fits, body_length};
-ghost use Rattle.get_read.specs.Manifests.{GivesManifest, FindsManifest, IsServed};
-ghost use Rattle.get_read.specs.Outcomes.{ReadsManifest, wanted_of};
+ghost use Rattle.get_read.specs.Manifests.{GivesManifest, IsServed};
+ghost use Rattle.get_read.specs.Outcomes.{FindsManifest, ReadsManifest, wanted_of};
 
 use crate::faults::ReadFaultKind;
 use body_print::name_of_manifest;
@@ -32,7 +32,7 @@ pub struct Wanted {
 }
 
 /// The manifest of an id that has this print and is of the set's numbers, from the first drive that gives it. `ShardQuorum`
-/// comes where no drive does, with the cause for each. No drive is changed.
+/// comes where no drive does, with the cause for each. No drive is changed, and one that is out isn't called.
 pub fn read_manifest<D: Drive>(
     alloc: Global,
     set: SetPlan,
@@ -45,6 +45,7 @@ pub fn read_manifest<D: Drive>(
     ensures files { (k : ℕ) (d : D) → k < length drives.old → IsTrue (D.tells (slice_index_or drives.old k d)) → D.files (slice_index_or drives.new k d) ≡ D.files (slice_index_or drives.old k d) }
     ensures tells { (k : ℕ) (d : D) → k < length drives.old → D.tells (slice_index_or drives.new k d) ≡ D.tells (slice_index_or drives.old k d) }
     ensures counts { (k : ℕ) (d : D) → k < length drives.old → D.count (slice_index_or drives.old k d) ≤ D.count (slice_index_or drives.new k d) }
+    ensures stay { (k : ℕ) (d : D) → IsBitSet set.out k → slice_index_or drives.new k d ≡ slice_index_or drives.old k d }
 {
     let wanted = Wanted {
         set,
@@ -67,6 +68,7 @@ pub fn manifest_for<D: Drive>(
     ensures files { (k : ℕ) (d : D) → k < length drives.old → IsTrue (D.tells (slice_index_or drives.old k d)) → D.files (slice_index_or drives.new k d) ≡ D.files (slice_index_or drives.old k d) }
     ensures tells { (k : ℕ) (d : D) → k < length drives.old → D.tells (slice_index_or drives.new k d) ≡ D.tells (slice_index_or drives.old k d) }
     ensures counts { (k : ℕ) (d : D) → k < length drives.old → D.count (slice_index_or drives.old k d) ≤ D.count (slice_index_or drives.new k d) }
+    ensures stay { (k : ℕ) (d : D) → IsBitSet wanted.set.out k → slice_index_or drives.new k d ≡ slice_index_or drives.old k d }
 {
     let name = name_of_manifest(alloc, id)?;
     let mut whys = Whys::all_good(wanted.set.drives);

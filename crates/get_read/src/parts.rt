@@ -31,7 +31,7 @@ pub fn parts_of<D: Drive>(
     ensures reach { IfOk result (λ body. long ≤ length body.items) }
     ensures front { IfOk result (λ body. AreFront D.tells D.files set parts.now drives.old body.items) }
     ensures few { IfErr result (λ fault. SomeAreFew D.tells D.files D.count set parts.now fault drives.old drives.new) }
-    ensures kept { AreKept D.tells D.files D.count drives.old drives.new }
+    ensures kept { AreKept D.tells D.files D.count set.out drives.old drives.new }
 {
     let mut body = Vec::new(alloc);
     for part in parts {
@@ -55,7 +55,7 @@ fn add_part<D: Drive>(
     requires roots { length part.now.roots ≡ set.drives }
     ensures added { IsOk result → AddsPart D.tells D.files set part.now drives.old body.old.items body.new.items }
     ensures few { IfErr result (λ fault. AreFew D.tells D.files D.count set part.now fault drives.old drives.new) }
-    ensures kept { AreKept D.tells D.files D.count drives.old drives.new }
+    ensures kept { AreKept D.tells D.files D.count set.out drives.old drives.new }
 {
     let name = name_of_shard(alloc, part.id)?;
     let mut tables = no_tables(alloc, set.drives)?;
@@ -96,7 +96,7 @@ fn stripe_at<D: Drive>(
     ensures tables { length tables.new ≡ length tables.old }
     ensures added { IsOk result → AddsStripe D.tells D.files set part.now stripe drives.old body.old.items body.new.items }
     ensures few { IfErr result (λ fault. AreFew D.tells D.files D.count set part.now fault drives.old drives.new) }
-    ensures kept { AreKept D.tells D.files D.count drives.old drives.new }
+    ensures kept { AreKept D.tells D.files D.count set.out drives.old drives.new }
 {
     let blocks = blocks_of(alloc, set, part, name, stripe, tables, drives)?;
     let long = (part.length - stripe * STRIPE).min(STRIPE);

@@ -51,7 +51,7 @@ pub fn blocks_of<D: Drive>(
     ensures tables { length tables.new ≡ length tables.old }
     ensures enough { IfOk result (λ blocks. AreEnough D.tells D.files set part.now stripe blocks.rows.items blocks.bytes.items drives.old) }
     ensures few { IfErr result (λ fault. AreFew D.tells D.files D.count set part.now fault drives.old drives.new) }
-    ensures kept { AreKept D.tells D.files D.count drives.old drives.new }
+    ensures kept { AreKept D.tells D.files D.count set.out drives.old drives.new }
 {
     let mut found = Blocks {
         rows: Vec::new(alloc),
@@ -106,7 +106,7 @@ fn block_at<D: Drive>(
     ensures block { IfOk result (λ block. (d : D) → IsVerified (data_drives set.drives set.parity) part.now stripe (slice_index_or part.now.roots index []) (D.tells (slice_index_or drives.old index d)) (D.files (slice_index_or drives.old index d)) block.items) }
     ensures cause { IfErr result (λ fault. (d : D) → IsNoBlock (data_drives set.drives set.parity) part.now (slice_index_or part.now.roots index []) fault (IsBitSet set.out index) (D.tells (slice_index_or drives.old index d)) (D.files (slice_index_or drives.old index d)) (D.count (slice_index_or drives.old index d)) (D.count (slice_index_or drives.new index d))) }
     ensures others { (k : ℕ) (d : D) → k ≢ index → slice_index_or drives.new k d ≡ slice_index_or drives.old k d }
-    ensures kept { AreKept D.tells D.files D.count drives.old drives.new }
+    ensures kept { AreKept D.tells D.files D.count set.out drives.old drives.new }
 {
     let table = &mut tables[index as usize];
     let drive = &mut drives[index as usize];

@@ -1,6 +1,7 @@
 //! Reading a whole body.
 
 ghost use Rattle.std.specs.Prelude.{◌≡◌, ◌<◌, ◌≤◌, ℕ, IsTrue, IfOk, IfErr, length, slice_index_or};
+ghost use Rattle.std.specs.Int.{IsBitSet};
 ghost use Rattle.get_read.specs.Outcomes.{AreOfSpan, IsRefused};
 
 use crate::faults::ReadFaultKind;
@@ -15,7 +16,7 @@ use std::alloc::Global;
 /// The drives are asked one after the other: for the manifest until one has it, and for each stripe until as many gave a
 /// verified block as the stripe has data blocks. `ShardQuorum` comes only after all drives were asked, with the cause for
 /// each: none had a manifest of this print and of the set's numbers that reaches so far, or too few had a block of some
-/// stripe. No drive is changed.
+/// stripe. No drive is changed, and one that is out isn't called.
 pub fn read_whole<D: Drive>(
     alloc: Global,
     set: SetPlan,
@@ -31,6 +32,7 @@ pub fn read_whole<D: Drive>(
     ensures files { (k : ℕ) (d : D) → k < length drives.old → IsTrue (D.tells (slice_index_or drives.old k d)) → D.files (slice_index_or drives.new k d) ≡ D.files (slice_index_or drives.old k d) }
     ensures tells { (k : ℕ) (d : D) → k < length drives.old → D.tells (slice_index_or drives.new k d) ≡ D.tells (slice_index_or drives.old k d) }
     ensures counts { (k : ℕ) (d : D) → k < length drives.old → D.count (slice_index_or drives.old k d) ≤ D.count (slice_index_or drives.new k d) }
+    ensures stay { (k : ℕ) (d : D) → IsBitSet set.out k → slice_index_or drives.new k d ≡ slice_index_or drives.old k d }
 {
     let wanted = Wanted {
         set,

@@ -43,11 +43,13 @@ loop-drive-preserved g c =
       long = search rules;
       none = subst (λ (ws : List Why). (k : ℕ) (d : T) → k < i + 1 → P k (slice_index_or ws k Good) (slice_index_or old k d) (slice_index_or (slice_set now i x) k d)) (sym whys)
           (each_more T P c.loop-drive.whys old now i why x (omega arith) low one inv.none);
-      files = set_each T (λ (a b : T). IsTrue (D.tells a) → D.files b ≡ D.files a) old now i x low
+      files = set_each T (λ (_ : ℕ) (a b : T). IsTrue (D.tells a) → D.files b ≡ D.files a) old now i x low
           (λ d. subst (λ (a : T). IsTrue (D.tells a) → D.files x ≡ D.files a) (was d) c.manifest_on.ensures.files) inv.files;
-      tells = set_each T (λ (a b : T). D.tells b ≡ D.tells a) old now i x low
+      tells = set_each T (λ (_ : ℕ) (a b : T). D.tells b ≡ D.tells a) old now i x low
           (λ d. subst (λ (a : T). D.tells x ≡ D.tells a) (was d) c.manifest_on.ensures.tells) inv.tells;
-      counts = set_each T (λ (a b : T). D.count a ≤ D.count b) old now i x low
+      counts = set_each T (λ (_ : ℕ) (a b : T). D.count a ≤ D.count b) old now i x low
           (λ d. subst (λ (a : T). D.count a ≤ D.count x) (was d) c.manifest_on.ensures.count) inv.counts;
+      stay = set_each T (λ (k : ℕ) (a b : T). IsBitSet c.args.wanted.set.out k → b ≡ a) old now i x low
+          (λ d is_out. c.manifest_on.ensures.alone (subst (IsBitSet c.args.wanted.set.out) (sym inv.at) is_out) ∙ was d) inv.stay;
       others = search rules;
     }

@@ -18,7 +18,7 @@ loop-stripe-init g c =
       held = λ k default none low.
           inl (ap (λ (tables : List (Vec ℕ Global)). (slice_index_or tables k none).items) value
           ∙ made.empty k none (subst (λ (tables : List (Vec ℕ Global)). k < length tables) value low));
-      kept = kept_alone D.tells D.files D.count c.args.drives.now;
+      kept = kept_alone D.tells D.files D.count c.args.set.out c.args.drives.now;
       added = front_none D.tells D.files D.count c.args.set c.args.part.now c.args.drives.now c.args.body.now.items;
     }
 
@@ -28,7 +28,7 @@ loop-stripe-preserved g c =
     let inv = c.loop-stripe.invariant in
     let old = c.args.drives.now in
     let mid = c.loop-stripe.drives in
-    let kept = kept_on D.tells D.files D.count old mid c.stripe_at.new.drives inv.kept c.stripe_at.ensures.kept in
+    let kept = kept_on D.tells D.files D.count c.args.set.out old mid c.stripe_at.new.drives inv.kept c.stripe_at.ensures.kept in
     let within : c.loop-stripe.stripe < stripe_count c.args.part.now.length = omega arith in
     record {
       drives = kept.long ∙ c.requires.drives;

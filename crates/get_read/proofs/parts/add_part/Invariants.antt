@@ -11,6 +11,6 @@ invariant-loop-stripe g l = let D = g.D.Drive in record {
   drives : length l.drives ≡ l.set.drives;
   tables : length l.tables ≡ l.set.drives;
   held : AreHeld D.tells D.files (data_drives l.set.drives l.set.parity) l.part l.tables l.drives;
-  kept : AreKept D.tells D.files D.count l.initial.drives l.drives;
+  kept : AreKept D.tells D.files D.count l.set.out l.initial.drives l.drives;
   added : AddsFront D.tells D.files D.count l.set l.part l.stripe l.initial.drives l.initial.body.items l.body.items;
 }

@@ -9,7 +9,7 @@ use Rattle.get_read.proofs.parts.parts_of.Goals as goal
 pub loop-part-init : goal.loop-part-init
 loop-part-init g c = let D = g.D.Drive in record {
   drives = c.requires.drives;
-  kept = kept_alone D.tells D.files D.count c.args.drives.now;
+  kept = kept_alone D.tells D.files D.count c.args.set.out c.args.drives.now;
   first = first_none D.tells D.files D.count c.args.set c.args.parts.now c.args.drives.now c.new-body.result.items c.new-body.ensures.items;
 }
 
@@ -20,7 +20,7 @@ loop-part-preserved g c =
     let old = c.args.drives.now in
     let mid = c.loop-part.drives in
     let low : c.loop-part.part-index < length c.args.parts.now = omega arith in
-    let kept = kept_on D.tells D.files D.count old mid c.add_part.new.drives inv.kept c.add_part.ensures.kept in
+    let kept = kept_on D.tells D.files D.count c.args.set.out old mid c.add_part.new.drives inv.kept c.add_part.ensures.kept in
     record {
       drives = kept.long ∙ c.requires.drives;
       kept = kept;

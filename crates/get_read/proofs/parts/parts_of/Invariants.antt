@@ -7,6 +7,6 @@ use Rattle.get_read.proofs.parts.parts_of.Given as goal
 abbrev pub invariant-loop-part : goal.invariant-loop-part
 invariant-loop-part g l = let D = g.D.Drive in record {
   drives : length l.drives ≡ l.set.drives;
-  kept : AreKept D.tells D.files D.count l.initial.drives l.drives;
+  kept : AreKept D.tells D.files D.count l.set.out l.initial.drives l.drives;
   first : AreFirst D.tells D.files D.count l.set l.parts l.part-index l.initial.drives l.body.items;
 }

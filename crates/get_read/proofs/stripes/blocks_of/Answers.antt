@@ -16,7 +16,7 @@ loop-index-init g c =
       few = omega (arith, ap (length {A = ℕ}) c.new.ensures.items);
       found = found_none D.tells D.files D.count c.args.set c.args.part.now c.args.stripe c.new.result.items c.new-2.result.items c.all_good-whys.result
           c.args.drives.now c.new.ensures.items c.new-2.ensures.items c.all_good-whys.ensures;
-      kept = kept_alone D.tells D.files D.count c.args.drives.now;
+      kept = kept_alone D.tells D.files D.count c.args.set.out c.args.drives.now;
     }
 
 pub loop-index-preserved : goal.loop-index-preserved
@@ -32,7 +32,7 @@ loop-index-preserved g c =
     let rows = c.loop-index.found.rows.items in
     let bytes = c.loop-index.found.bytes.items in
     let some : 0 < length old = omega (arith, c.requires.drives) in
-    let kept = kept_on D.tells D.files D.count old mid new inv.kept c.block_at.ensures.kept in
+    let kept = kept_on D.tells D.files D.count c.args.set.out old mid new inv.kept c.block_at.ensures.kept in
     let drives : length new ≡ set.drives = omega (arith, kept.long, c.requires.drives) in
     let tables : length c.block_at.new.tables ≡ set.drives = omega (arith, c.block_at.ensures.tables, inv.tables) in
     elim c.match-block_at.branch [

@@ -17,8 +17,14 @@ returns-in_err-body-clause-refused g c =
     let m = c.in_ok-manifest.manifest in
     let result = c.from_residual-in_err-body.result in
     let given = c.in_ok-manifest.ensures.outcome in
-    let kept : AreKept D.tells D.files D.count old mid =
-    record { long = c.manifest_for.ensures.long; held = c.manifest_for.ensures.files; same = c.manifest_for.ensures.tells; faults = c.manifest_for.ensures.counts } in
+    let kept : AreKept D.tells D.files D.count set.out old mid =
+    record {
+      long = c.manifest_for.ensures.long;
+      held = c.manifest_for.ensures.files;
+      same = c.manifest_for.ensures.tells;
+      faults = c.manifest_for.ensures.counts;
+      stay = c.manifest_for.ensures.stay;
+    } in
     let p = err_from_is_err_and result c.from_residual-in_err-body.ensures.1 in
     let few : IfErr result (λ fault. SomeAreFew D.tells D.files D.count set c.as_slice.result.now fault mid new) = rw (p.1, p.2) c.in_err-body.ensures.few in
     let some : IfErr result (λ fault. SomeAreFew D.tells D.files D.count set m.parts fault mid new) =
@@ -35,8 +41,14 @@ returns-clause-exact g c =
     let m = c.in_ok-manifest.manifest in
     let body = c.in_ok-body.body.items in
     let given = c.in_ok-manifest.ensures.outcome in
-    let kept : AreKept D.tells D.files D.count old mid =
-    record { long = c.manifest_for.ensures.long; held = c.manifest_for.ensures.files; same = c.manifest_for.ensures.tells; faults = c.manifest_for.ensures.counts } in
+    let kept : AreKept D.tells D.files D.count set.out old mid =
+    record {
+      long = c.manifest_for.ensures.long;
+      held = c.manifest_for.ensures.files;
+      same = c.manifest_for.ensures.tells;
+      faults = c.manifest_for.ensures.counts;
+      stay = c.manifest_for.ensures.stay;
+    } in
     let front : AreFront D.tells D.files set m.parts mid body =
     subst (λ (parts : List ManifestPart). AreFront D.tells D.files set parts mid body) c.as_slice.ensures c.in_ok-body.ensures.front in
     span_of_front D.tells D.files D.count set c.args.print c.args.id c.args.long m old body c.truncate.new.self.items given.0 given.1 given.2
