@@ -34,6 +34,10 @@ found_is files k there read file is same now =
 pub looked_up : (files : List (Option RegFile)) (k : ℕ) (read : Option RegFile) → k < length files → read ≡ slice_index_or files k read → found_at files k ≡ read
 looked_up files k read low same = get_or_default files k None read low ∙ sym same
 
+-- the lane of this index has exactly the base
+abbrev pub IsClean : List (Option RegFile) → Base → ℕ → Type 0
+IsClean files base k = found_at files k ≡ Some (settled_file base)
+
 -- the test of two ballots
 ballot_decides : (a b : Ballot) → Decides ((a.term == b.term) && (a.seq == b.seq)) (a ≡ b)
 ballot_decides a b = Decides-like _ (λ same. ballot_by_parts a b same.0 same.1)

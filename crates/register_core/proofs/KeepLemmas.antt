@@ -4,6 +4,7 @@ use Rattle.std.specs.Prelude.{Contains}
 use Rattle.std.specs.Int.{IsBitSet}
 use Rattle.std.proofs.lemmas.List.{length-map, length-replicate}
 use Rattle.std.proofs.lemmas.List.Sums.{sum_by-cons}
+use Rattle.call_types.specs.Good.{good_count, is_good}
 use Rattle.call_types.specs.declared.why.Why.{Why}
 use Rattle.call_types.specs.declared.why.Why.TheVariants.{Good}
 use Rattle.drive_base.specs.Files.{Files}
@@ -16,7 +17,7 @@ use Rattle.vote_core.specs.Loops.{AtLeastHave, Have, IsAgain, IsPrepared, Leaves
 use Rattle.vote_core.specs.Sound.{HoldsValue, LanesAreDrawn}
 use Rattle.register_core.specs.Drafts.{EndsAt, IsDraftOf}
 use Rattle.register_core.specs.Keeping.{IsMarked, IsProposed, MayProposeAgain, PrepareLeaves, StaysValue}
-use Rattle.register_core.specs.Loops.{WritesEach, good_letters, is_good, letter_at}
+use Rattle.register_core.specs.Loops.{WritesEach, letter_at}
 use Rattle.register_core.specs.OnLanes.{AllTell, AreLanes, AreUnused}
 use Rattle.register_core.specs.Proposing.{CountsWritten, MendKeeps, Mends, WritesFirst, WritesLast, quorum_of}
 use Rattle.register_core.specs.Records.{base_of, marked_base, next_of, prepared_file, settled_file}
@@ -82,7 +83,7 @@ module _ {D : Type 0} (tells : D → Bool) (files : D → Files) (count : D → 
     pub left : Leaves (prepared (base_of base) (next_of next)) lanes after
     pub leaves : PrepareLeaves (quorum_of draft) draft.letters (base_of base) (next_of next) lanes after
     pub stay : (k : ℕ) → IsBitSet out k → lane_at after k ≡ lane_at lanes k
-    pub took : quorum_of draft ≤ good_letters whys → AtLeastHave (quorum_of draft) (map is_good whys) (prepared (base_of base) (next_of next)) after
+    pub took : quorum_of draft ≤ good_count whys → AtLeastHave (quorum_of draft) (map is_good whys) (prepared (base_of base) (next_of next)) after
 
   pub proposed : LeftAtByPlaces → LeftByPlaces → HadByPlaces → PrepareKeeps → ForwardKeeps → PrepareStaysDrawn
       → (draft : Draft) (out term from to : ℕ) (base : Base) (next : Next) (whys : List Why) (old new : List D) (lanes : List Lane)
@@ -114,7 +115,7 @@ module _ {D : Type 0} (tells : D → Bool) (files : D → Files) (count : D → 
     pub stay : (k : ℕ) → IsBitSet took.out k → lane_at after k ≡ lane_at lanes k
     pub any : (base : LaneBase) (last c : ℕ) (content : List ℕ) → IsProposed (quorum_of draft) last lanes c content took.whys base (next_of next)
         → HoldsValue (quorum_of draft) last after c content ⊎ HoldsValue (quorum_of draft) last after (next_of next).change (next_of next).content
-    pub enough : quorum_of draft ≤ good_letters whys → (base : LaneBase) (last c : ℕ) (content : List ℕ)
+    pub enough : quorum_of draft ≤ good_count whys → (base : LaneBase) (last c : ℕ) (content : List ℕ)
         → IsProposed (quorum_of draft) last lanes c content took.whys base (next_of next) → IsMarked (quorum_of draft) last c (next_of next) after
     pub numbers : (base : LaneBase) (last : ℕ) → AtLeastHave (quorum_of draft) (map is_good took.whys) (prepared base (next_of next)) lanes
         → LanesAreDrawn last lanes → LanesAreDrawn last after

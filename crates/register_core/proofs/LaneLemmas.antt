@@ -6,9 +6,11 @@ use Rattle.std.proofs.lemmas.List.Sums.{sum_by-cons}
 use Rattle.std.proofs.lemmas.Bool.{cases_lt}
 use Rattle.std.proofs.lemmas.List.{get_or-map, get_or_default, length-map}
 use Rattle.std.proofs.Math.ListN.{get_or-eq_default}
+use Rattle.call_types.specs.Good.{good_count, is_good}
 use Rattle.call_types.specs.declared.why.FileKind.TheVariants.{Format}
 use Rattle.call_types.specs.declared.why.Why.{Why}
 use Rattle.call_types.specs.declared.why.Why.TheVariants.{Good, Failed, Damaged, Behind, Lacks}
+use Rattle.call_types.proofs.GoodLemmas.{good_means}
 use Rattle.drive_base.specs.Files.{Files, Named}
 use Rattle.drive_files.specs.Writing.{IsInPlace, Touches, WriteLeaves}
 use Rattle.register_file.specs.Record.{IsCanonical}
@@ -18,10 +20,9 @@ use Rattle.vote_core.specs.Lane.{Lane, blank_lane, lane_at}
 use Rattle.register_core.specs.Loose.{loose_name}
 use Rattle.vote_core.specs.Laws.{HadByPlaces, LeftAtByPlaces, LeftByPlaces}
 use Rattle.vote_core.specs.Loops.{AtLeastHave, Leaves, LeavesAt, size}
-use Rattle.register_core.specs.Loops.{IsTarget, OnLane, WritesEach, good_letters, is_good, letter_at}
+use Rattle.register_core.specs.Loops.{IsTarget, OnLane, WritesEach, letter_at}
 use Rattle.register_core.specs.OnLanes.{AllTell, AreLanes, AreUnused}
 use Rattle.register_core.specs.Records.{HasLane, lane_of}
-use Rattle.register_core.proofs.LetterLemmas.{good_means}
 use Rattle.register_core.proofs.LoopLemmas.{in_place}
 
 -- records that were chosen place by place
@@ -87,7 +88,7 @@ pub none_set : (k : ℕ) → IsBitSet 0 k → ⊥
 none_set k set = set (and_zero_l (2 ^ k))
 
 -- the size of a list of tests
-pub size_of_good : (whys : List Why) → size (map is_good whys) ≡ good_letters whys
+pub size_of_good : (whys : List Why) → size (map is_good whys) ≡ good_count whys
 size_of_good [] = refl
 size_of_good (why ∷ whys) =
     sum_by-cons (λ (has : Bool). cond has 1 0) (is_good why) (map is_good whys)
@@ -254,7 +255,7 @@ module _ {D : Type 0} (tells : D → Bool) (files : D → Files) (count : D → 
 
   -- as many lanes as have a good letter have the loop's record
   pub after_have : HadByPlaces → (w out unknown : ℕ) (name : List ℕ) (letters whys : List Why) (x : Lane) (old new : List D) (lanes : List Lane)
-      → length whys ≡ length old → w ≤ good_letters whys
+      → length whys ≡ length old → w ≤ good_count whys
       → (loop : LanesAfter out unknown 0 name letters whys x old new lanes) → AtLeastHave w (map is_good whys) x loop.after
   after_have law w out unknown name letters whys x old new lanes sized enough loop = record {
     have = law (map is_good whys) x loop.after (length-map whys is_good ∙ sized ∙ sym loop.counted)

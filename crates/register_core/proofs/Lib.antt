@@ -1,16 +1,13 @@
-pub mod CleanLemmas
 pub mod ConcludingLemmas
 pub mod EachLemmas
 pub mod FindsLemmas
 pub mod FoundLemmas
 pub mod KeepLemmas
 pub mod LaneLemmas
-pub mod LetterLemmas
 pub mod LookLemmas
 pub mod LoopLemmas
 pub mod LooseLemmas
 pub mod ManifestLemmas
-pub mod MaskLemmas
 pub mod ReadLemmas
 pub mod RefusalLemmas
 pub mod SeenLemmas

@@ -1,5 +1,6 @@
 -- What proposing, marking and mending keep of a register: its lanes stay sound, and its value stays or becomes the change's content.
 use Rattle.std.specs.Prelude.{◌≡◌, ◌≢◌, ◌⊎◌, ℕ, ◌<◌, ◌≤◌, List, map, count_by, Result, Ok, Err}
+use Rattle.call_types.specs.Good.{is_good}
 use Rattle.call_types.specs.declared.why.Why.{Why}
 use Rattle.vote_core.specs.Row.{is_good as is_good_row}
 use Rattle.vote_core.specs.Lane.{Lane, lane_at, has_base_of, Base as LaneBase, Next as LaneNext}
@@ -8,7 +9,6 @@ use Rattle.vote_core.specs.Calm.{IsCalm}
 use Rattle.vote_core.specs.Shown.{FindsPending}
 use Rattle.vote_core.specs.Loops.{AtLeastHave, prepared, marked, Stands, IsOwn, IsAgain, IsPrepared}
 use Rattle.vote_core.specs.declared.row.Row.{Row}
-use Rattle.register_core.specs.Loops.{is_good}
 
 -- a pending change may be proposed again on the lanes that the look found good
 pub record MayProposeAgain (later : ℕ) (lanes : List Lane) (c : ℕ) (letters : List Why) (base : LaneBase) (next : LaneNext) : Type 0 where

@@ -1,5 +1,6 @@
 -- What the steps of a look answer.
 use Rattle.std.specs.Prelude.{◌≡◌, ℕ, ◌<◌, Bool, List, Option, Some, None, length, map, Result, Ok, Err}
+use Rattle.call_types.specs.Good.{good_count}
 use Rattle.call_types.specs.declared.why.Why.{Why}
 use Rattle.drive_base.specs.Files.{Files}
 use Rattle.drive_base.specs.Plan.{data_drives, write_drives}
@@ -8,7 +9,7 @@ use Rattle.register_file.specs.declared.record.RegFile.{RegFile}
 use Rattle.register_file.specs.declared.record.Next.{Next}
 use Rattle.register_file.specs.declared.record.Adds.{Adds}
 use Rattle.register_core.specs.Looking.{Concludes, DataIsThere, FindsNext, MayForward, RefusedLetter, found_at}
-use Rattle.register_core.specs.Loops.{good_letters, letter_at}
+use Rattle.register_core.specs.Loops.{letter_at}
 use Rattle.register_core.specs.Manifests.{AreManifestLetters}
 use Rattle.register_core.specs.Records.{row_of}
 use Rattle.register_core.specs.declared.faults.QuorumFault.{QuorumFault}
@@ -36,7 +37,7 @@ module _ {D : Type 0} (tells : D → Bool) (files : D → Files) (count : D → 
     pub adds : Adds
     pub adds_is : next.adds ≡ Some adds
     pub looked_for : AreManifestLetters tells files count set adds whys old new
-    pub few : good_letters whys < data_drives set.drives set.parity
+    pub few : good_count whys < data_drives set.drives set.parity
 
   -- a change that adds data is pending, and too few data drives have a manifest of the data
   pub record IsStopped (set : SetPlan) (found : List (Option RegFile)) (k u : ℕ) (whys : List Why) (old new : List D) : Type 0 where

@@ -2,6 +2,7 @@
 use Rattle.std.specs.Prelude.{◌≡◌, ◌⊎◌, ◌↔◌, ℕ, ◌<◌, ◌≤◌, Bool, IsTrue, List, Option, Some, None, length, map, Result, Ok, Err, string_bytes, slice_index_or}
 use Rattle.std.specs.Int.{IsBitSet}
 use Rattle.seal_file.specs.declared.damage.Damage.TheVariants.{Spelling}
+use Rattle.call_types.specs.Good.{good_count}
 use Rattle.call_types.specs.declared.why.FileKind.TheVariants.{Format, Register, Manifest, Shard}
 use Rattle.call_types.specs.declared.why.Why.{Why}
 use Rattle.call_types.specs.declared.why.Why.TheVariants.{Good, Failed, Damaged, Behind, Lacks}
@@ -21,7 +22,7 @@ use Rattle.vote_core.specs.Rank.{change_of}
 use Rattle.vote_core.specs.Shown.{FindsPending}
 use Rattle.vote_core.specs.Verdict.{VerdictRule, good_rows}
 use Rattle.vote_core.specs.declared.verdict.Verdict.TheVariants.{Settled, Pending}
-use Rattle.register_core.specs.Loops.{good_letters, letter_at}
+use Rattle.register_core.specs.Loops.{letter_at}
 use Rattle.register_core.specs.Manifests.{AreManifestLetters}
 use Rattle.register_core.specs.Records.{StandsFor, IsRegisterDamage, row_of, settled_file, base_of, next_of}
 use Rattle.register_core.specs.declared.faults.QuorumFault.{QuorumFault}
@@ -90,7 +91,7 @@ module _ {D : Type 0} (tells : D → Bool) (files : D → Files) (count : D → 
   abbrev pub DataIsThere : SetPlan → Option Adds → List D → List D → Type 0
   DataIsThere set None old new = Unit {0}
   DataIsThere set (Some adds) old new = (whys : List Why) × AreManifestLetters tells files count set adds whys old new
-      × (data_drives set.drives set.parity ≤ good_letters whys)
+      × (data_drives set.drives set.parity ≤ good_count whys)
 
   -- a pending change may be completed: it adds no data, or its data is there
   abbrev pub MayForward : SetPlan → Option Next → List D → List D → Type 0
@@ -143,7 +144,7 @@ module _ {D : Type 0} (tells : D → Bool) (files : D → Files) (count : D → 
     pub adds : Adds
     pub adds_is : next.adds ≡ Some adds
     pub looked_for : AreManifestLetters tells files count set adds whys disks disks_after
-    pub few : good_letters whys < data_drives set.drives set.parity
+    pub few : good_count whys < data_drives set.drives set.parity
 
   -- each answer of a look with its cause
   abbrev pub Looks : SetPlan → ℕ → List ℕ → (List ℕ → Option ℕ) → Result Looked QuorumFault → List D → List D → List D → List D → Type 0

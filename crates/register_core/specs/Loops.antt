@@ -1,26 +1,13 @@
 -- What a loop of writes leaves of each lane.
-use Rattle.std.specs.Prelude.{◌≡◌, ◌≢◌, ◌⊎◌, ℕ, ◌+◌, ◌<◌, ◌≤◌, Bool, true, false, IsTrue, List, None, bytes_eq, length, slice_index_or}
+use Rattle.std.specs.Prelude.{◌≡◌, ◌≢◌, ◌⊎◌, ℕ, ◌+◌, ◌<◌, ◌≤◌, Bool, false, IsTrue, List, None, bytes_eq, length, slice_index_or}
 use Rattle.std.specs.Int.{IsBitSet}
-use Rattle.std.specs.List.{count_by}
 use Rattle.call_types.specs.declared.why.FileKind.TheVariants.{Format, Register}
 use Rattle.call_types.specs.declared.why.Why.{Why}
-use Rattle.call_types.specs.declared.why.Why.TheVariants.{Good, Failed, Damaged, Behind, Lacks}
+use Rattle.call_types.specs.declared.why.Why.TheVariants.{Good, Lacks}
 use Rattle.drive_base.specs.Files.{Files}
 use Rattle.drive_files.specs.Writing.{WriteLeaves, WriteCause}
 use Rattle.register_core.specs.Loose.{loose_name}
 use Rattle.register_core.specs.OnLanes.{AreUnused, AreHonest}
-
--- whether a lane's letter is good
-abbrev pub is_good : Why → Bool
-is_good Good = true
-is_good (Failed _ _) = false
-is_good (Damaged _) = false
-is_good (Behind _) = false
-is_good (Lacks _) = false
-
--- how many letters are good
-abbrev pub good_letters : List Why → ℕ
-good_letters whys = count_by is_good whys
 
 -- the letter of a lane
 abbrev pub letter_at : List Why → ℕ → Why

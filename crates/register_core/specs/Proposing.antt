@@ -1,6 +1,7 @@
 -- What proposing, marking and mending answer, and what they leave on the drives.
 use Rattle.std.specs.Prelude.{◌≡◌, ◌⊎◌, ◌↔◌, ℕ, ◌<◌, ◌≤◌, Bool, false, IsTrue, List, length, map, count_by, Result, Ok, Err, replicate, string_bytes, slice_index_or}
 use Rattle.std.specs.Int.{IsBitSet}
+use Rattle.call_types.specs.Good.{IsGoodMask, good_count, is_good}
 use Rattle.call_types.specs.declared.why.Why.{Why}
 use Rattle.call_types.specs.declared.why.Why.TheVariants.{Good}
 use Rattle.drive_base.specs.Files.{Files}
@@ -11,7 +12,7 @@ use Rattle.vote_core.specs.Lane.{Lane, lane_at, Base as LaneBase}
 use Rattle.vote_core.specs.Loops.{Leaves, prepared, marked, mended, AtLeastHave}
 use Rattle.vote_core.specs.Sound.{LanesAreDrawn}
 use Rattle.register_core.specs.Keeping.{PrepareLeaves, IsProposed, MarkMoves, MendLeaves}
-use Rattle.register_core.specs.Loops.{good_letters, is_good, letter_at, IsTarget, WritesEach}
+use Rattle.register_core.specs.Loops.{letter_at, IsTarget, WritesEach}
 use Rattle.register_core.specs.OnLanes.{AreLanes}
 use Rattle.register_core.specs.Records.{HasLane, base_of, next_of}
 use Rattle.register_core.specs.declared.drafts.Draft.{Draft}
@@ -39,7 +40,7 @@ module _ {D : Type 0} (tells : D → Bool) (files : D → Files) (count : D → 
 
   -- nothing is begun, since fewer lanes are good than a write needs
   pub record IsNotBegun (draft : Draft) (from to : ℕ) (whys : List Why) (old new : List D) : Type 0 where
-    pub few : good_letters draft.letters < quorum_of draft
+    pub few : good_count draft.letters < quorum_of draft
     pub letters : whys ≡ draft.letters
     pub stays : new ≡ old
     pub none_used : to ≡ from
@@ -47,10 +48,10 @@ module _ {D : Type 0} (tells : D → Bool) (files : D → Files) (count : D → 
   -- what proposing answers: enough lanes took the first file, or why too few did
   abbrev pub Proposes : Draft → ℕ → ℕ → ℕ → ℕ → Result Prepared QuorumFault → List D → List D → Type 0
   Proposes draft out term from to (Ok took) old new =
-      (took.out ≡ out) × (quorum_of draft ≤ good_letters took.whys) × WritesFirst draft out term from to took.whys old new
+      (took.out ≡ out) × (quorum_of draft ≤ good_count took.whys) × WritesFirst draft out term from to took.whys old new
   Proposes draft out term from to (Err (ReadQuorum _)) old new = ⊥
   Proposes draft out term from to (Err (WriteQuorum whys)) old new = IsNotBegun draft from to whys old new
-      ⊎ ((quorum_of draft ≤ good_letters draft.letters) × (good_letters whys < quorum_of draft) × WritesFirst draft out term from to whys old new)
+      ⊎ ((quorum_of draft ≤ good_count draft.letters) × (good_count whys < quorum_of draft) × WritesFirst draft out term from to whys old new)
   Proposes draft out term from to (Err (Undecided _ _ _)) old new = ⊥
   Proposes draft out term from to (Err NoMemory) old new = ⊥
 
@@ -81,17 +82,13 @@ module _ {D : Type 0} (tells : D → Bool) (files : D → Files) (count : D → 
   WritesLast draft took term from to whys old new =
       WritesEach tells files count took.out 0 (string_bytes draft.name) draft.last.items term from to took.whys whys old new
 
-  -- a draft whose mark succeeded passes over exactly the lanes that it marked
-  abbrev pub PassesMarked : Draft → List Why → Type 0
-  PassesMarked draft whys = (k : ℕ) → (IsBitSet draft.passed k → (letter_at whys k ≡ Good)) × ((letter_at whys k ≡ Good) → IsBitSet draft.passed k)
-
-  -- what marking answers: enough lanes took the last file, or why too few did
+  -- what marking answers: enough lanes took the last file, and the draft passes over exactly these, or why too few did
   abbrev pub Marks : Draft → Prepared → ℕ → ℕ → ℕ → {T : Type 0} → Result T QuorumFault → Draft → List D → List D → Type 0
   Marks draft took term from to (Ok _) later old new =
-      (whys : List Why) × (quorum_of draft ≤ good_letters whys) × PassesMarked later whys × WritesLast draft took term from to whys old new
+      (whys : List Why) × (quorum_of draft ≤ good_count whys) × IsGoodMask whys later.passed × WritesLast draft took term from to whys old new
   Marks draft took term from to (Err (ReadQuorum _)) later old new = ⊥
   Marks draft took term from to (Err (WriteQuorum whys)) later old new =
-      (good_letters whys < quorum_of draft) × WritesLast draft took term from to whys old new
+      (good_count whys < quorum_of draft) × WritesLast draft took term from to whys old new
   Marks draft took term from to (Err (Undecided _ _ _)) later old new = ⊥
   Marks draft took term from to (Err NoMemory) later old new = ⊥
 

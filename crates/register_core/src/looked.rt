@@ -2,9 +2,8 @@
 
 ghost use Rattle.std.specs.Prelude.{◌≡◌, nat_le};
 ghost use Rattle.drive_base.specs.Plan.{write_drives};
-ghost use Rattle.register_core.specs.Loops.{good_letters};
+ghost use Rattle.call_types.specs.Good.{good_count};
 
-use crate::writes::good_letters;
 use call_types::Whys;
 use drive_base::SetPlan;
 use register_file::{Base, Next};
@@ -32,8 +31,8 @@ pub struct Looked {
 impl Looked {
     /// Whether as many lanes were good as a write needs: a pending change is proposed again only then.
     pub fn can_forward(&self) -> bool
-        ensures { result ≡ nat_le (write_drives self.now.set.drives self.now.set.parity) (good_letters self.now.whys) }
+        ensures { result ≡ nat_le (write_drives self.now.set.drives self.now.set.parity) (good_count self.now.whys) }
     {
-        self.set.write_quorum() <= good_letters(&self.whys)
+        self.set.write_quorum() <= self.whys.good()
     }
 }

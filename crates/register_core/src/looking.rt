@@ -16,7 +16,6 @@ use crate::found::{accept, base_on, clean_of, content_of, next_on};
 use crate::lanes::{Found, read_lanes, rows_of};
 use crate::looked::Looked;
 use crate::manifests::look_for_data;
-use crate::writes::good_letters;
 use call_types::Whys;
 use drive_base::{Drive, SetPlan};
 use register_file::{Base, Next, RegFile, file_laws};
@@ -143,7 +142,7 @@ fn may_forward<D: Drive>(
         return Ok(());
     };
     let whys = look_for_data(alloc, set, adds, disks)?;
-    match decide(&set, true, good_letters(&whys)) {
+    match decide(&set, true, whys.good()) {
         Onward::Forward => Ok(()),
         Onward::Undecided => Err(QuorumFault::Undecided { k, u, whys }),
     }

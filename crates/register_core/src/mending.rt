@@ -12,7 +12,7 @@ ghost use Rattle.register_core.specs.Proposing.{Mends, MendKeeps, CountsWritten}
 
 use crate::drafts::Draft;
 use crate::lanes::is_out;
-use crate::writes::{Writing, is_good, write_each};
+use crate::writes::{Writing, write_each};
 use call_types::Whys;
 use drive_base::Drive;
 use vote_core::{calm_laws, mend_law, number_laws, place_laws};
@@ -87,5 +87,5 @@ fn is_written(passed: u16, whys: &Whys, lane: usize) -> bool
     requires inside { lane < length whys.now }
     ensures { IsTrue result ↔ ((IsBitSet passed lane → ⊥) × (letter_at whys.now lane ≡ Good)) }
 {
-    !is_out(passed, lane) && is_good(whys.get(lane))
+    !is_out(passed, lane) && whys.get(lane).is_good()
 }

@@ -6,15 +6,14 @@ ghost use Rattle.register_file.specs.declared.record.Base.{Base};
 ghost use Rattle.register_file.specs.declared.record.Next.{Next};
 ghost use Rattle.vote_core.specs.Lane.{Lane};
 ghost use Rattle.register_core.specs.Drafts.{IsDraftOf, EndsAt};
-ghost use Rattle.call_types.specs.declared.why.Why.TheVariants.{Good};
-ghost use Rattle.register_core.specs.Loops.{KeepsDrives, TellsStay, CountsRise, letter_at};
+ghost use Rattle.register_core.specs.Loops.{KeepsDrives, TellsStay, CountsRise};
 ghost use Rattle.register_core.specs.Records.{marked_base};
 ghost use Rattle.register_core.specs.OnLanes.{AllTell, AreLanes, AreUnused};
 ghost use Rattle.register_core.specs.Proposing.{Proposes, ProposeKeeps, Marks, MarkKeeps};
 
 use crate::drafts::Draft;
 use crate::faults::QuorumFault;
-use crate::writes::{Writing, good_letters, is_good, write_each};
+use crate::writes::{Writing, write_each};
 use call_types::Whys;
 use drive_base::Drive;
 use vote_core::{mark_laws, number_laws, place_laws, prepare_laws};
@@ -55,7 +54,7 @@ pub fn propose<D: Drive>(
     prepare_laws();
     number_laws();
     let quorum = draft.set.write_quorum();
-    if good_letters(&draft.letters) < quorum {
+    if draft.letters.good() < quorum {
         return Err(QuorumFault::WriteQuorum(draft.letters));
     }
     let writing = Writing {
@@ -64,7 +63,7 @@ pub fn propose<D: Drive>(
         term,
     };
     let whys = write_each(lanes, out, 0, draft.letters, &writing, count);
-    if good_letters(&whys) < quorum {
+    if whys.good() < quorum {
         return Err(QuorumFault::WriteQuorum(whys));
     }
     Ok(Prepared { out, whys })
@@ -104,22 +103,9 @@ pub fn mark<D: Drive>(
         term,
     };
     let whys = write_each(lanes, prepared.out, 0, prepared.whys, &writing, count);
-    if good_letters(&whys) < draft.set.write_quorum() {
+    if whys.good() < draft.set.write_quorum() {
         return Err(QuorumFault::WriteQuorum(whys));
     }
-    draft.passed = mask_of(&whys);
+    draft.passed = whys.good_mask();
     Ok(())
-}
-
-/// The mask of the lanes whose letter is good.
-fn mask_of(whys: &Whys) -> u16
-    ensures { (k : ℕ) → (IsBitSet result k → (letter_at whys.now k ≡ Good)) × ((letter_at whys.now k ≡ Good) → IsBitSet result k) }
-{
-    let mut mask = 0;
-    for k in 0..whys.len() {
-        if is_good(whys.get(k)) {
-            mask |= 1 << k;
-        }
-    }
-    mask
 }

@@ -1,7 +1,7 @@
 //! Writing a file of the register on the lanes.
 
 ghost use Rattle.std.specs.Prelude.{◌≡◌, ◌+◌, ◌<◌, ◌≤◌, ◌^◌, length};
-ghost use Rattle.register_core.specs.Loops.{WritesEach, Writes, OnLane, KeepsDrives, TellsStay, CountsRise, good_letters, is_good};
+ghost use Rattle.register_core.specs.Loops.{WritesEach, Writes, OnLane, KeepsDrives, TellsStay, CountsRise};
 ghost use Rattle.register_core.specs.OnLanes.{AllTell, AreUnused};
 
 use crate::lanes::is_out;
@@ -76,7 +76,7 @@ fn write_lane<D: Drive>(
         return Why::Lacks(FileKind::Format);
     }
     let letter = letters.get(index);
-    if is_out(passed, index) || !is_good(letter) {
+    if is_out(passed, index) || !letter.is_good() {
         return letter;
     }
     let number = *count;
@@ -99,24 +99,4 @@ fn write_on<D: Drive>(lane: &mut D, writing: &Writing, number: u64) -> Why
         writing.name,
         writing.bytes,
     )
-}
-
-/// Whether a lane's letter is good.
-pub fn is_good(why: Why) -> bool
-    ensures { result ≡ is_good why }
-{
-    matches!(why, Why::Good)
-}
-
-/// How many letters are good.
-pub fn good_letters(whys: &Whys) -> u8
-    ensures { result ≡ good_letters whys.now }
-{
-    let mut count = 0;
-    for k in 0..whys.len() {
-        if is_good(whys.get(k)) {
-            count += 1;
-        }
-    }
-    count
 }

@@ -9,6 +9,6 @@ returns-in-Undecided-clause-outcome g c = (
     adds = c.in-Some.adds;
     adds_is = c.in-Some.is;
     looked_for = c.in_ok-whys.ensures.letters;
-    few = (let few = c.in-Undecided.ensures.1 in omega (arith, few, c.good_letters.ensures));
+    few = (let few = c.in-Undecided.ensures.1 in omega (arith, few, c.good.ensures));
   },
 )

@@ -1,11 +1,12 @@
 use Rattle.std.proofs.Common.{List, string_bytes, ◌≤◌, subst, sym, ◌∙◌, ℕ, arith}
+use Rattle.call_types.proofs.GoodLemmas.{mask_at}
 use Rattle.register_core.specs.Loops.{WritesEach}
 use Rattle.register_core.specs.Proposing.{quorum_of}
 use Rattle.register_core.proofs.KeepLemmas.{HasMarked, has_marked}
 use Rattle.register_core.proofs.proposing.mark.Goals as goal
 
-pub returns-then-good_letters-write_quorum-clause-keeps : goal.returns-then-good_letters-write_quorum-clause-keeps
-returns-then-good_letters-write_quorum-clause-keeps g c next recorded ends tell unused are =
+pub returns-then-good-write_quorum-clause-keeps : goal.returns-then-good-write_quorum-clause-keeps
+returns-then-good-write_quorum-clause-keeps g c next recorded ends tell unused are =
     let D : Type 0 = g.row.D.Denot in
     let draft = c.args.draft.now in
     let took = c.args.prepared in
@@ -44,14 +45,14 @@ returns-clause-keeps g c next recorded ends tell unused are =
     c.number_laws.ensures.mark draft took c.args.term c.args.count.now c.write_each-whys.new.count next c.write_each-whys.result
     c.args.lanes.now c.write_each-whys.new.lanes recorded (omega (arith, wrote.few, c.requires.room, c.requires.drives)) some
     (c.requires.letters ∙ sym c.requires.drives) ends wrote tell unused are in
-    let enough : quorum_of draft ≤ c.good_letters.result =
-    subst (λ (w : ℕ). w ≤ c.good_letters.result) c.write_quorum.ensures.quorum c.if-good_letters-write_quorum.false in
+    let enough : quorum_of draft ≤ c.good.result =
+    subst (λ (w : ℕ). w ≤ c.good.result) c.write_quorum.ensures.quorum c.if-good-write_quorum.false in
     record {
       after = kept.after;
       are = kept.are;
       left = kept.left;
       stay = kept.stay;
-      value = kept.enough (subst (λ (n : ℕ). quorum_of draft ≤ n) c.good_letters.ensures enough);
+      value = kept.enough (subst (λ (n : ℕ). quorum_of draft ≤ n) c.good.ensures enough);
       numbers = kept.numbers;
-      marked_lanes = λ k below bit. kept.have k below ((c.mask_of-draft.ensures k).0 bit);
+      marked_lanes = λ k below bit. kept.have k below ((mask_at c.write_each-whys.result c.good_mask-draft.result c.good_mask-draft.ensures k).0 bit);
     }

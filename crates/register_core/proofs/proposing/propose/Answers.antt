@@ -4,8 +4,8 @@ use Rattle.register_core.specs.Proposing.{quorum_of}
 use Rattle.register_core.proofs.KeepLemmas.{Proposed, as_before, proposed, untouched}
 use Rattle.register_core.proofs.proposing.propose.Goals as goal
 
-pub returns-then-good_letters-quorum-clause-keeps : goal.returns-then-good_letters-quorum-clause-keeps
-returns-then-good_letters-quorum-clause-keeps g c base next recorded is tell unused are = record {
+pub returns-then-good-quorum-clause-keeps : goal.returns-then-good-quorum-clause-keeps
+returns-then-good-quorum-clause-keeps g c base next recorded is tell unused are = record {
   after = recorded;
   are = are;
   left = as_before c.place_laws.ensures.left _ recorded;
@@ -15,8 +15,8 @@ returns-then-good_letters-quorum-clause-keeps g c base next recorded is tell unu
   took = tt;
 }
 
-pub returns-then-good_letters-quorum-2-clause-keeps : goal.returns-then-good_letters-quorum-2-clause-keeps
-returns-then-good_letters-quorum-2-clause-keeps g c base next recorded is tell unused are =
+pub returns-then-good-quorum-2-clause-keeps : goal.returns-then-good-quorum-2-clause-keeps
+returns-then-good-quorum-2-clause-keeps g c base next recorded is tell unused are =
     let D : Type 0 = g.row.D.Denot in
     let draft = c.args.draft.now in
     let On : List ℕ → List ℕ → Type 0 = λ name bytes.
@@ -49,5 +49,5 @@ returns-clause-keeps g c base next recorded is tell unused are =
     c.number_laws.ensures.prepare draft c.args.out c.args.term c.args.count.now c.write_each-whys.new.count base next c.write_each-whys.result
     c.args.lanes.now c.write_each-whys.new.lanes recorded (omega (arith, wrote.few, c.requires.room, c.requires.drives))
     (c.requires.letters ∙ sym c.requires.drives) is wrote tell unused are in
-    let enough : quorum_of draft ≤ c.good_letters-2.result = subst (λ (w : ℕ). w ≤ c.good_letters-2.result) c.write_quorum-quorum.ensures.quorum c.if-good_letters-quorum-2.false in
-    record { after = kept.after; are = kept.are; left = kept.left; leaves = kept.leaves; stay = kept.stay; took = kept.took (subst (λ (n : ℕ). quorum_of draft ≤ n) c.good_letters-2.ensures enough) }
+    let enough : quorum_of draft ≤ c.good-2.result = subst (λ (w : ℕ). w ≤ c.good-2.result) c.write_quorum-quorum.ensures.quorum c.if-good-quorum-2.false in
+    record { after = kept.after; are = kept.are; left = kept.left; leaves = kept.leaves; stay = kept.stay; took = kept.took (subst (λ (n : ℕ). quorum_of draft ≤ n) c.good-2.ensures enough) }
