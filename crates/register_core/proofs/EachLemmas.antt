@@ -8,15 +8,15 @@ use Rattle.call_types.specs.declared.why.Why.{Why}
 use Rattle.call_types.specs.declared.why.Why.TheVariants.{Good, Lacks}
 use Rattle.register_core.specs.Loops.{letter_at}
 
--- one drive stands in a relation to what it was, and the others do
-pub set_each : (D : Type 0) (R : D → D → Type 0) (old now : List D) (i : ℕ) (x : D) → i < length now
-    → ((d : D) → R (slice_index_or old i d) x)
-    → ((k : ℕ) (d : D) → R (slice_index_or old k d) (slice_index_or now k d))
-    → (k : ℕ) (d : D) → R (slice_index_or old k d) (slice_index_or (set now i x) k d)
+-- one drive stands in the relation of its index to what it was, and the others do
+pub set_each : (D : Type 0) (R : ℕ → D → D → Type 0) (old now : List D) (i : ℕ) (x : D) → i < length now
+    → ((d : D) → R i (slice_index_or old i d) x)
+    → ((k : ℕ) (d : D) → R k (slice_index_or old k d) (slice_index_or now k d))
+    → (k : ℕ) (d : D) → R k (slice_index_or old k d) (slice_index_or (set now i x) k d)
 set_each D R old now i x low one others k d = elim (cases_eq k i) [
-  | inl same ↦ subst (λ (v : D). R (slice_index_or old k d) v) (sym (get_or-set_at now i k x d same low))
-      (subst (λ (m : ℕ). R (slice_index_or old m d) x) (sym same) (one d))
-  | inr other ↦ subst (λ (v : D). R (slice_index_or old k d) v) (sym (get_or-set_other now i k x d other)) (others k d)
+  | inl same ↦ subst (λ (v : D). R k (slice_index_or old k d) v) (sym (get_or-set_at now i k x d same low))
+      (subst (λ (m : ℕ). R m (slice_index_or old m d) x) (sym same) (one d))
+  | inr other ↦ subst (λ (v : D). R k (slice_index_or old k d) v) (sym (get_or-set_other now i k x d other)) (others k d)
 ]
 
 -- a drive that was called has its letter, and those before it have theirs

@@ -63,6 +63,7 @@ module _ {D : Type 0} (tells : D → Bool) (files : D → Files) (count : D → 
         found = found;
         read = subst (λ (ws : List Why). LanesAreRead tells files count out name found ws old new) (sym few.0) read;
         few = few.1;
+        not_asked = few.2;
       })
   looks_unsaid set out name rule found whys (WriteQuorum letters) old new disks disks_after read never = absurd never
   looks_unsaid set out name rule found whys (Undecided k u letters) old new disks disks_after read stopped = record {

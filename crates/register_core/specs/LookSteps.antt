@@ -54,7 +54,7 @@ module _ {D : Type 0} (tells : D → Bool) (files : D → Files) (count : D → 
       Concludes (write_drives set.drives set.parity) (data_drives set.drives set.parity) found said.base said.pending
       × MayForward tells files count set said.pending old new
   IsConcluded set found letters (Err (ReadQuorum whys)) old new =
-      (whys ≡ letters) × (good_rows (map row_of found) < data_drives set.drives set.parity)
+      (whys ≡ letters) × (good_rows (map row_of found) < data_drives set.drives set.parity) × (new ≡ old)
   IsConcluded set found letters (Err (WriteQuorum _)) old new = ⊥
   IsConcluded set found letters (Err (Undecided k u whys)) old new = IsStopped set found k u whys old new
   IsConcluded set found letters (Err NoMemory) old new = Unit {0}

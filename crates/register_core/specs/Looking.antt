@@ -79,23 +79,24 @@ RefusedLetter (Some file) content place letter why = (HasContent file content ×
     ⊎ ((HasContent file content → ⊥) × (why ≡ letter))
 
 module _ {D : Type 0} (tells : D → Bool) (files : D → Files) (count : D → ℕ) where
-  -- what was read of each lane, and its letter
+  -- what was read of each lane, and its letter; a lane that is out isn't called
   pub record LanesAreRead (out : ℕ) (name : List ℕ) (found : List (Option RegFile)) (whys : List Why) (old new : List D) : Type 0 where
     pub counted : length found ≡ length old
     pub lettered : length whys ≡ length old
     pub each : (k : ℕ) (default : D) → k < length old → LaneIsRead name (found_at found k) (letter_at whys k) (IsBitSet out k)
         (tells (slice_index_or old k default)) (files (slice_index_or old k default))
         (count (slice_index_or old k default)) (count (slice_index_or new k default))
+    pub stay : (k : ℕ) (default : D) → IsBitSet out k → slice_index_or new k default ≡ slice_index_or old k default
 
-  -- the manifests of a change's data were looked for on the data drives, and so many drives have one that verifies
+  -- the manifests of a change's data were looked for on the data drives, and so many drives have one that verifies; a change that adds no data calls none
   abbrev pub DataIsThere : SetPlan → Option Adds → List D → List D → Type 0
-  DataIsThere set None old new = Unit {0}
+  DataIsThere set None old new = new ≡ old
   DataIsThere set (Some adds) old new = (whys : List Why) × AreManifestLetters tells files count set adds whys old new
       × (data_drives set.drives set.parity ≤ good_count whys)
 
-  -- a pending change may be completed: it adds no data, or its data is there
+  -- a pending change may be completed: it adds no data, or its data is there; where nothing is pending no data drive is called
   abbrev pub MayForward : SetPlan → Option Next → List D → List D → Type 0
-  MayForward set None old new = Unit {0}
+  MayForward set None old new = new ≡ old
   MayForward set (Some next) old new = DataIsThere set next.adds old new
 
   -- a look that could conclude: `fault` says of each content where it breaks its rule
@@ -111,11 +112,12 @@ module _ {D : Type 0} (tells : D → Bool) (files : D → Files) (count : D → 
     pub accepted : fault (content_of looked.base looked.pending) ≡ None
     pub clean : (k : ℕ) → k < length old → IsBitSet looked.clean k ↔ (found_at found k ≡ Some (settled_file looked.base))
 
-  -- too few lanes have a good file
-  pub record IsTooFew (set : SetPlan) (out : ℕ) (name : List ℕ) (whys : List Why) (old new : List D) : Type 0 where
+  -- too few lanes have a good file; no data drive is called
+  pub record IsTooFew (set : SetPlan) (out : ℕ) (name : List ℕ) (whys : List Why) (old new disks disks_after : List D) : Type 0 where
     pub found : List (Option RegFile)
     pub read : LanesAreRead out name found whys old new
     pub few : good_rows (map row_of found) < data_drives set.drives set.parity
+    pub not_asked : disks_after ≡ disks
 
   -- the content that is settled, or that a forward would complete, breaks its rule
   pub record IsRefusedContent (set : SetPlan) (out : ℕ) (name : List ℕ) (fault : List ℕ → Option ℕ) (whys : List Why) (old new disks disks_after : List D) : Type 0 where
@@ -150,7 +152,7 @@ module _ {D : Type 0} (tells : D → Bool) (files : D → Files) (count : D → 
   abbrev pub Looks : SetPlan → ℕ → List ℕ → (List ℕ → Option ℕ) → Result Looked QuorumFault → List D → List D → List D → List D → Type 0
   Looks set out name fault (Ok looked) old new disks disks_after = IsLooked set out name fault looked old new disks disks_after
   Looks set out name fault (Err (ReadQuorum whys)) old new disks disks_after =
-      IsTooFew set out name whys old new ⊎ IsRefusedContent set out name fault whys old new disks disks_after
+      IsTooFew set out name whys old new disks disks_after ⊎ IsRefusedContent set out name fault whys old new disks disks_after
   Looks set out name fault (Err (WriteQuorum _)) old new disks disks_after = ⊥
   Looks set out name fault (Err (Undecided k u whys)) old new disks disks_after = IsUndecided set out name k u whys old new disks disks_after
   Looks set out name fault (Err NoMemory) old new disks disks_after = Unit {0}

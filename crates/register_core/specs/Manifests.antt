@@ -56,9 +56,10 @@ ManifestLetter set adds (Lacks Register) out tells files old new = ⊥
 ManifestLetter set adds (Lacks Shard) out tells files old new = ⊥
 
 module _ {D : Type 0} (tells : D → Bool) (files : D → Files) (count : D → ℕ) where
-  -- the letter of each data drive
+  -- the letter of each data drive; a drive that is out isn't called
   pub record AreManifestLetters (set : SetPlan) (adds : Adds) (whys : List Why) (old new : List D) : Type 0 where
     pub counted : length whys ≡ length old
     pub each : (k : ℕ) (default : D) → k < length old → ManifestLetter set adds (letter_at whys k) (IsBitSet set.out k)
         (tells (slice_index_or old k default)) (files (slice_index_or old k default))
         (count (slice_index_or old k default)) (count (slice_index_or new k default))
+    pub stay : (k : ℕ) (default : D) → IsBitSet set.out k → slice_index_or new k default ≡ slice_index_or old k default

@@ -74,6 +74,7 @@ fn read_lane<D: Drive>(
     name: &str,
 ) -> Result<RegFile, NotGiven>
     ensures outcome { ReadsLane name.now result (IsTrue is_out) (D.tells lane.old) (D.files lane.old) (D.count lane.old) (D.count lane.new) }
+    ensures alone { IsTrue is_out → lane.new ≡ lane.old }
     ensures files { IsTrue (D.tells lane.old) → D.files lane.new ≡ D.files lane.old }
     ensures tells { D.tells lane.new ≡ D.tells lane.old }
     ensures count { D.count lane.old ≤ D.count lane.new }

@@ -36,7 +36,7 @@ pub struct Concluded {
 /// `ReadQuorum` comes where fewer lanes have a good file than a read needs, and where the content that is settled, or that a
 /// forward would complete, breaks the rule: each lane that has it is then `Damaged` with the spelling's place. `Undecided`
 /// comes where a change that adds data may have taken effect and its manifest verifies on fewer data drives than that: the
-/// letters are those of the data drives. No lane is written.
+/// letters are those of the data drives. No lane is written, and a lane or a data drive that is out isn't called.
 pub fn look<D: Drive, R: ContentRule>(
     alloc: Global,
     lanes: &mut [D],

@@ -59,6 +59,7 @@ fn manifest_on<D: Drive>(
 ) -> Result<(), NotGiven>
     requires { index < set.drives }
     ensures outcome { name.now ≡ manifest_name adds.now.id → ReadsManifest set adds.now (IsBitSet set.out index) result (D.tells disk.old) (D.files disk.old) (D.count disk.old) (D.count disk.new) }
+    ensures alone { IsBitSet set.out index → disk.new ≡ disk.old }
     ensures files { IsTrue (D.tells disk.old) → D.files disk.new ≡ D.files disk.old }
     ensures tells { D.tells disk.new ≡ D.tells disk.old }
     ensures count { D.count disk.old ≤ D.count disk.new }

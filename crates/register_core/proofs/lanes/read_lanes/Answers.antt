@@ -77,11 +77,13 @@ loop-index-preserved g c =
         | in-Err-Because+in_ok-push-in-Err-Because w ↦ subst (AreGoodFrom (i + 1)) (sym (w.whys-is ∙ w.set.ensures))
             (good_after whys i w.in-Err-Because.why inv.good)
       ];
-      files = set_each T (λ (a b : T). IsTrue (D.tells a) → D.files b ≡ D.files a) old now i x low
+      stay = set_each T (λ (k : ℕ) (a b : T). IsBitSet c.args.out k → b ≡ a) old now i x low
+          (λ d bit. c.read_lane.ensures.alone (c.is_out.ensures.1 bit) ∙ was d) inv.stay;
+      files = set_each T (λ (k : ℕ) (a b : T). IsTrue (D.tells a) → D.files b ≡ D.files a) old now i x low
           (λ d. subst (λ (a : T). IsTrue (D.tells a) → D.files x ≡ D.files a) (was d) c.read_lane.ensures.files) inv.files;
-      tells = set_each T (λ (a b : T). D.tells b ≡ D.tells a) old now i x low
+      tells = set_each T (λ (k : ℕ) (a b : T). D.tells b ≡ D.tells a) old now i x low
           (λ d. subst (λ (a : T). D.tells x ≡ D.tells a) (was d) c.read_lane.ensures.tells) inv.tells;
-      counts = set_each T (λ (a b : T). D.count a ≤ D.count b) old now i x low
+      counts = set_each T (λ (k : ℕ) (a b : T). D.count a ≤ D.count b) old now i x low
           (λ d. subst (λ (a : T). D.count a ≤ D.count x) (was d) c.read_lane.ensures.count) inv.counts;
       others = search rules;
     }

@@ -6,7 +6,7 @@ use Rattle.register_core.specs.Looking.{LaneIsRead, found_at}
 use Rattle.register_core.proofs.EachLemmas.{AreGoodFrom}
 use Rattle.register_core.proofs.lanes.read_lanes.Given as goal
 
--- the lanes so far were read, the letters of the others are good, each lane tells what it told, and the others are as they were
+-- the lanes so far were read, the letters of the others are good, those that are out stay, each lane tells what it told, and the others are as they were
 abbrev pub invariant-loop-index : goal.invariant-loop-index
 invariant-loop-index g l = let D = g.D.Drive in record {
   counted : length l.files.items ≡ l.index;
@@ -16,6 +16,7 @@ invariant-loop-index g l = let D = g.D.Drive in record {
       (D.tells (slice_index_or l.initial.lanes k d)) (D.files (slice_index_or l.initial.lanes k d))
       (D.count (slice_index_or l.initial.lanes k d)) (D.count (slice_index_or l.lanes k d));
   good : AreGoodFrom l.index l.whys;
+  stay : (k : ℕ) (d : g.row.D.Denot) → IsBitSet l.out k → slice_index_or l.lanes k d ≡ slice_index_or l.initial.lanes k d;
   files : (k : ℕ) (d : g.row.D.Denot) → IsTrue (D.tells (slice_index_or l.initial.lanes k d))
       → D.files (slice_index_or l.lanes k d) ≡ D.files (slice_index_or l.initial.lanes k d);
   tells : (k : ℕ) (d : g.row.D.Denot) → D.tells (slice_index_or l.lanes k d) ≡ D.tells (slice_index_or l.initial.lanes k d);

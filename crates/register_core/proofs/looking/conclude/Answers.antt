@@ -1,4 +1,4 @@
-use Rattle.std.proofs.Common.{◌≤◌, List, subst, sym, arith}
+use Rattle.std.proofs.Common.{◌≤◌, List, refl, subst, sym, arith}
 use Rattle.std.specs.Prelude.{Result}
 use Rattle.drive_base.specs.Plan.{data_drives, write_drives}
 use Rattle.vote_core.specs.Verdict.{VerdictRule}
@@ -54,4 +54,4 @@ returns-in_ok-base_on-in-Settled-clause-outcome g c =
     let set = c.args.set in
     let rule = subst (λ (rows : List Row). VerdictRule (write_drives set.drives set.parity) (data_drives set.drives set.parity) rows (Settled c.in-Settled.lane))
     c.requires.rows c.in-Settled.ensures in
-    ((c.in-Settled.lane, rule, c.in_ok-base_on-in-Settled.ensures.base), tt)
+    ((c.in-Settled.lane, rule, c.in_ok-base_on-in-Settled.ensures.base), refl)

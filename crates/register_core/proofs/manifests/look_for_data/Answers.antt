@@ -58,11 +58,13 @@ loop-disk-preserved g c =
         | in-Err-Because w ↦ subst (AreGoodFrom (i + 1)) (sym (w.whys-is ∙ w.set.ensures ∙ ap (λ (n : ℕ). slice_set c.loop-disk.whys n w.in-Err-Because.why) inv.at))
             (good_after c.loop-disk.whys i w.in-Err-Because.why inv.good)
       ];
-      files = set_each T (λ (a b : T). IsTrue (D.tells a) → D.files b ≡ D.files a) old now i x low
+      stay = set_each T (λ (k : ℕ) (a b : T). IsBitSet c.args.set.out k → b ≡ a) old now i x low
+          (λ d bit. c.manifest_on.ensures.alone (subst (IsBitSet c.args.set.out) (sym inv.at) bit) ∙ was d) inv.stay;
+      files = set_each T (λ (k : ℕ) (a b : T). IsTrue (D.tells a) → D.files b ≡ D.files a) old now i x low
           (λ d. subst (λ (a : T). IsTrue (D.tells a) → D.files x ≡ D.files a) (was d) c.manifest_on.ensures.files) inv.files;
-      tells = set_each T (λ (a b : T). D.tells b ≡ D.tells a) old now i x low
+      tells = set_each T (λ (k : ℕ) (a b : T). D.tells b ≡ D.tells a) old now i x low
           (λ d. subst (λ (a : T). D.tells x ≡ D.tells a) (was d) c.manifest_on.ensures.tells) inv.tells;
-      counts = set_each T (λ (a b : T). D.count a ≤ D.count b) old now i x low
+      counts = set_each T (λ (k : ℕ) (a b : T). D.count a ≤ D.count b) old now i x low
           (λ d. subst (λ (a : T). D.count a ≤ D.count x) (was d) c.manifest_on.ensures.count) inv.counts;
       others = search rules;
     }

@@ -6,7 +6,7 @@ use Rattle.register_core.specs.Manifests.{ManifestLetter}
 use Rattle.register_core.proofs.EachLemmas.{AreGoodFrom}
 use Rattle.register_core.proofs.manifests.look_for_data.Given as goal
 
--- the drives so far have their letters, the letters of the others are good, each drive tells what it told, and the others are as they were
+-- the drives so far have their letters, the letters of the others are good, those that are out stay, each drive tells what it told, and the others are as they were
 abbrev pub invariant-loop-disk : goal.invariant-loop-disk
 invariant-loop-disk g l = let D = g.D.Drive in record {
   at : l.index ≡ l.disk-index;
@@ -16,6 +16,7 @@ invariant-loop-disk g l = let D = g.D.Drive in record {
       (D.tells (slice_index_or l.initial.disks k d)) (D.files (slice_index_or l.initial.disks k d))
       (D.count (slice_index_or l.initial.disks k d)) (D.count (slice_index_or l.disks k d));
   good : AreGoodFrom l.disk-index l.whys;
+  stay : (k : ℕ) (d : g.row.D.Denot) → IsBitSet l.set.out k → slice_index_or l.disks k d ≡ slice_index_or l.initial.disks k d;
   files : (k : ℕ) (d : g.row.D.Denot) → IsTrue (D.tells (slice_index_or l.initial.disks k d))
       → D.files (slice_index_or l.disks k d) ≡ D.files (slice_index_or l.initial.disks k d);
   tells : (k : ℕ) (d : g.row.D.Denot) → D.tells (slice_index_or l.disks k d) ≡ D.tells (slice_index_or l.initial.disks k d);
