@@ -42,7 +42,6 @@ pub fn mend<D: Drive>(
     ensures outcome { Mends D.tells D.files D.count draft.now out term count.old count.new result lanes.old lanes.new }
     ensures keeps { (base : Base) (unknown : ℕ) (recorded : List Lane) → EndsAt draft.now base
         → AllTell D.tells out lanes.old → AreUnused D.files out term count.old lanes.old
-        → ((k : ℕ) → IsBitSet out k → IsBitSet unknown k)
         → AreLanes D.files unknown (string_bytes draft.now.name) lanes.old recorded
         → MendKeeps D.tells D.files D.count draft.now out unknown base result lanes.new recorded }
     ensures drives { AllTell D.tells out lanes.old → AreUnused D.files out term count.old lanes.old

@@ -20,7 +20,7 @@ returns-clause-outcome g c =
     (record { lanes = c.count_written.result; whys = c.write_each-whys.result }) c.args.lanes.now c.write_each-whys.new.lanes c.requires.drives wrote c.count_written.ensures
 
 pub returns-clause-keeps : goal.returns-clause-keeps
-returns-clause-keeps g c base unknown recorded ends tell unused within are =
+returns-clause-keeps g c base unknown recorded ends tell unused are =
     let D : Type 0 = g.row.D.Denot in
     let draft = c.args.draft.now in
     let On : List ℕ → List ℕ → List Why → Type 0 = λ name bytes letters.
