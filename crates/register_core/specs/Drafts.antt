@@ -1,5 +1,5 @@
 -- The files of a change, made before anything is written.
-use Rattle.std.specs.Prelude.{◌≡◌, ℕ, List, Option, Some, None, replicate, string_bytes}
+use Rattle.std.specs.Prelude.{◌≡◌, ℕ, List, [], Option, Some, None, replicate, string_bytes}
 use Rattle.call_types.specs.declared.why.Why.{Why}
 use Rattle.call_types.specs.declared.why.Why.TheVariants.{Good}
 use Rattle.register_file.specs.Record.{IsCanonical}
@@ -43,9 +43,11 @@ pub record IsDraftAfterDraft (first : Draft) (change : Next) (draft : Draft) : T
   pub letters : draft.letters ≡ replicate first.set.drives Good
   pub passed : draft.passed ≡ 0
 
--- a draft of the settled base of a look, which passes over the lanes that were shown to have it
+-- a draft of the settled base of a look, which has no first file and passes over the lanes that were shown to have the base
 pub record IsMendOfLook (looked : Looked) (draft : Draft) : Type 0 where
   pub ends : EndsAt draft looked.base
   pub name : string_bytes draft.name ≡ string_bytes looked.name
   pub set : draft.set ≡ looked.set
+  pub none_first : draft.first.items ≡ []
+  pub letters : draft.letters ≡ replicate looked.set.drives Good
   pub passed : draft.passed ≡ looked.clean

@@ -1,5 +1,5 @@
 -- What a look reads, and what it answers.
-use Rattle.std.specs.Prelude.{◌≡◌, ◌⊎◌, ◌↔◌, ℕ, ◌<◌, ◌≤◌, Bool, IsTrue, List, Option, Some, None, length, map, Result, Ok, Err, string_bytes, slice_index_or}
+use Rattle.std.specs.Prelude.{◌≡◌, ◌⊎◌, ◌↔◌, ℕ, ◌<◌, ◌≤◌, ◌^◌, Bool, IsTrue, List, Option, Some, None, length, map, Result, Ok, Err, string_bytes, slice_index_or}
 use Rattle.std.specs.Int.{IsBitSet}
 use Rattle.seal_file.specs.declared.damage.Damage.TheVariants.{Spelling}
 use Rattle.call_types.specs.Good.{good_count}
@@ -111,6 +111,7 @@ module _ {D : Type 0} (tells : D → Bool) (files : D → Files) (count : D → 
     pub may_forward : MayForward set looked.pending disks disks_after
     pub accepted : fault (content_of looked.base looked.pending) ≡ None
     pub clean : (k : ℕ) → k < length old → IsBitSet looked.clean k ↔ (found_at found k ≡ Some (settled_file looked.base))
+    pub none_else : looked.clean < 2 ^ length old
 
   -- too few lanes have a good file; no data drive is called
   pub record IsTooFew (set : SetPlan) (out : ℕ) (name : List ℕ) (whys : List Why) (old new disks disks_after : List D) : Type 0 where

@@ -1,6 +1,6 @@
 //! What the files that were read of the lanes have.
 
-ghost use Rattle.std.specs.Prelude.{◌≡◌, ◌<◌, ◌≤◌, ◌↔◌, ℕ, IsTrue, IfOk, IfErr, None, Some, length, slice_index_or};
+ghost use Rattle.std.specs.Prelude.{◌≡◌, ◌<◌, ◌≤◌, ◌^◌, ◌↔◌, ℕ, IsTrue, IfOk, IfErr, None, Some, length, slice_index_or};
 ghost use Rattle.std.specs.Int.{IsBitSet};
 ghost use Rattle.register_core.specs.LookSteps.{Accepts, LettersAreRefused};
 ghost use Rattle.register_core.specs.Looking.{FindsBase, FindsNext, HasContent, content_of, found_at};
@@ -58,7 +58,8 @@ pub fn content_of<'a>(base: &'a Base, pending: &'a Option<Next>) -> &'a [u8]
 /// A mask of the lanes that were shown to have exactly a base, without a next.
 pub fn clean_of(files: &[Option<RegFile>], base: &Base) -> u16
     requires { length files.now ≤ 16 }
-    ensures { (k : ℕ) → k < length files.now → IsBitSet result k ↔ (found_at files.now k ≡ Some (settled_file base.now)) }
+    ensures bits { (k : ℕ) → k < length files.now → IsBitSet result k ↔ (found_at files.now k ≡ Some (settled_file base.now)) }
+    ensures none_else { result < 2 ^ length files.now }
 {
     let mut mask = 0;
     for k in 0..files.len() {

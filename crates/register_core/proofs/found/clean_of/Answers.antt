@@ -1,4 +1,4 @@
-use Rattle.std.proofs.Common.{◌≡◌, ◌+◌, ◌<◌, ◌∙◌, ℕ, length, subst, sym, arith}
+use Rattle.std.proofs.Common.{◌≡◌, ◌+◌, ◌<◌, ◌^◌, ◌∙◌, ℕ, length, subst, sym, arith}
 use Rattle.call_types.proofs.MaskLemmas.{MaskSoFar, mask_bit, mask_no, mask_yes}
 use Rattle.register_core.proofs.FoundLemmas.{IsClean, looked_up}
 use Rattle.register_core.proofs.found.clean_of.Goals as goal
@@ -19,8 +19,13 @@ loop-k-preserved c =
           (λ is. let yes = c.is_settled.ensures.1 (sym at ∙ is) in let no = w.if-is_settled.false in absurd cc) c.loop-k.invariant)
     ]
 
-pub returns : goal.returns
-returns c =
+pub returns-clause-bits : goal.returns-clause-bits
+returns-clause-bits c =
     let clean : ℕ → Type 0 = IsClean c.args.files.now c.args.base.now in
     let all : c.loop-k.k ≡ length c.args.files.now = omega arith in
     mask_bit clean (length c.args.files.now) c.loop-k.mask (subst (λ (n : ℕ). MaskSoFar clean n c.loop-k.mask) all c.loop-k.invariant)
+
+pub returns-clause-none_else : goal.returns-clause-none_else
+returns-clause-none_else c =
+    let all : c.loop-k.k ≡ length c.args.files.now = omega arith in
+    subst (λ (n : ℕ). c.loop-k.mask < 2 ^ n) all c.loop-k.invariant.low

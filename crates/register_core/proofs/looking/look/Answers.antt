@@ -1,4 +1,4 @@
-use Rattle.std.proofs.Common.{◌≡◌, ◌<◌, ◌∙◌, ℕ, List, length, subst, sym, ap, refl, arith}
+use Rattle.std.proofs.Common.{◌≡◌, ◌<◌, ◌^◌, ◌∙◌, ℕ, List, length, subst, sym, ap, refl, arith}
 use Rattle.std.specs.Prelude.{Option, Some, None, Result, ◌↔◌}
 use Rattle.std.specs.Int.{IsBitSet}
 use Rattle.drive_base.specs.Plan.{data_drives, write_drives}
@@ -75,7 +75,7 @@ returns-clause-outcome g c =
     let accepted : g.R.ContentRule.fault_in c.args.rule.now c.content_of-content.result.now ≡ None = c.in_ok-accept.ensures.answer in
     let same : c.content_of-content.result.now ≡ content_of said.base said.pending = c.content_of-content.ensures in
     let clean : (k : ℕ) → k < length c.as_slice-files.result.now → IsBitSet c.clean_of.result k ↔ (found_at c.as_slice-files.result.now k ≡ Some (settled_file said.base))
-    = c.clean_of.ensures in
+    = c.clean_of.ensures.bits in
     record {
       found = c.as_slice-files.result.now;
       read = read;
@@ -88,6 +88,7 @@ returns-clause-outcome g c =
       may_forward = concluded.1;
       accepted = ap (g.R.ContentRule.fault_in c.args.rule.now) (sym same) ∙ accepted;
       clean = λ k low. clean k (omega (arith, read.counted));
+      none_else = subst (λ (n : ℕ). c.clean_of.result < 2 ^ n) read.counted c.clean_of.ensures.none_else;
     }
 
 pub returns-clause-finds : goal.returns-clause-finds
@@ -103,7 +104,7 @@ returns-clause-finds g c recorded last change content told honest are holds =
     let concluded : Concludes (write_drives set.drives set.parity) (data_drives set.drives set.parity) c.as_slice-files.result.now said.base said.pending
     × MayForward D.tells D.files D.count set said.pending c.args.disks.now c.conclude.new.disks = c.in_ok-said.ensures.outcome in
     let clean : (k : ℕ) → k < length c.as_slice-files.result.now → IsBitSet c.clean_of.result k ↔ (found_at c.as_slice-files.result.now k ≡ Some (settled_file said.base))
-    = c.clean_of.ensures in
+    = c.clean_of.ensures.bits in
     let seen = lanes_seen D.tells D.files D.count c.args.out c.args.name.now c.as_slice-files.result.now c.in_ok-files.field-0.whys c.args.lanes.now
     c.read_lanes.new.lanes recorded c.file_laws.ensures.files read told honest are in
     let meet = quorums_meet set.drives set.parity set.some_parity set.half_at_most in
