@@ -13,12 +13,12 @@ trap 'rm -rf "$work"' EXIT
 
 [[ "$rounds" =~ ^[1-9][0-9]{0,3}$ ]] || { echo "versions.sh: the number of calls is 1 to 9999" >&2; exit 2; }
 
-for crate in stamp_id seal_file field_reader call_types version_list; do
+for crate in stamp_id seal_file field_reader id_field call_types version_list; do
     mkdir -p "$work/crates/$crate"
     cp -r "$top/crates/$crate"/{src,specs,proofs} "$work/crates/$crate/"
 done
 cp "$top/HANDLES" "$work/"
-grep -E '^(stamp_id|seal_file|field_reader|call_types|version_list):' "$top/crates.txt" >"$work/crates.txt"
+grep -E '^(stamp_id|seal_file|field_reader|id_field|call_types|version_list):' "$top/crates.txt" >"$work/crates.txt"
 echo 'versions_bench: stamp_id seal_file field_reader call_types version_list' >>"$work/crates.txt"
 
 mkdir -p "$work/crates/versions_bench/src"

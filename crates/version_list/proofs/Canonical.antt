@@ -1,14 +1,18 @@
 -- A state is canonical exactly where its rows are those that the format takes.
-use Rattle.std.proofs.Common.{◌≡◌, ℕ, ◌<◌, Bool, true, false, cond, eqb, List, [], ◌∷◌, ◌++◌, length, All, Option, Some, None, refl, sym, ap, subst, ◌∙◌, append_assoc, arith, inl, inr}
-use Rattle.std.specs.Prelude.{◌&&◌, ◌||◌, not, ◌↔◌, map, IsNone}
+use Rattle.std.proofs.Common.{◌≡◌, ℕ, Bool, true, false, List, [], ◌∷◌, ◌++◌, length, Option, Some, None, refl, sym, ap, subst, ◌∙◌, append_assoc, arith}
+use Rattle.std.specs.Prelude.{◌&&◌, ◌||◌, not, ◌↔◌, ◌==◌, map, IsNone}
 use Rattle.std.specs.List.{AllByRecursion}
-use Rattle.std.proofs.lemmas.Bool.{false_from_ne_true, eqb-true, cases_lt, eq-eqb}
-use Rattle.std.proofs.lemmas.List.{append-nil, length-map, map-append, map_push, get_or_past}
+use Rattle.std.specs.Bool.{MatchBool}
+use Rattle.std.proofs.lemmas.Bool.{false_from_ne_true, eqb-true, eq-eqb}
+use Rattle.std.proofs.lemmas.List.{append-nil, length-map, map-append, map_push}
 use Rattle.field_reader.specs.Spelling.{IsBytes}
 use Rattle.field_reader.proofs.Series.{AllAfter}
 use Rattle.stamp_id.specs.VersionId.{id_bytes}
 use Rattle.stamp_id.specs.declared.version.VersionId.{VersionId}
-use Rattle.stamp_id.proofs.IdLemmas.{length-id_bytes, IsId-id_bytes, id_bytes-injective, id_bytes-fit}
+use Rattle.stamp_id.proofs.IdLemmas.{length-id_bytes, id_bytes-injective}
+use Rattle.id_field.specs.Layout.{is_id}
+use Rattle.id_field.proofs.IdTests.{both_true}
+use Rattle.id_field.proofs.IdText.{IsIdField, id_is_field}
 use Rattle.call_types.specs.declared.names.VersionName.{VersionName}
 use Rattle.call_types.specs.declared.names.VersionName.TheVariants.{Null, Id}
 use Rattle.call_types.specs.declared.version.Version.{Version}
@@ -18,45 +22,20 @@ use Rattle.call_types.specs.declared.version.What.TheVariants.{Marker, Object}
 use Rattle.version_list.specs.declared.state.KeyState.{KeyState}
 use Rattle.version_list.specs.State.{AreDistinct, names_of, IsCanonicalWhat, IsCanonicalVersion, IsCanonicalUpload, IsCanonical}
 use Rattle.version_list.specs.Rows.{VersionRow, UploadRow, no_id, name_field, upload_field, object_row, version_row, upload_row, rows_of}
-use Rattle.version_list.specs.Layout.{is_id, is_no_id, is_among, upload_rule, version_names, upload_names}
-use Rattle.version_list.proofs.IdTests.{both_true, is_id-yes, no_id-from}
+use Rattle.version_list.specs.Layout.{is_no_id, is_among, version_names, upload_names}
+use Rattle.version_list.proofs.NoId.{no_id-none, no_id-id, no_id-size, no_id-bytes, no_id-from}
+use Rattle.version_list.proofs.ObjectText.{IsUploadId}
 use Rattle.version_list.proofs.RowTexts.{IsObjectOption}
 use Rattle.version_list.proofs.StateText.{IsVersionAfter, IsUploadAfter, AreRows}
 use Rattle.version_list.proofs.Distinct.{Fresh, fresh_distinct, distinct_fresh, none_seen, fresh_split, fresh_join, is_among-append, distinct_map, distinct_unmap}
 
 -- ---- ids
 
-no_id-none : is_no_id no_id ≡ true
-unfolding is_no_id no_id
-no_id-none = refl
-
-no_id-id : is_id no_id ≡ false
-unfolding is_id no_id
-no_id-id = refl
-
 id-yes : (v : VersionId) → is_id (id_bytes v) ≡ true
-id-yes v = is_id-yes (id_bytes v) (IsId-id_bytes v)
+id-yes v = (id_is_field v).is_id
 
 id-not_none : (v : VersionId) → is_no_id (id_bytes v) ≡ false
 id-not_none v = false_from_ne_true (is_no_id (id_bytes v)) (λ e. let zeros = no_id-from (id_bytes v) (length-id_bytes v) e in let other : is_id (id_bytes v) ≡ false = ap is_id zeros ∙ no_id-id in let yes_id = id-yes v in cc)
-
-no_id-size : length no_id ≡ 16
-unfolding no_id
-no_id-size = refl
-
-all_bytes : (xs : List ℕ) → All (λ b. b < 256) xs → IsBytes xs
-all_bytes xs all place =
-    elim (cases_lt place (length xs)) [
-      | inl lt ↦ all place 0 lt
-      | inr le ↦ rw (get_or_past xs place 0 le) (omega arith)
-    ]
-
-id-bytes : (v : VersionId) → IsBytes (id_bytes v)
-id-bytes v = all_bytes (id_bytes v) (id_bytes-fit v)
-
-no_id-bytes : IsBytes no_id
-unfolding no_id
-no_id-bytes = all_bytes no_id (λ k d lt. grind arith)
 
 -- ---- names
 
@@ -70,7 +49,7 @@ name_kept (Id id) = ap (λ (b : Bool). b || is_id (id_bytes id)) (id-not_none id
 
 name_bytes : (name : VersionName) → IsBytes (name_field name)
 name_bytes Null = no_id-bytes
-name_bytes (Id id) = id-bytes id
+name_bytes (Id id) = (id_is_field id).fits
 
 -- one spelling for each name
 pub name_field-injective : (a b : VersionName) → name_field a ≡ name_field b → a ≡ b
@@ -87,52 +66,35 @@ upload_field-injective (Some a) (Some b) e = ap (λ (v : VersionId). Some v) (id
 
 -- ---- objects
 
-upload_size : (upload : Option VersionId) → length (upload_field upload) ≡ 16
-upload_size None = no_id-size
-upload_size (Some id) = length-id_bytes id
+-- 16 zero bytes stand exactly where there are no parts
+upload_out : (parts : ℕ) (upload : Option VersionId) → (parts ≡ 0) ↔ IsNone upload → IsUploadId parts (upload_field upload)
+upload_out parts None h = let none : (parts == 0) ≡ true = eq-eqb parts 0 (h.1 refl) in rw none refl
+upload_out parts (Some id) h =
+    let some : (parts == 0) ≡ false = false_from_ne_true (parts == 0) (λ e. let n = h.0 (eqb-true _ _ e) in absurd cc) in
+    rw some (id_is_field id)
 
-upload_bytes-fit : (upload : Option VersionId) → IsBytes (upload_field upload)
-upload_bytes-fit None = no_id-bytes
-upload_bytes-fit (Some id) = id-bytes id
-
-abbrev rule_at : Bool → List ℕ → Bool
-rule_at single bytes = cond single (is_no_id bytes) (is_id bytes)
-
--- the rule of parts and upload
-parts_rule : (parts : ℕ) (upload : Option VersionId) → (parts ≡ 0) ↔ IsNone upload → upload_rule parts (upload_field upload) ≡ true
-parts_rule parts None h =
-    let zero_parts : eqb parts 0 ≡ true = eq-eqb parts 0 (h.1 refl) in
-    ap (λ (b : Bool). rule_at b no_id) zero_parts ∙ no_id-none
-parts_rule parts (Some id) h =
-    let some_parts : eqb parts 0 ≡ false = false_from_ne_true (eqb parts 0) (λ e. let n = h.0 (eqb-true _ _ e) in absurd cc) in
-    ap (λ (b : Bool). rule_at b (id_bytes id)) some_parts ∙ id-yes id
-
-rule_parts : (parts : ℕ) (upload : Option VersionId) → upload_rule parts (upload_field upload) ≡ true → (parts ≡ 0) ↔ IsNone upload
-rule_parts parts None e =
-    let P : Bool → Type 0 = λ b. eqb parts 0 ≡ b → rule_at b no_id ≡ true → parts ≡ 0 in
-    let split : P (eqb parts 0) = elim (eqb parts 0) as P [ true ↦ λ h t. eqb-true _ _ h | false ↦ λ h t. absurd (let n = no_id-id in cc) ] in
-    (λ h. refl, λ h. split refl e)
-rule_parts parts (Some id) e =
-    let P : Bool → Type 0 = λ b. eqb parts 0 ≡ b → rule_at b (id_bytes id) ≡ true → (parts ≡ 0) ↔ IsNone (Some id) in
-    let split : P (eqb parts 0) = elim (eqb parts 0) as P [
-      | true ↦ λ h t. absurd (let n = id-not_none id in cc)
-      | false ↦ λ h t. (λ z. absurd (let y = eq-eqb parts 0 z in cc), λ z. absurd cc)
+upload_in : (parts : ℕ) (upload : Option VersionId) → IsUploadId parts (upload_field upload) → (parts ≡ 0) ↔ IsNone upload
+upload_in parts None is =
+    let P : Bool → Type 0 = λ b. (parts == 0) ≡ b → MatchBool b (no_id ≡ no_id) (IsIdField no_id) → parts ≡ 0 in
+    let split : P (parts == 0) = elim (parts == 0) as P [ true ↦ λ e t. eqb-true _ _ e | false ↦ λ e t. absurd (let n = no_id-id in let y = t.is_id in cc) ] in
+    (λ h. refl, λ h. split refl is)
+upload_in parts (Some id) is =
+    let P : Bool → Type 0 = λ b. (parts == 0) ≡ b → MatchBool b (id_bytes id ≡ no_id) (IsIdField (id_bytes id)) → (parts ≡ 0) ↔ IsNone (Some id) in
+    let split : P (parts == 0) = elim (parts == 0) as P [
+      | true ↦ λ e t. absurd (let n : is_no_id (id_bytes id) ≡ true = ap is_no_id t ∙ no_id-none in let m = id-not_none id in cc)
+      | false ↦ λ e t. (λ z. absurd (let y = eq-eqb parts 0 z in cc), λ z. absurd cc)
     ] in
-    split refl e
+    split refl is
 
 object_out : (what : What) → IsCanonicalWhat what → IsObjectOption (object_row what)
 object_out Marker c = tt
 object_out (Object data_id print size md5 parts upload kind) c = record {
-  data_sized = length-id_bytes data_id;
-  data_is_id = id-yes data_id;
-  data_bytes = id-bytes data_id;
+  data_id = id_is_field data_id;
   print_sized = c.print_sized;
   size_fits = c.size_fits;
   md5_sized = c.md5_sized;
   parts_fit = c.parts_fit;
-  upload_sized = upload_size upload;
-  upload_kept = parts_rule parts upload c.parts_of_upload;
-  upload_bytes = upload_bytes-fit upload;
+  upload = upload_out parts upload c.parts_of_upload;
   kind_short = c.kind_short;
 }
 
@@ -143,7 +105,7 @@ object_in (Object data_id print size md5 parts upload kind) o = record {
   size_fits = o.size_fits;
   md5_sized = o.md5_sized;
   parts_fit = o.parts_fit;
-  parts_of_upload = rule_parts parts upload o.upload_kept;
+  parts_of_upload = upload_in parts upload o.upload;
   kind_short = o.kind_short;
 }
 
@@ -189,7 +151,7 @@ uploads_out seen before (u ∷ us) all =
     let names : seen ++ upload_names (before ++ upload_row u ∷ []) ≡ (seen ++ upload_names before) ++ id_bytes u.id ∷ [] =
     ap (λ (l : List (List ℕ)). seen ++ l) (map_push (λ r. r.id) before (upload_row u)) ∙ sym (append_assoc seen (upload_names before) (id_bytes u.id ∷ [])) in
     let fresh = subst (λ (seen : List (List ℕ)). Fresh seen (upload_names (map upload_row us))) names rest.0 in
-    let new = unused (is_among seen (id_bytes u.id) || is_among (upload_names before) (id_bytes u.id)) (both_true _ _ all.0.id_kept).1 in
+    let new = unused (is_among seen (id_bytes u.id) || is_among (upload_names before) (id_bytes u.id)) all.0.id_new in
     ((is_among-append seen (upload_names before) (id_bytes u.id) ∙ new, fresh), (record { opened = all.0.opened_kept; kind_short = all.0.kind_short }, rest.1))
 
 uploads_in : (seen : List (List ℕ)) (before : List UploadRow) (us : List Upload) → Fresh (seen ++ upload_names before) (upload_names (map upload_row us)) → AllByRecursion IsCanonicalUpload us → AllAfter (IsUploadAfter (is_among seen)) before (map upload_row us)
@@ -199,9 +161,8 @@ uploads_in seen before (u ∷ us) fresh all =
     ap (λ (l : List (List ℕ)). seen ++ l) (map_push (λ r. r.id) before (upload_row u)) ∙ sym (append_assoc seen (upload_names before) (id_bytes u.id ∷ [])) in
     let rest = subst (λ (seen : List (List ℕ)). Fresh seen (upload_names (map upload_row us))) (sym names) fresh.1 in (
       record {
-        id_sized = length-id_bytes u.id;
-        id_kept = kept_rule (is_id (id_bytes u.id)) (is_among seen (id_bytes u.id) || is_among (upload_names before) (id_bytes u.id)) (id-yes u.id) (sym (is_among-append seen (upload_names before) (id_bytes u.id)) ∙ fresh.0);
-        id_bytes = id-bytes u.id;
+        id = id_is_field u.id;
+        id_new = ap not (sym (is_among-append seen (upload_names before) (id_bytes u.id)) ∙ fresh.0);
         opened_kept = all.0.opened;
         kind_short = all.0.kind_short;
       },

@@ -3,7 +3,6 @@ pub mod Canonical
 pub mod CanonicalLemmas
 pub mod Distinct
 pub mod GoneLemmas
-pub mod IdTests
 pub mod Injective
 pub mod KeptLemmas
 pub mod Known
@@ -11,6 +10,7 @@ pub mod LawProofs
 pub mod LeavesLemmas
 pub mod Made
 pub mod NamingLemmas
+pub mod NoId
 pub mod ObjectText
 pub mod RowTexts
 pub mod StateText

@@ -1,26 +1,47 @@
 -- The texts that spell an object.
-use Rattle.std.proofs.Common.{◌≡◌, ℕ, ◌^◌, ◌<◌, ◌≤◌, true, List, [], length, Option, Some, refl, subst}
+use Rattle.std.proofs.Common.{◌≡◌, ℕ, ◌^◌, ◌<◌, ◌≤◌, Bool, true, false, cond, List, [], length, Option, Some, refl, ap, ◌∙◌}
+use Rattle.std.specs.Prelude.{◌==◌}
+use Rattle.std.specs.Bool.{MatchBool}
 use Rattle.std.specs.Int.{w16, w64}
 use Rattle.field_reader.specs.Format.{Format, ◌>>=◌, done, field, number, short_text, with_rule}
 use Rattle.field_reader.specs.Spelling.{IsBytes, number_bytes, short_text_bytes}
-use Rattle.field_reader.proofs.Parts.{IsSpelled, Then, then_spelled, then_joined, Done, done_spelled, Ruled, rule_spelled, told_spelled, IsBytes-front, IsBytes-back}
+use Rattle.field_reader.proofs.Parts.{IsSpelled, Then, then_spelled, then_joined, Done, done_spelled, Ruled, rule_spelled, told_spelled}
 use Rattle.field_reader.proofs.Numbers.{Plain, field_spelled, Numbered, u16_spelled, u64_spelled, Short, short_text_spelled}
-use Rattle.version_list.specs.Rows.{ObjectRow}
-use Rattle.version_list.specs.Layout.{is_id, upload_rule, object}
+use Rattle.field_reader.proofs.Series.{Kept}
+use Rattle.id_field.specs.Layout.{id_field}
+use Rattle.id_field.proofs.Chains.{itself}
+use Rattle.id_field.proofs.IdText.{IsIdField, id_spelled}
+use Rattle.version_list.specs.Rows.{ObjectRow, no_id}
+use Rattle.version_list.specs.Layout.{is_no_id, upload_id, object}
 use Rattle.version_list.specs.Spelling.{object_bytes}
+use Rattle.version_list.proofs.NoId.{no_id-none, no_id-size, no_id-from}
+
+-- 16 zero bytes where there are no parts, and else an id
+abbrev pub IsUploadId : ℕ → List ℕ → Type 0
+IsUploadId parts bytes = MatchBool (parts == 0) (bytes ≡ no_id) (IsIdField bytes)
+
+none_spelled : IsSpelled (with_rule is_no_id (field 16)) (Kept (λ bytes. bytes ≡ no_id) itself)
+none_spelled = told_spelled (with_rule is_no_id (field 16)) (Ruled (Plain 16) is_no_id) (Kept (λ bytes. bytes ≡ no_id) itself)
+    (λ value text bytes r. record { keeps = no_id-from value r.spells.sized r.keeps; is = r.spells.is })
+    (λ value text k. record { spells = record { is = k.is; sized = ap length k.keeps ∙ no_id-size }; keeps = ap is_no_id k.keeps ∙ no_id-none })
+    (rule_spelled is_no_id (field 16) (Plain 16) (field_spelled 16))
+
+-- one of two formats whose values are spelled alike
+choice_kept : {A : Type 0} (b : Bool) (yes_part no_part : Format A) (P Q : A → Type 0) (p : A → List ℕ) → IsSpelled yes_part (Kept P p) → IsSpelled no_part (Kept Q p) → IsSpelled (cond b yes_part no_part) (Kept (λ a. MatchBool b (P a) (Q a)) p)
+choice_kept true yes_part no_part P Q p one other = record { takes = one.takes; again = one.again }
+choice_kept false yes_part no_part P Q p one other = record { takes = other.takes; again = other.again }
+
+upload_id_spelled : (parts : ℕ) → IsSpelled (upload_id parts) (Kept (IsUploadId parts) itself)
+upload_id_spelled parts = choice_kept (parts == 0) (with_rule is_no_id (field 16)) id_field (λ bytes. bytes ≡ no_id) IsIdField itself none_spelled id_spelled
 
 -- an object that the format takes
 pub record IsObjectRow (o : ObjectRow) : Type 0 where
-  pub data_sized : length o.data_id ≡ 16
-  pub data_is_id : is_id o.data_id ≡ true
-  pub data_bytes : IsBytes o.data_id
+  pub data_id : IsIdField o.data_id
   pub print_sized : length o.print ≡ 32
   pub size_fits : o.size < 2 ^ 64
   pub md5_sized : length o.md5 ≡ 16
   pub parts_fit : o.parts < 2 ^ 16
-  pub upload_sized : length o.upload ≡ 16
-  pub upload_kept : upload_rule o.parts o.upload ≡ true
-  pub upload_bytes : IsBytes o.upload
+  pub upload : IsUploadId o.parts o.upload
   pub kind_short : length o.kind ≤ 255
 
 abbrev row : List ℕ → List ℕ → ℕ → List ℕ → ℕ → List ℕ → List ℕ → ObjectRow
@@ -31,7 +52,7 @@ abbrev f7 : List ℕ → List ℕ → ℕ → List ℕ → ℕ → List ℕ → 
 f7 d p s m n u = short_text >>= λ k. done (Some (row d p s m n u k))
 
 abbrev f6 : List ℕ → List ℕ → ℕ → List ℕ → ℕ → Format (Option ObjectRow)
-f6 d p s m n = with_rule (upload_rule n) (field 16) >>= λ u. f7 d p s m n u
+f6 d p s m n = upload_id n >>= λ u. f7 d p s m n u
 
 abbrev f5 : List ℕ → List ℕ → ℕ → List ℕ → Format (Option ObjectRow)
 f5 d p s m = number w16 >>= λ n. f6 d p s m n
@@ -49,7 +70,7 @@ abbrev t7 : List ℕ → List ℕ → ℕ → List ℕ → ℕ → List ℕ → 
 t7 d p s m n u = Then Short (λ k. Done (Some (row d p s m n u k)))
 
 abbrev t6 : List ℕ → List ℕ → ℕ → List ℕ → ℕ → Option ObjectRow → List ℕ → Type 0
-t6 d p s m n = Then (Ruled (Plain 16) (upload_rule n)) (λ u. t7 d p s m n u)
+t6 d p s m n = Then (Kept (IsUploadId n) itself) (λ u. t7 d p s m n u)
 
 abbrev t5 : List ℕ → List ℕ → ℕ → List ℕ → Option ObjectRow → List ℕ → Type 0
 t5 d p s m = Then (Numbered w16 (2 ^ 16)) (λ n. t6 d p s m n)
@@ -64,13 +85,13 @@ abbrev t2 : List ℕ → Option ObjectRow → List ℕ → Type 0
 t2 d = Then (Plain 32) (λ p. t3 d p)
 
 abbrev t1 : Option ObjectRow → List ℕ → Type 0
-t1 = Then (Ruled (Plain 16) is_id) (λ d. t2 d)
+t1 = Then (Kept IsIdField itself) (λ d. t2 d)
 
 s7 : (d p : List ℕ) (s : ℕ) (m : List ℕ) (n : ℕ) (u : List ℕ) → IsSpelled (f7 d p s m n u) (t7 d p s m n u)
 s7 d p s m n u = then_spelled short_text (λ k. done (Some (row d p s m n u k))) Short (λ k. Done (Some (row d p s m n u k))) short_text_spelled (λ k. done_spelled (Some (row d p s m n u k)))
 
 s6 : (d p : List ℕ) (s : ℕ) (m : List ℕ) (n : ℕ) → IsSpelled (f6 d p s m n) (t6 d p s m n)
-s6 d p s m n = then_spelled (with_rule (upload_rule n) (field 16)) (f7 d p s m n) (Ruled (Plain 16) (upload_rule n)) (t7 d p s m n) (rule_spelled (upload_rule n) (field 16) (Plain 16) (field_spelled 16)) (s7 d p s m n)
+s6 d p s m n = then_spelled (upload_id n) (f7 d p s m n) (Kept (IsUploadId n) itself) (t7 d p s m n) (upload_id_spelled n) (s7 d p s m n)
 
 s5 : (d p : List ℕ) (s : ℕ) (m : List ℕ) → IsSpelled (f5 d p s m) (t5 d p s m)
 s5 d p s m = then_spelled (number w16) (f6 d p s m) (Numbered w16 (2 ^ 16)) (t6 d p s m) u16_spelled (s6 d p s m)
@@ -86,7 +107,7 @@ s2 d = then_spelled (field 32) (f3 d) (Plain 32) (t3 d) (field_spelled 32) (s3 d
 
 s1 : IsSpelled object t1
 unfolding object
-s1 = then_spelled (with_rule is_id (field 16)) f2 (Ruled (Plain 16) is_id) t2 (rule_spelled is_id (field 16) (Plain 16) (field_spelled 16)) s2
+s1 = then_spelled id_field f2 (Kept IsIdField itself) t2 id_spelled s2
 
 -- a text of an object
 pub record ObjectText (o : Option ObjectRow) (text : List ℕ) : Type 0 where
@@ -103,28 +124,19 @@ into o text fits a =
     let e = d.is_rest in
     let f = e.is_rest in
     let g = f.is_rest in
-    let a_fits = IsBytes-back a.front a.back text a.whole fits in
-    let b_fits = IsBytes-back b.front b.back a.back b.whole a_fits in
-    let c_fits = IsBytes-back c.front c.back b.back c.whole b_fits in
-    let d_fits = IsBytes-back d.front d.back c.back d.whole c_fits in
-    let e_fits = IsBytes-back e.front e.back d.back e.whole d_fits in
     record {
       object = row a.first b.first c.first d.first e.first f.first g.first;
       is_some = g.is_rest.is;
       keeps = record {
-        data_sized = a.is_first.spells.sized;
-        data_is_id = a.is_first.keeps;
-        data_bytes = subst (λ (x : List ℕ). IsBytes x) a.is_first.spells.is (IsBytes-front a.front a.back text a.whole fits);
+        data_id = a.is_first.keeps;
         print_sized = b.is_first.sized;
         size_fits = c.is_first.below;
         md5_sized = d.is_first.sized;
         parts_fit = e.is_first.below;
-        upload_sized = f.is_first.spells.sized;
-        upload_kept = f.is_first.keeps;
-        upload_bytes = subst (λ (x : List ℕ). IsBytes x) f.is_first.spells.is (IsBytes-front f.front f.back e.back f.whole e_fits);
+        upload = f.is_first.keeps;
         kind_short = g.is_first.sized;
       };
-      is = then_joined a _ _ a.is_first.spells.is (then_joined b _ _ b.is_first.is (then_joined c _ _ c.is_first.is (then_joined d _ _ d.is_first.is (then_joined e _ _ e.is_first.is (then_joined f _ _ f.is_first.spells.is (then_joined g _ _ g.is_first.is g.is_rest.nothing))))));
+      is = then_joined a _ _ a.is_first.is (then_joined b _ _ b.is_first.is (then_joined c _ _ c.is_first.is (then_joined d _ _ d.is_first.is (then_joined e _ _ e.is_first.is (then_joined f _ _ f.is_first.is (then_joined g _ _ g.is_first.is g.is_rest.nothing))))));
     }
 
 out_of : (o : Option ObjectRow) (text : List ℕ) → ObjectText o text → t1 o text
@@ -135,7 +147,7 @@ out_of o text t =
       first = r.data_id;
       front = r.data_id;
       back = _;
-      is_first = record { spells = record { is = refl; sized = k.data_sized }; keeps = k.data_is_id };
+      is_first = record { keeps = k.data_id; is = refl };
       whole = t.is;
       is_rest = record {
         first = r.print;
@@ -165,7 +177,7 @@ out_of o text t =
                 first = r.upload;
                 front = r.upload;
                 back = _;
-                is_first = record { spells = record { is = refl; sized = k.upload_sized }; keeps = k.upload_kept };
+                is_first = record { keeps = k.upload; is = refl };
                 whole = refl;
                 is_rest = record {
                   first = r.kind;

@@ -10,8 +10,11 @@ use Rattle.field_reader.specs.Spelling.{IsBytes, number_bytes, short_text_bytes}
 use Rattle.field_reader.proofs.Parts.{IsSpelled, Then, then_spelled, then_joined, Done, done_spelled, Ruled, rule_spelled, told_spelled, choice_spelled, IsBytes-front}
 use Rattle.field_reader.proofs.Numbers.{Plain, field_spelled, Numbered, u8_spelled, u64_spelled, Short, short_text_spelled}
 use Rattle.field_reader.proofs.Series.{Kept}
+use Rattle.id_field.specs.Layout.{id_field}
+use Rattle.id_field.proofs.Chains.{itself}
+use Rattle.id_field.proofs.IdText.{IsIdField, id_spelled}
 use Rattle.version_list.specs.Rows.{ObjectRow, VersionRow, UploadRow}
-use Rattle.version_list.specs.Layout.{is_moment, is_class, object, object_of_class, name_rule, id_rule, version, upload}
+use Rattle.version_list.specs.Layout.{is_moment, is_class, object, object_of_class, is_new, name_rule, version, upload}
 use Rattle.version_list.specs.Spelling.{class_of, object_bytes, version_bytes, upload_bytes}
 use Rattle.version_list.proofs.ObjectText.{IsObjectRow, ObjectText, object_spelled}
 
@@ -172,9 +175,8 @@ version_spelled is_used = told_spelled (version is_used) (t1 is_used) (Kept (IsV
 
 -- an upload that the format takes
 pub record IsUploadRow (is_used : List ℕ → Bool) (u : UploadRow) : Type 0 where
-  pub id_sized : length u.id ≡ 16
-  pub id_kept : id_rule is_used u.id ≡ true
-  pub id_bytes : IsBytes u.id
+  pub id : IsIdField u.id
+  pub id_new : is_new is_used u.id ≡ true
   pub opened_kept : u.opened < 253402300800
   pub kind_short : length u.kind ≤ 255
 
@@ -194,7 +196,7 @@ abbrev u2 : List ℕ → UploadRow → List ℕ → Type 0
 u2 id = Then (Ruled (Numbered w64 (2 ^ 64)) is_moment) (λ opened. u3 id opened)
 
 abbrev u1 : (List ℕ → Bool) → UploadRow → List ℕ → Type 0
-u1 is_used = Then (Ruled (Plain 16) (id_rule is_used)) (λ id. u2 id)
+u1 is_used = Then (Ruled (Kept IsIdField itself) (is_new is_used)) (λ id. u2 id)
 
 r3 : (id : List ℕ) (opened : ℕ) → IsSpelled (g3 id opened) (u3 id opened)
 r3 id opened = then_spelled short_text (λ kind. done (upload_made id opened kind)) Short (λ kind. Done (upload_made id opened kind)) short_text_spelled (λ kind. done_spelled (upload_made id opened kind))
@@ -204,7 +206,7 @@ r2 id = then_spelled (with_rule is_moment (number w64)) (g3 id) (Ruled (Numbered
 
 r1 : (is_used : List ℕ → Bool) → IsSpelled (upload is_used) (u1 is_used)
 unfolding upload
-r1 is_used = then_spelled (with_rule (id_rule is_used) (field 16)) g2 (Ruled (Plain 16) (id_rule is_used)) u2 (rule_spelled (id_rule is_used) (field 16) (Plain 16) (field_spelled 16)) r2
+r1 is_used = then_spelled (with_rule (is_new is_used) id_field) g2 (Ruled (Kept IsIdField itself) (is_new is_used)) u2 (rule_spelled (is_new is_used) id_field (Kept IsIdField itself) id_spelled) r2
 
 upload_into : (is_used : List ℕ → Bool) (u : UploadRow) (text : List ℕ) → IsBytes text → u1 is_used u text → Kept (IsUploadRow is_used) upload_bytes u text
 upload_into is_used u text fits a =
@@ -213,9 +215,8 @@ upload_into is_used u text fits a =
     let P : UploadRow → Type 0 = λ u. Kept (IsUploadRow is_used) upload_bytes u text in
     let here : P (upload_made a.first b.first c.first) = record {
       keeps = record {
-        id_sized = a.is_first.spells.sized;
-        id_kept = a.is_first.keeps;
-        id_bytes = subst (λ (x : List ℕ). IsBytes x) a.is_first.spells.is (IsBytes-front a.front a.back text a.whole fits);
+        id = a.is_first.spells.keeps;
+        id_new = a.is_first.keeps;
         opened_kept = ltb-true _ _ b.is_first.keeps;
         kind_short = c.is_first.sized;
       };
@@ -228,7 +229,7 @@ upload_out_of is_used u text k = record {
   first = u.id;
   front = u.id;
   back = _;
-  is_first = record { spells = record { is = refl; sized = k.keeps.id_sized }; keeps = k.keeps.id_kept };
+  is_first = record { spells = record { keeps = k.keeps.id; is = refl }; keeps = k.keeps.id_new };
   whole = k.is;
   is_rest = record {
     first = u.opened;

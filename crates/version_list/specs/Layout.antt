@@ -1,20 +1,11 @@
 -- The format of key states: the fields in their order, each with its rule.
-use Rattle.std.specs.Prelude.{ℕ, ◌/◌, ◌%◌, ◌^◌, List, [], length, map, Option, Some, None, Ok, Bool, ◌&&◌, ◌||◌, not, ◌==◌, nat_lt, nat_le, if◌then◌else◌}
+use Rattle.std.specs.Prelude.{ℕ, List, [], length, map, Option, Some, None, Ok, Bool, ◌&&◌, ◌||◌, not, ◌==◌, nat_lt, nat_le, if◌then◌else◌}
 use Rattle.std.specs.List.{list_any, list_all}
 use Rattle.std.specs.Str.{bytes_eq}
 use Rattle.std.specs.Int.{w8, w16, w32, w64}
-use Rattle.stamp_id.specs.Layout.{high_word, low_word}
 use Rattle.field_reader.specs.Format.{Format, ◌>>=◌, done, field, number, short_text, with_rule, series}
+use Rattle.id_field.specs.Layout.{is_id, id_field}
 use Rattle.version_list.specs.Rows.{ObjectRow, VersionRow, UploadRow, StateRows}
-
--- whether two words are those of an id: version 8, variant 10, a slot below 64, and a term and a sequence number from 1
-abbrev pub are_id_words : ℕ → ℕ → Bool
-are_id_words high low =
-    high / 2 ^ 12 % 2 ^ 4 == 8 && low / 2 ^ 62 == 2 && nat_lt (high % 2 ^ 12) 64 && nat_lt 0 (high / 2 ^ 16) && nat_lt 0 (low % 2 ^ 62)
-
--- whether 16 bytes are an id
-unfoldable pub is_id : List ℕ → Bool
-is_id bytes = are_id_words (high_word bytes) (low_word bytes)
 
 -- whether bytes are zeros, as where there is no id
 unfoldable pub is_no_id : List ℕ → Bool
@@ -32,19 +23,19 @@ is_moment moment = nat_lt moment 253402300800
 abbrev pub is_class : ℕ → Bool
 is_class class = nat_lt class 2
 
--- an object's upload id is missing exactly where it has no parts
-abbrev pub upload_rule : ℕ → List ℕ → Bool
-upload_rule parts bytes = if parts == 0 then is_no_id bytes else is_id bytes
+-- an object's upload id, which is missing exactly where it has no parts
+abbrev pub upload_id : ℕ → Format (List ℕ)
+upload_id parts = if parts == 0 then with_rule is_no_id (field 16) else id_field
 
 -- the fields that an object has and a marker has not
 unfoldable pub object : Format (Option ObjectRow)
 object =
-    with_rule is_id (field 16) >>= λ data_id.
+    id_field >>= λ data_id.
     field 32 >>= λ print.
     number w64 >>= λ size.
     field 16 >>= λ md5.
     number w16 >>= λ parts.
-    with_rule (upload_rule parts) (field 16) >>= λ upload.
+    upload_id parts >>= λ upload.
     short_text >>= λ kind.
     done (Some (record { data_id = data_id; print = print; size = size; md5 = md5; parts = parts; upload = upload; kind = kind }))
 
@@ -52,13 +43,13 @@ object =
 abbrev pub object_of_class : ℕ → Format (Option ObjectRow)
 object_of_class class = if class == 0 then done None else object
 
+-- whether bytes are not used yet
+abbrev pub is_new : (List ℕ → Bool) → List ℕ → Bool
+is_new is_used bytes = not (is_used bytes)
+
 -- a version's name: 16 zeros for `null`, or an id, and not used yet
 abbrev pub name_rule : (List ℕ → Bool) → List ℕ → Bool
-name_rule is_used bytes = (is_no_id bytes || is_id bytes) && not (is_used bytes)
-
--- an upload's id, not used yet
-abbrev pub id_rule : (List ℕ → Bool) → List ℕ → Bool
-id_rule is_used bytes = is_id bytes && not (is_used bytes)
+name_rule is_used bytes = (is_no_id bytes || is_id bytes) && is_new is_used bytes
 
 -- a version whose name is not used yet
 unfoldable pub version : (List ℕ → Bool) → Format VersionRow
@@ -72,7 +63,7 @@ version is_used =
 -- an upload whose id is not used yet
 unfoldable pub upload : (List ℕ → Bool) → Format UploadRow
 upload is_used =
-    with_rule (id_rule is_used) (field 16) >>= λ id.
+    with_rule (is_new is_used) id_field >>= λ id.
     with_rule is_moment (number w64) >>= λ opened.
     short_text >>= λ kind.
     done (record { id = id; opened = opened; kind = kind })

@@ -1,10 +1,10 @@
 //! The versions and open uploads of one key: the state that its registers hold.
 //!
-//! The crate stands on `stamp_id`, `seal_file`, `call_types` and `field_reader`. Each canonical state has one spelling
-//! as bytes: `write` gives it, and `read` accepts spellings alone and answers the state that a content spells, or the
-//! place of its first fault. `find` says which version a read of the key gives, and `apply` makes the state that a
-//! change of it leaves: they are exactly the reads and the steps of the versioned object of Amazon S3, and a step from a
-//! canonical state leaves a canonical state.
+//! The crate stands on `stamp_id`, `seal_file`, `call_types`, `field_reader` and `id_field`. Each canonical state has
+//! one spelling as bytes: `write` gives it, and `read` accepts spellings alone and answers the state that a content
+//! spells, or the place of its first fault. `find` says which version a read of the key gives, and `apply` makes the
+//! state that a change of it leaves: they are exactly the reads and the steps of the versioned object of Amazon S3,
+//! and a step from a canonical state leaves a canonical state.
 #![tactic(auto)]
 
 mod change;

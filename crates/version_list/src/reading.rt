@@ -12,11 +12,12 @@ ghost use Rattle.version_list.specs.Spelling.{spelling};
 ghost use Rattle.version_list.specs.Laws.{IsReadAs, TellsFault, SpellingsHaveNoFault, FaultlessIsSpelled, SpellingIsInjective};
 ghost use Rattle.version_list.specs.declared.state.KeyState.{KeyState};
 
-use crate::ids::{take_id, take_name, take_new_id, take_upload_id};
+use crate::ids::{take_name, take_new_id, take_upload_id};
 use crate::names::Names;
 use crate::state::{KeyState, MOMENT_LIMIT, MOST_UPLOADS, MOST_VERSIONS};
 use call_types::{ListRead, Upload, Uploads, Version, Versions, What};
 use field_reader::{Fields, ReadFault, refuse_unless};
+use id_field::take_id;
 use seal_file::Text;
 use std::alloc::Global;
 

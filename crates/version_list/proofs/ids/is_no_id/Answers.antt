@@ -1,5 +1,5 @@
 use Rattle.std.proofs.Common.{◌≡◌, length, rules}
-use Rattle.version_list.proofs.IdTests.{on_no_id}
+use Rattle.version_list.proofs.NoId.{on_no_id}
 use Rattle.version_list.proofs.ids.is_no_id.Goals as goal
 
 pub returns-clause-zeros : goal.returns-clause-zeros
