@@ -1,60 +1,216 @@
 //! The step on a key as its tables say it, without regard to speed: each new state is made whole, compared with the old
 //! one, and searched for each old data id. The tests compare it with `apply`.
 
-ghost use Rattle.std.specs.Prelude.{◌≡◌, ◌↔◌, ◌&&◌, ◌<◌, ◌≤◌, ◌∷◌, true, Some, None, IfOk, IsTrue, MatchOption, length};
+ghost use Rattle.std.specs.Prelude.{◌≡◌, ◌↔◌, ◌&&◌, ◌<◌, ◌≤◌, ◌∷◌, true, Some, IfOk, IsTrue, MatchOption, length};
 ghost use Rattle.std.specs.List.{list_any};
 ghost use Rattle.call_types.specs.declared.reply.Reply.{Reply};
 ghost use Rattle.version_list.specs.Answers.{Answers, IsServed};
-ghost use Rattle.version_list.specs.Gone.{gone_bytes};
 ghost use Rattle.version_list.specs.Naming.{has_name, is_marker, kept, still_open};
 ghost use Rattle.version_list.specs.Plain.{Gives, reply_due};
-ghost use Rattle.version_list.specs.Step.{Step, AddsVersion, Does, OpensUpload, WithUpload, new_name as name_of, replaced, told};
+ghost use Rattle.version_list.specs.Step.{Step, AddsVersion, AddsMarker, Does, OpensUpload, WithUpload, new_name as name_of, replaced, told};
 
 use crate::change::copied_versions;
 use crate::edit::any_marker_named;
-use crate::gone::push_gone;
 use crate::outcome::{ActFault, Applied};
-use crate::same::{is_same, is_same_id, is_same_text};
 use crate::state::KeyState;
+use crate::step::Call;
 use crate::uploads::find_upload;
 use call_types::{
     Act, Brief, Etag, KeyRefusal, Mode, Pick, Reply, Upload, Uploads, Version, VersionName,
     Versions, What,
 };
-use seal_file::{Bytes, Text};
+use lists::{are_same_uploads, are_same_versions, beside, lost, others, still_open};
+use seal_file::Text;
 use stamp_id::{NoMemory, VersionId};
 use std::alloc::Global;
 
-/// The versions that do not have this name.
-fn others(alloc: Global, versions: &[Version], name: VersionName) -> Result<Vec<Version>, NoMemory>
-    ensures { IfOk result (λ list. list.items ≡ kept (Some name) versions.now) }
+mod lists;
+
+/// The step, as `apply` answers it.
+pub fn apply(alloc: Global, state: &KeyState, call: Call, act: &Act) -> Result<Applied, ActFault>
+    ensures { Answers (Step state.now call.mode act.now call.id call.moment) state.now result }
 {
-    let mut list = Vec::new(alloc);
-    for version in versions {
-        if version.id != name {
-            let copy = version.clone()?;
-            list.push(copy)?;
-        }
+    let new = next(alloc, state, call, act)?;
+    let gone = lost(alloc, state.versions.as_slice(), new.versions.as_slice())?;
+    let done = Brief::Answer(reply(state, call, act));
+    if is_same_state(&new, state) {
+        return Ok(Applied {
+            state: None,
+            done,
+            gone,
+        });
     }
-    Ok(list)
+    Ok(Applied {
+        state: Some(new),
+        done,
+        gone,
+    })
 }
 
-/// The versions beside which a new one is put.
-fn beside(alloc: Global, versions: &[Version], mode: Mode) -> Result<Vec<Version>, NoMemory>
-    ensures { IfOk result (λ list. list.items ≡ kept (replaced mode) versions.now) }
+/// Whether the states are the same.
+pub fn is_same_state(a: &KeyState, b: &KeyState) -> bool
+    ensures { IsTrue result ↔ (a.now ≡ b.now) }
 {
-    match mode {
-        Mode::Never => others(alloc, versions, VersionName::Null),
-        Mode::Suspended => others(alloc, versions, VersionName::Null),
-        Mode::Enabled => {
-            let mut list = Vec::new(alloc);
-            for version in versions {
-                let copy = version.clone()?;
-                list.push(copy)?;
-            }
-            Ok(list)
-        }
+    are_same_versions(a.versions.as_slice(), b.versions.as_slice())
+        && are_same_uploads(a.uploads.as_slice(), b.uploads.as_slice())
+}
+
+/// The state that is due.
+fn next(alloc: Global, state: &KeyState, call: Call, act: &Act) -> Result<KeyState, ActFault>
+    ensures { Gives (Step state.now call.mode act.now call.id call.moment) (reply_due state.now call.mode act.now call.id) state.now result }
+{
+    match act {
+        Act::Put {
+            data_id,
+            print,
+            length,
+            md5,
+            kind,
+        } => put(alloc, state, call, *data_id, *print, *length, *md5, kind),
+        Act::Delete(pick) => remaining(alloc, state, call, pick),
+        Act::Create { kind } => opened(alloc, state, call, kind),
+        Act::Complete {
+            upload,
+            parts,
+            data_id,
+            print,
+            length,
+            md5,
+        } => completed(
+            alloc, state, call, *upload, *parts, *data_id, *print, *length, *md5,
+        ),
+        Act::Abort { upload } => closed(alloc, state, *upload),
     }
+}
+
+/// An object of this data is put in front.
+fn put(
+    alloc: Global,
+    state: &KeyState,
+    call: Call,
+    data_id: VersionId,
+    print: [u8; 32],
+    length: u64,
+    md5: [u8; 16],
+    kind: &Text,
+) -> Result<KeyState, ActFault>
+    ensures { Gives
+        (Step state.now call.mode (Act.Put data_id print length md5 kind.now) call.id call.moment)
+        (reply_due state.now call.mode (Act.Put data_id print length md5 kind.now) call.id) state.now result }
+{
+    let what = What::Object {
+        data_id,
+        print,
+        length,
+        md5,
+        parts: 0,
+        upload: None,
+        kind: kind.clone()?,
+    };
+    let made = Version {
+        id: name_of(call.mode, call.id),
+        modified: call.moment,
+        what,
+    };
+    let uploads = state.uploads.clone()?;
+    match added(alloc, state, call.mode, made, uploads)? {
+        None => Err(ActFault::Refused(KeyRefusal::VersionLimit)),
+        Some(new) => Ok(new),
+    }
+}
+
+/// An upload is closed, and an object of its parts is put in front.
+fn completed(
+    alloc: Global,
+    state: &KeyState,
+    call: Call,
+    upload: VersionId,
+    parts: u16,
+    data_id: VersionId,
+    print: [u8; 32],
+    length: u64,
+    md5: [u8; 16],
+) -> Result<KeyState, ActFault>
+    ensures { Gives
+        (Step state.now call.mode (Act.Complete upload parts data_id print length md5) call.id call.moment)
+        (reply_due state.now call.mode (Act.Complete upload parts data_id print length md5) call.id) state.now result }
+{
+    let Some(opened) = find_upload(state.uploads.as_slice(), upload) else {
+        return Err(ActFault::Refused(KeyRefusal::NoSuchUpload));
+    };
+    let what = What::Object {
+        data_id,
+        print,
+        length,
+        md5,
+        parts,
+        upload: Some(upload),
+        kind: opened.kind.clone()?,
+    };
+    let made = Version {
+        id: name_of(call.mode, call.id),
+        modified: call.moment,
+        what,
+    };
+    let uploads = still_open(alloc, state.uploads.as_slice(), upload)?;
+    match added(alloc, state, call.mode, made, uploads)? {
+        None => Err(ActFault::Refused(KeyRefusal::VersionLimit)),
+        Some(new) => Ok(new),
+    }
+}
+
+/// The state after a DELETE.
+fn remaining(alloc: Global, state: &KeyState, call: Call, pick: &Pick) -> Result<KeyState, ActFault>
+    ensures { Gives (Step state.now call.mode (Act.Delete pick.now) call.id call.moment)
+        (reply_due state.now call.mode (Act.Delete pick.now) call.id) state.now result }
+{
+    match pick {
+        Pick::Current => match call.mode {
+            Mode::Never => Ok(removed(alloc, state, VersionName::Null)?),
+            Mode::Enabled => marked(alloc, state, call),
+            Mode::Suspended => marked(alloc, state, call),
+        },
+        Pick::Null => Ok(removed(alloc, state, VersionName::Null)?),
+        Pick::Id(named) => Ok(removed(alloc, state, VersionName::Id(*named))?),
+    }
+}
+
+/// An upload is opened.
+fn opened(alloc: Global, state: &KeyState, call: Call, kind: &Text) -> Result<KeyState, ActFault>
+    ensures { Gives (OpensUpload state.now record { id = call.id; opened = call.moment; kind = kind.now }) (Reply.Opened call.id) state.now result }
+{
+    if state.uploads.len() >= 1_000 {
+        return Err(ActFault::Refused(KeyRefusal::UploadLimit));
+    }
+    let kind = kind.clone()?;
+    let versions = state.versions.clone()?;
+    let mut uploads = state.uploads.clone()?.into_vec();
+    let opened = Upload {
+        id: call.id,
+        opened: call.moment,
+        kind,
+    };
+    match uploads.push(opened) {
+        Ok(()) => Ok(KeyState {
+            versions,
+            uploads: Uploads::from_vec(uploads),
+        }),
+        Err(_) => Err(ActFault::NoMemory),
+    }
+}
+
+/// An upload is closed.
+fn closed(alloc: Global, state: &KeyState, upload: VersionId) -> Result<KeyState, ActFault>
+    ensures { Gives
+        (WithUpload state.now upload (λ opened. Does Reply.Plain state.now.versions (still_open upload state.now.uploads)))
+        Reply.Plain state.now result }
+{
+    if find_upload(state.uploads.as_slice(), upload).is_none() {
+        return Err(ActFault::Refused(KeyRefusal::NoSuchUpload));
+    }
+    let uploads = still_open(alloc, state.uploads.as_slice(), upload)?;
+    let versions = copied_versions(&state.versions)?;
+    Ok(KeyState { versions, uploads })
 }
 
 /// A version is put in front, if there is a place for it.
@@ -83,24 +239,17 @@ fn added(
 }
 
 /// A marker is put in front.
-fn marked(
-    alloc: Global,
-    state: &KeyState,
-    mode: Mode,
-    id: VersionName,
-    now: u64,
-) -> Result<KeyState, ActFault>
-    ensures { Gives
-        (AddsVersion state.now mode record { id = id; modified = now; what = What.Marker } state.now.uploads (Reply.Deleted (Some id) true))
-        (Reply.Deleted (Some id) true) state.now result }
+fn marked(alloc: Global, state: &KeyState, call: Call) -> Result<KeyState, ActFault>
+    ensures { Gives (AddsMarker state.now call.mode call.id call.moment)
+        (Reply.Deleted (Some (name_of call.mode call.id)) true) state.now result }
 {
     let marker = Version {
-        id,
-        modified: now,
+        id: name_of(call.mode, call.id),
+        modified: call.moment,
         what: What::Marker,
     };
     let uploads = state.uploads.clone()?;
-    match added(alloc, state, mode, marker, uploads)? {
+    match added(alloc, state, call.mode, marker, uploads)? {
         None => Err(ActFault::Refused(KeyRefusal::VersionLimit)),
         Some(new) => Ok(new),
     }
@@ -118,113 +267,6 @@ fn removed(alloc: Global, state: &KeyState, name: VersionName) -> Result<KeyStat
     })
 }
 
-/// The uploads other than this one.
-fn still_open(alloc: Global, uploads: &[Upload], id: VersionId) -> Result<Uploads, NoMemory>
-    ensures { IfOk result (λ list. list ≡ still_open id uploads.now) }
-{
-    let mut list = Vec::new(alloc);
-    for upload in uploads {
-        if upload.id != id {
-            let copy = upload.clone()?;
-            list.push(copy)?;
-        }
-    }
-    Ok(Uploads::from_vec(list))
-}
-
-/// The state that is due.
-fn next(
-    alloc: Global,
-    state: &KeyState,
-    mode: Mode,
-    act: &Act,
-    id: VersionId,
-    now: u64,
-) -> Result<KeyState, ActFault>
-    ensures { Gives (Step state.now mode act.now id now) (reply_due state.now mode act.now id) state.now result }
-{
-    match act {
-        Act::Put {
-            data_id,
-            print,
-            length,
-            md5,
-            kind,
-        } => {
-            let kind = kind.clone()?;
-            let uploads = state.uploads.clone()?;
-            let what = What::Object {
-                data_id: *data_id,
-                print: *print,
-                length: *length,
-                md5: *md5,
-                parts: 0,
-                upload: None,
-                kind,
-            };
-            let made = Version {
-                id: name_of(mode, id),
-                modified: now,
-                what,
-            };
-            match added(alloc, state, mode, made, uploads)? {
-                None => Err(ActFault::Refused(KeyRefusal::VersionLimit)),
-                Some(new) => Ok(new),
-            }
-        }
-        Act::Delete(Pick::Current) => match mode {
-            Mode::Never => {
-                let new = removed(alloc, state, VersionName::Null)?;
-                Ok(new)
-            }
-            Mode::Enabled => marked(alloc, state, mode, VersionName::Id(id), now),
-            Mode::Suspended => marked(alloc, state, mode, VersionName::Null, now),
-        },
-        Act::Delete(Pick::Null) => {
-            let new = removed(alloc, state, VersionName::Null)?;
-            Ok(new)
-        }
-        Act::Delete(Pick::Id(named)) => {
-            let new = removed(alloc, state, VersionName::Id(*named))?;
-            Ok(new)
-        }
-        Act::Create { kind } => opened(alloc, state, id, now, kind),
-        Act::Complete {
-            upload,
-            parts,
-            data_id,
-            print,
-            length,
-            md5,
-        } => {
-            let Some(opened) = find_upload(state.uploads.as_slice(), *upload) else {
-                return Err(ActFault::Refused(KeyRefusal::NoSuchUpload));
-            };
-            let kind = opened.kind.clone()?;
-            let uploads = still_open(alloc, state.uploads.as_slice(), *upload)?;
-            let what = What::Object {
-                data_id: *data_id,
-                print: *print,
-                length: *length,
-                md5: *md5,
-                parts: *parts,
-                upload: Some(*upload),
-                kind,
-            };
-            let made = Version {
-                id: name_of(mode, id),
-                modified: now,
-                what,
-            };
-            match added(alloc, state, mode, made, uploads)? {
-                None => Err(ActFault::Refused(KeyRefusal::VersionLimit)),
-                Some(new) => Ok(new),
-            }
-        }
-        Act::Abort { upload } => closed(alloc, state, *upload),
-    }
-}
-
 /// The name of a version that is made with this id.
 fn name_of(mode: Mode, id: VersionId) -> VersionName
     ensures { result ≡ name_of mode id }
@@ -236,53 +278,9 @@ fn name_of(mode: Mode, id: VersionId) -> VersionName
     }
 }
 
-/// An upload is opened.
-fn opened(
-    alloc: Global,
-    state: &KeyState,
-    id: VersionId,
-    now: u64,
-    kind: &Text,
-) -> Result<KeyState, ActFault>
-    ensures { Gives (OpensUpload state.now record { id = id; opened = now; kind = kind.now }) (Reply.Opened id) state.now result }
-{
-    if state.uploads.len() >= 1_000 {
-        return Err(ActFault::Refused(KeyRefusal::UploadLimit));
-    }
-    let kind = kind.clone()?;
-    let versions = state.versions.clone()?;
-    let mut uploads = state.uploads.clone()?.into_vec();
-    let opened = Upload {
-        id,
-        opened: now,
-        kind,
-    };
-    match uploads.push(opened) {
-        Ok(()) => Ok(KeyState {
-            versions,
-            uploads: Uploads::from_vec(uploads),
-        }),
-        Err(_) => Err(ActFault::NoMemory),
-    }
-}
-
-/// An upload is closed.
-fn closed(alloc: Global, state: &KeyState, upload: VersionId) -> Result<KeyState, ActFault>
-    ensures { Gives
-        (WithUpload state.now upload (λ opened. Does Reply.Plain state.now.versions (still_open upload state.now.uploads)))
-        Reply.Plain state.now result }
-{
-    if find_upload(state.uploads.as_slice(), upload).is_none() {
-        return Err(ActFault::Refused(KeyRefusal::NoSuchUpload));
-    }
-    let uploads = still_open(alloc, state.uploads.as_slice(), upload)?;
-    let versions = copied_versions(&state.versions)?;
-    Ok(KeyState { versions, uploads })
-}
-
 /// The reply that is due of a call that is not refused.
-fn reply(state: &KeyState, mode: Mode, act: &Act, id: VersionId) -> Reply
-    ensures value { result ≡ reply_due state.now mode act.now id }
+fn reply(state: &KeyState, call: Call, act: &Act) -> Reply
+    ensures value { result ≡ reply_due state.now call.mode act.now call.id }
     ensures served { IsServed result }
 {
     match act {
@@ -291,15 +289,15 @@ fn reply(state: &KeyState, mode: Mode, act: &Act, id: VersionId) -> Reply
                 md5: *md5,
                 parts: 0,
             },
-            id: shown(mode, name_of(mode, id)),
+            id: shown(call.mode, name_of(call.mode, call.id)),
         },
-        Act::Delete(Pick::Current) => match mode {
+        Act::Delete(Pick::Current) => match call.mode {
             Mode::Never => Reply::Deleted {
                 id: None,
                 marker: false,
             },
             Mode::Enabled => Reply::Deleted {
-                id: Some(VersionName::Id(id)),
+                id: Some(VersionName::Id(call.id)),
                 marker: true,
             },
             Mode::Suspended => Reply::Deleted {
@@ -307,15 +305,15 @@ fn reply(state: &KeyState, mode: Mode, act: &Act, id: VersionId) -> Reply
                 marker: true,
             },
         },
-        Act::Delete(Pick::Null) => deleted(state, mode, VersionName::Null),
-        Act::Delete(Pick::Id(named)) => deleted(state, mode, VersionName::Id(*named)),
-        Act::Create { .. } => Reply::Opened(id),
+        Act::Delete(Pick::Null) => deleted(state, call.mode, VersionName::Null),
+        Act::Delete(Pick::Id(named)) => deleted(state, call.mode, VersionName::Id(*named)),
+        Act::Create { .. } => Reply::Opened(call.id),
         Act::Complete { parts, md5, .. } => Reply::Completed {
             etag: Etag {
                 md5: *md5,
                 parts: *parts,
             },
-            id: shown(mode, name_of(mode, id)),
+            id: shown(call.mode, name_of(call.mode, call.id)),
         },
         Act::Abort { .. } => Reply::Plain,
     }
@@ -341,80 +339,4 @@ fn shown(mode: Mode, name: VersionName) -> Option<VersionName>
         Mode::Enabled => Some(name),
         Mode::Suspended => Some(name),
     }
-}
-
-/// Whether the lists of versions are the same.
-fn are_same_versions(a: &[Version], b: &[Version]) -> bool
-    ensures { IsTrue result ↔ (a.now ≡ b.now) }
-{
-    match (a.split_first(), b.split_first()) {
-        (None, None) => true,
-        (Some((x, xs)), Some((y, ys))) => is_same(x, y) && are_same_versions(xs, ys),
-        _ => false,
-    }
-}
-
-/// Whether the lists of uploads are the same.
-fn are_same_uploads(a: &[Upload], b: &[Upload]) -> bool
-    ensures { IsTrue result ↔ (a.now ≡ b.now) }
-{
-    match (a.split_first(), b.split_first()) {
-        (None, None) => true,
-        (Some((x, xs)), Some((y, ys))) => is_same_upload(x, y) && are_same_uploads(xs, ys),
-        _ => false,
-    }
-}
-
-/// Whether the uploads are the same.
-fn is_same_upload(a: &Upload, b: &Upload) -> bool
-    ensures { IsTrue result ↔ (a.now ≡ b.now) }
-{
-    is_same_id(a.id, b.id) && a.opened == b.opened && is_same_text(&a.kind, &b.kind)
-}
-
-/// The ids of the data of old versions that no new one has.
-fn lost(alloc: Global, old: &[Version], new: &[Version]) -> Result<Bytes, NoMemory>
-    ensures { IfOk result (λ bytes. bytes ≡ gone_bytes old.now new.now) }
-{
-    let mut bytes = Vec::new(alloc);
-    for version in old {
-        push_gone(&mut bytes, version, new)?;
-    }
-    Ok(Bytes::from_vec(bytes))
-}
-
-/// The step, as `apply` answers it.
-pub fn apply(
-    alloc: Global,
-    state: &KeyState,
-    mode: Mode,
-    act: &Act,
-    id: VersionId,
-    now: u64,
-) -> Result<Applied, ActFault>
-    ensures { Answers (Step state.now mode act.now id now) state.now result }
-{
-    let new = next(alloc, state, mode, act, id, now)?;
-    let gone = lost(alloc, state.versions.as_slice(), new.versions.as_slice())?;
-    let done = Brief::Answer(reply(state, mode, act, id));
-    if is_same_state(&new, state) {
-        return Ok(Applied {
-            state: None,
-            done,
-            gone,
-        });
-    }
-    Ok(Applied {
-        state: Some(new),
-        done,
-        gone,
-    })
-}
-
-/// Whether the states are the same.
-pub fn is_same_state(a: &KeyState, b: &KeyState) -> bool
-    ensures { IsTrue result ↔ (a.now ≡ b.now) }
-{
-    are_same_versions(a.versions.as_slice(), b.versions.as_slice())
-        && are_same_uploads(a.uploads.as_slice(), b.uploads.as_slice())
 }

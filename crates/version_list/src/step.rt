@@ -17,6 +17,17 @@ use seal_file::Text;
 use stamp_id::VersionId;
 use std::alloc::Global;
 
+/// What a call has beside its act.
+#[derive(Clone, Copy)]
+pub struct Call {
+    /// The mode of the bucket.
+    pub mode: Mode,
+    /// The id that the call drew.
+    pub id: VersionId,
+    /// The Unix second.
+    pub moment: u64,
+}
+
 /// Does `act` to the state of a key in a bucket of this mode, in the Unix second `now`. `id` is the id that the call
 /// drew: a version or an upload that is made has it.
 pub fn apply(
@@ -34,19 +45,17 @@ pub fn apply(
     ensures step { Answers (Step state.now mode act.now id now) state.now result }
     ensures canonical { IfOk result (λ a. IfSome a.state IsCanonical) }
 {
-    do_act(alloc, state, mode, act, id, now)
+    let call = Call {
+        mode,
+        id,
+        moment: now,
+    };
+    do_act(alloc, state, call, act)
 }
 
 /// The step of `apply`, for any state, moment and act; the new state is canonical where these are as `apply` asks.
-pub fn do_act(
-    alloc: Global,
-    state: &KeyState,
-    mode: Mode,
-    act: &Act,
-    id: VersionId,
-    now: u64,
-) -> Result<Applied, ActFault>
-    ensures step { Answers (Step state.now mode act.now id now) state.now result }
+pub fn do_act(alloc: Global, state: &KeyState, call: Call, act: &Act) -> Result<Applied, ActFault>
+    ensures step { Answers (Step state.now call.mode act.now call.id call.moment) state.now result }
     ensures sized { OnOk result (IsSized act.now) }
 {
     match act {
@@ -56,30 +65,9 @@ pub fn do_act(
             length,
             md5,
             kind,
-        } => {
-            let kind = kind.clone()?;
-            let made = Version {
-                id: new_name(mode, id),
-                modified: now,
-                what: object(*data_id, *print, *length, *md5, 0, None, kind),
-            };
-            put(
-                alloc,
-                state,
-                mode,
-                made,
-                Etag {
-                    md5: *md5,
-                    parts: 0,
-                },
-            )
-        }
-        Act::Delete(Pick::Current) => delete_current(alloc, state, mode, id, now),
-        Act::Delete(Pick::Null) => delete_named(alloc, state, mode, VersionName::Null),
-        Act::Delete(Pick::Id(named)) => {
-            delete_named(alloc, state, mode, VersionName::Id(*named))
-        }
-        Act::Create { kind } => create(alloc, state, id, now, kind),
+        } => put(alloc, state, call, *data_id, *print, *length, *md5, kind),
+        Act::Delete(pick) => delete(alloc, state, call, pick),
+        Act::Create { kind } => create(alloc, state, call, kind),
         Act::Complete {
             upload,
             parts,
@@ -87,24 +75,63 @@ pub fn do_act(
             print,
             length,
             md5,
-        } => {
-            let Some(opened) = find_upload(state.uploads.as_slice(), *upload) else {
-                return Err(ActFault::Refused(KeyRefusal::NoSuchUpload));
-            };
-            let kind = opened.kind.clone()?;
-            let made = Version {
-                id: new_name(mode, id),
-                modified: now,
-                what: object(*data_id, *print, *length, *md5, *parts, Some(*upload), kind),
-            };
-            let etag = Etag {
-                md5: *md5,
-                parts: *parts,
-            };
-            complete(alloc, state, mode, made, *upload, etag)
-        }
+        } => complete(
+            alloc, state, call, *upload, *parts, *data_id, *print, *length, *md5,
+        ),
         Act::Abort { upload } => abort(alloc, state, *upload),
     }
+}
+
+/// A PUT: a version of this data is put in front.
+fn put(
+    alloc: Global,
+    state: &KeyState,
+    call: Call,
+    data_id: VersionId,
+    print: [u8; 32],
+    length: u64,
+    md5: [u8; 16],
+    kind: &Text,
+) -> Result<Applied, ActFault>
+    ensures step { Answers (Step state.now call.mode (Act.Put data_id print length md5 kind.now) call.id call.moment) state.now result }
+    ensures sized { OnOk result (AreSized print length md5 0) }
+{
+    let kind = kind.clone()?;
+    let made = Version {
+        id: new_name(call.mode, call.id),
+        modified: call.moment,
+        what: object(data_id, print, length, md5, 0, None, kind),
+    };
+    let etag = Etag { md5, parts: 0 };
+    put_version(alloc, state, call.mode, made, etag)
+}
+
+/// The end of a multipart upload: a version of its joined parts is put in front, and the upload is closed.
+fn complete(
+    alloc: Global,
+    state: &KeyState,
+    call: Call,
+    upload: VersionId,
+    parts: u16,
+    data_id: VersionId,
+    print: [u8; 32],
+    length: u64,
+    md5: [u8; 16],
+) -> Result<Applied, ActFault>
+    ensures step { Answers (Step state.now call.mode (Act.Complete upload parts data_id print length md5) call.id call.moment) state.now result }
+    ensures sized { OnOk result (AreSized print length md5 parts) }
+{
+    let Some(opened) = find_upload(state.uploads.as_slice(), upload) else {
+        return Err(ActFault::Refused(KeyRefusal::NoSuchUpload));
+    };
+    let kind = opened.kind.clone()?;
+    let made = Version {
+        id: new_name(call.mode, call.id),
+        modified: call.moment,
+        what: object(data_id, print, length, md5, parts, Some(upload), kind),
+    };
+    let etag = Etag { md5, parts };
+    complete_version(alloc, state, call.mode, made, upload, etag)
 }
 
 /// An object with these fields.
@@ -131,17 +158,22 @@ fn object(
     }
 }
 
-/// A DELETE that names no version: in mode Never the version `null` goes, and else a marker is put in front.
-fn delete_current(
-    alloc: Global,
-    state: &KeyState,
-    mode: Mode,
-    id: VersionId,
-    now: u64,
-) -> Result<Applied, ActFault>
-    ensures { Answers (Deletes state.now mode id now) state.now result }
+/// A DELETE.
+fn delete(alloc: Global, state: &KeyState, call: Call, pick: &Pick) -> Result<Applied, ActFault>
+    ensures { Answers (Step state.now call.mode (Act.Delete pick.now) call.id call.moment) state.now result }
 {
-    match mode {
+    match pick {
+        Pick::Current => delete_current(alloc, state, call),
+        Pick::Null => delete_named(alloc, state, call.mode, VersionName::Null),
+        Pick::Id(id) => delete_named(alloc, state, call.mode, VersionName::Id(*id)),
+    }
+}
+
+/// A DELETE that names no version: in mode Never the version `null` goes, and else a marker is put in front.
+fn delete_current(alloc: Global, state: &KeyState, call: Call) -> Result<Applied, ActFault>
+    ensures { Answers (Deletes state.now call.mode call.id call.moment) state.now result }
+{
+    match call.mode {
         Mode::Never => {
             let outcome = remove_version(alloc, state, VersionName::Null)?;
             Ok(outcome.answered(Reply::Deleted {
@@ -149,29 +181,23 @@ fn delete_current(
                 marker: false,
             }))
         }
-        Mode::Enabled => add_marker(alloc, state, mode, id, now),
-        Mode::Suspended => add_marker(alloc, state, mode, id, now),
+        Mode::Enabled => add_marker(alloc, state, call),
+        Mode::Suspended => add_marker(alloc, state, call),
     }
 }
 
 /// Puts a delete marker in front, unless the key has all the versions that it may have.
-fn add_marker(
-    alloc: Global,
-    state: &KeyState,
-    mode: Mode,
-    id: VersionId,
-    now: u64,
-) -> Result<Applied, ActFault>
-    ensures { Answers (AddsMarker state.now mode id now) state.now result }
+fn add_marker(alloc: Global, state: &KeyState, call: Call) -> Result<Applied, ActFault>
+    ensures { Answers (AddsMarker state.now call.mode call.id call.moment) state.now result }
 {
-    let goes = replaced(mode);
+    let goes = replaced(call.mode);
     if count_kept(state.versions.as_slice(), goes) >= MOST_VERSIONS {
         return Err(ActFault::Refused(KeyRefusal::VersionLimit));
     }
-    let name = new_name(mode, id);
+    let name = new_name(call.mode, call.id);
     let marker = Version {
         id: name,
-        modified: now,
+        modified: call.moment,
         what: What::Marker,
     };
     let outcome = add_version(alloc, state, marker, goes)?;
@@ -199,29 +225,23 @@ fn delete_named(
 }
 
 /// Opens an upload, unless the key has all the uploads that it may have.
-fn create(
-    alloc: Global,
-    state: &KeyState,
-    id: VersionId,
-    now: u64,
-    kind: &Text,
-) -> Result<Applied, ActFault>
-    ensures { Answers (OpensUpload state.now record { id = id; opened = now; kind = kind.now }) state.now result }
+fn create(alloc: Global, state: &KeyState, call: Call, kind: &Text) -> Result<Applied, ActFault>
+    ensures { Answers (OpensUpload state.now record { id = call.id; opened = call.moment; kind = kind.now }) state.now result }
 {
     if state.uploads.len() >= MOST_UPLOADS {
         return Err(ActFault::Refused(KeyRefusal::UploadLimit));
     }
     let opened = Upload {
-        id,
-        opened: now,
+        id: call.id,
+        opened: call.moment,
         kind: kind.clone()?,
     };
     let outcome = open_upload(alloc, state, opened)?;
-    Ok(outcome.answered(Reply::Opened(id)))
+    Ok(outcome.answered(Reply::Opened(call.id)))
 }
 
 /// Closes an upload, and puts the version that it made in front.
-fn complete(
+fn complete_version(
     alloc: Global,
     state: &KeyState,
     mode: Mode,
@@ -245,7 +265,7 @@ fn complete(
 }
 
 /// Puts a version in front, unless the key has all the versions that it may have.
-fn put(
+fn put_version(
     alloc: Global,
     state: &KeyState,
     mode: Mode,

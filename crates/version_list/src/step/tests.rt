@@ -3,7 +3,7 @@
 
 ghost use Rattle.std.specs.Prelude.{◌<◌};
 
-use super::{apply, do_act};
+use super::{Call, apply, do_act};
 use crate::naming::has_id;
 use crate::outcome::{ActFault, Applied};
 use crate::plain;
@@ -24,6 +24,15 @@ const NOW: u64 = 784_111_777;
 fn id(seq: u64) -> VersionId {
     let seq = seq % 1_000_000 + 1;
     VersionId::from_parts(ChangeId(Ballot { term: 1, seq }), 28)
+}
+
+/// A call at the moment NOW in a bucket of this mode, which drew this id.
+fn call(mode: Mode, id: VersionId) -> Call {
+    Call {
+        mode,
+        id,
+        moment: NOW,
+    }
 }
 
 fn nothing(alloc: Global) -> KeyState {
@@ -136,8 +145,9 @@ fn the_tables_answer_alike(rt: HostRuntime) -> Result<(), Fail> {
     for mode in [Mode::Never, Mode::Enabled, Mode::Suspended] {
         let mut state = nothing(rt.alloc());
         for (k, act) in acts.iter().enumerate() {
-            let step = do_act(rt.alloc(), &state, mode, act, id(k as u64), NOW);
-            let plain = plain::apply(rt.alloc(), &state, mode, act, id(k as u64), NOW);
+            let call = call(mode, id(k as u64));
+            let step = do_act(rt.alloc(), &state, call, act);
+            let plain = plain::apply(rt.alloc(), &state, call, act);
             assert!(rt; is_same_answer(&step, &plain), "{mode:?} {k}");
             if let Ok(applied) = step {
                 state = after(state, applied);
@@ -154,14 +164,8 @@ fn a_marker_hides_the_versions_until_it_goes(rt: HostRuntime) -> Result<(), Fail
         find(&state, &Pick::Current),
         Err(KeyRefusal::NoSuchKey { marker: None })
     );
-    let made = do_act(
-        rt.alloc(),
-        &state,
-        Mode::Enabled,
-        &put(rt.alloc(), 1)?,
-        id(1),
-        NOW,
-    );
+    let act = put(rt.alloc(), 1)?;
+    let made = do_act(rt.alloc(), &state, call(Mode::Enabled, id(1)), &act);
     let made = made.ok().ok_or("put")?;
     assert_eq!(rt;
         made.done,
@@ -175,7 +179,7 @@ fn a_marker_hides_the_versions_until_it_goes(rt: HostRuntime) -> Result<(), Fail
     );
     let state = after(state, made);
     let act = Act::Delete(Pick::Current);
-    let made = do_act(rt.alloc(), &state, Mode::Enabled, &act, id(2), NOW);
+    let made = do_act(rt.alloc(), &state, call(Mode::Enabled, id(2)), &act);
     let state = after(state, made.ok().ok_or("delete")?);
     let marker = VersionName::Id(id(2));
     assert_eq!(rt;
@@ -194,7 +198,7 @@ fn a_marker_hides_the_versions_until_it_goes(rt: HostRuntime) -> Result<(), Fail
     assert_eq!(rt; find(&state, &Pick::Id(id(1))), Ok(1));
     assert_eq!(rt; find(&state, &Pick::Null), Err(KeyRefusal::NoSuchVersion));
     let act = Act::Delete(Pick::Id(id(2)));
-    let made = do_act(rt.alloc(), &state, Mode::Enabled, &act, id(3), NOW);
+    let made = do_act(rt.alloc(), &state, call(Mode::Enabled, id(3)), &act);
     let made = made.ok().ok_or("delete of the marker")?;
     assert_eq!(rt;
         made.done,
@@ -217,7 +221,7 @@ fn one_marker_stands_where_versioning_is_suspended(rt: HostRuntime) -> Result<()
         put(rt.alloc(), 2)?,
         Act::Delete(Pick::Current),
     ] {
-        let made = do_act(rt.alloc(), &state, Mode::Suspended, &act, id(5), NOW);
+        let made = do_act(rt.alloc(), &state, call(Mode::Suspended, id(5)), &act);
         state = after(state, made.ok().ok_or("done")?);
     }
     assert_eq!(rt;
@@ -251,12 +255,12 @@ fn a_key_has_at_most_10000_versions(rt: HostRuntime) -> Result<(), Fail> {
         uploads: Uploads::new(rt.alloc()),
     };
     let act = put(rt.alloc(), 1)?;
-    let full = do_act(rt.alloc(), &state, Mode::Enabled, &act, id(10_001), NOW);
+    let full = do_act(rt.alloc(), &state, call(Mode::Enabled, id(10_001)), &act);
     assert_eq!(rt;
         full.err(),
         Some(ActFault::Refused(KeyRefusal::VersionLimit))
     );
-    let made = do_act(rt.alloc(), &state, Mode::Never, &act, id(10_001), NOW);
+    let made = do_act(rt.alloc(), &state, call(Mode::Never, id(10_001)), &act);
     let state = after(state, made.ok().ok_or("done")?);
     assert_eq!(rt; state.versions.len(), 10_000);
     Ok(())

@@ -1,5 +1,5 @@
 use Rattle.version_list.proofs.GoneLemmas.{gone_more}
-use Rattle.version_list.proofs.plain.lost.Goals as goal
+use Rattle.version_list.proofs.plain.lists.lost.Goals as goal
 
 pub loop-version-preserved : goal.loop-version-preserved
 loop-version-preserved c =
