@@ -39,7 +39,7 @@ id-not_none v = false_from_ne_true (is_no_id (id_bytes v)) (λ e. let zeros = no
 
 -- ---- names
 
-name_size : (name : VersionName) → length (name_field name) ≡ 16
+pub name_size : (name : VersionName) → length (name_field name) ≡ 16
 name_size Null = no_id-size
 name_size (Id id) = length-id_bytes id
 

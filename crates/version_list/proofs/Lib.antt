@@ -13,6 +13,7 @@ pub mod NamingLemmas
 pub mod NoId
 pub mod ObjectText
 pub mod RowTexts
+pub mod SizeLemmas
 pub mod StateText
 pub mod StepLemmas
 pub mod SubLemmas

@@ -1,7 +1,9 @@
-//! How many bytes the spelling of a state has. These are room to reserve: the contracts give bounds alone.
+//! How many bytes the spelling of a state has.
 
-ghost use Rattle.std.specs.Prelude.{◌≤◌, ◌*◌, length};
-ghost use Rattle.std.specs.List.{AllByRecursion};
+ghost use Rattle.std.specs.Prelude.{◌≡◌, ◌≤◌, length, map};
+ghost use Rattle.std.specs.List.{AllByRecursion, flat_map};
+ghost use Rattle.version_list.specs.Rows.{version_row, upload_row, rows_of};
+ghost use Rattle.version_list.specs.Spelling.{version_bytes, upload_bytes, long_form};
 ghost use Rattle.version_list.specs.State.{IsCanonicalVersion, IsCanonicalUpload, IsCanonical};
 
 use crate::state::KeyState;
@@ -19,7 +21,8 @@ const UPLOAD_BYTES: usize = 25;
 /// The bytes of a version.
 fn version_size(version: &Version) -> usize
     requires { IsCanonicalVersion version.now }
-    ensures { result ≤ 400 }
+    ensures value { result ≡ length (version_bytes (version_row version.now)) }
+    ensures bound { result ≤ 400 }
 {
     match &version.what {
         What::Marker => VERSION_BYTES,
@@ -31,7 +34,8 @@ fn version_size(version: &Version) -> usize
 fn versions_size(versions: &[Version]) -> usize
     requires few { length versions.now ≤ 10000 }
     requires canonical { AllByRecursion IsCanonicalVersion versions.now }
-    ensures { result ≤ 4000000 }
+    ensures value { result ≡ length (flat_map version_bytes (map version_row versions.now)) }
+    ensures bound { result ≤ 4000000 }
 {
     let mut size = 0;
     for version in versions {
@@ -40,15 +44,25 @@ fn versions_size(versions: &[Version]) -> usize
     size
 }
 
+/// The bytes of an upload.
+fn upload_size(upload: &Upload) -> usize
+    requires { IsCanonicalUpload upload.now }
+    ensures value { result ≡ length (upload_bytes (upload_row upload.now)) }
+    ensures bound { result ≤ 400 }
+{
+    UPLOAD_BYTES + upload.kind.as_slice().len()
+}
+
 /// The bytes of uploads.
 fn uploads_size(uploads: &[Upload]) -> usize
     requires few { length uploads.now ≤ 1000 }
     requires canonical { AllByRecursion IsCanonicalUpload uploads.now }
-    ensures { result ≤ 400000 }
+    ensures value { result ≡ length (flat_map upload_bytes (map upload_row uploads.now)) }
+    ensures bound { result ≤ 400000 }
 {
     let mut size = 0;
     for upload in uploads {
-        size += UPLOAD_BYTES + upload.kind.as_slice().len();
+        size += upload_size(upload);
     }
     size
 }
@@ -56,6 +70,7 @@ fn uploads_size(uploads: &[Upload]) -> usize
 /// The bytes of a state with a version or an upload, with its two counts.
 pub fn state_size(state: &KeyState) -> usize
     requires { IsCanonical state.now }
+    ensures { result ≡ length (long_form (rows_of state.now).versions (rows_of state.now).uploads) }
 {
     8 + versions_size(state.versions.as_slice()) + uploads_size(state.uploads.as_slice())
 }
