@@ -2,12 +2,13 @@
 use Rattle.std.proofs.Common.{◌≡◌, ◌⊎◌, inl, inr, ℕ, zero, suc, ◌<◌, ◌≤◌, ◌^◌, Bool, true, false, cond, IsTrue, List, [], ◌∷◌, length, map, slice_index_or, Option, Some, None, refl, sym, ap, ◌∙◌, subst, arith, bytes_eq, append-nil}
 use Rattle.std.specs.Int.{IsBitSet}
 use Rattle.std.specs.Int.Bits.{and_zero_l}
-use Rattle.std.specs.List.{count_by}
 use Rattle.std.proofs.lemmas.List.{get_or-map}
 use Rattle.std.proofs.lemmas.Slice.Eq.{bytes_eq-Decides}
 use Rattle.std.proofs.lemmas.Map.{update_same}
 use Rattle.sha2.specs.Sha256.{sha256}
 use Rattle.stamp_id.specs.declared.version.VersionId.{VersionId}
+use Rattle.call_types.specs.Good.{is_good, good_count}
+use Rattle.call_types.proofs.GoodLemmas.{good_means}
 use Rattle.call_types.specs.declared.why.FileKind.TheVariants.{Format, Register, Manifest, Shard}
 use Rattle.call_types.specs.declared.why.Why.{Why}
 use Rattle.call_types.specs.declared.why.Why.TheVariants.{Good, Failed, Damaged, Behind, Lacks}
@@ -22,7 +23,7 @@ use Rattle.body_print.specs.Prints.{IsCutOf, IsPrintText}
 use Rattle.body_print.specs.Shards.{AreShards}
 use Rattle.body_print.proofs.PrintLemmas.{print_texts_are_one}
 use Rattle.put_stage.specs.OnDrives.{Leaves, MayBeStaged, LeavesOf, CauseOf, manifest_and_shard}
-use Rattle.put_stage.specs.Outcomes.{is_good, manifest_of, Wrote, IsShort}
+use Rattle.put_stage.specs.Outcomes.{manifest_of, Wrote, IsShort}
 use Rattle.ostore.specs.Store.{HasNoLoose}
 use Rattle.ostore.specs.Drives.{SomeDrive, DriveCause}
 use Rattle.ostore.specs.Holders.{the_set}
@@ -178,13 +179,6 @@ may_be_staged (Damaged damage) id m s a b w = absurd w
 may_be_staged (Behind behind) id m s a b w = absurd w
 may_be_staged (Lacks kind) id m s a b w = inl w
 
-is_good_is : (why : Why) → is_good why ≡ true → why ≡ Good
-is_good_is Good e = refl
-is_good_is (Failed before after) e = absurd cc
-is_good_is (Damaged damage) e = absurd cc
-is_good_is (Behind behind) e = absurd cc
-is_good_is (Lacks kind) e = absurd cc
-
 -- why a drive that isn't out did not take a stage
 stage_cause : (why : Why) (id : VersionId) (m s : List ℕ) (out : Type 0) (tells : Bool) (old new : ℕ) → (out → ⊥) → is_good why ≡ false → CauseOf why (manifest_and_shard id m s) out tells old new → DriveCause tells old new
 stage_cause Good id m s out tells old new in_use e cause = absurd cc
@@ -247,7 +241,7 @@ module _ {D : Type 0} (tells : D → Bool) (files : D → Files) (count : D → 
 
   -- the drives hold a body that was staged
   pub staged_holders : (id : VersionId) (name body : List ℕ) (short : length name < 2 ^ 16) (shards : List (List (List ℕ))) (whys : List Why) (old new : List D)
-      → length old ≡ 4 → Wrote tells files count the_set id name body shards whys old new → 3 ≤ count_by is_good whys
+      → length old ≡ 4 → Wrote tells files count the_set id name body shards whys old new → 3 ≤ good_count whys
       → ((k : ℕ) (d : D) → k < length old → IsTrue (tells (slice_index_or old k d)))
       → ((k : ℕ) (d : D) → k < length old → HasNoLoose id (files (slice_index_or old k d)))
       → HasHolders files id body new
@@ -261,7 +255,7 @@ module _ {D : Type 0} (tells : D → Bool) (files : D → Files) (count : D → 
         holds = λ k d lt other.
             let same : length new ≡ length old = w.on.drives in
             let within : k < length old = omega arith in
-            let good : slice_index_or whys k Good ≡ Good = is_good_is (slice_index_or whys k Good) (passing.1 k (omega arith) other) in
+            let good : slice_index_or whys k Good ≡ Good = good_means (slice_index_or whys k Good) (passing.1 k (omega arith) other) in
             both_hold id body coding k (files (slice_index_or old k d)) (files (slice_index_or new k d))
             (subst (λ why. LeavesOf why (manifest_and_shard id (manifest_file id body coding) (shard_file body coding k)) (files (slice_index_or old k d)) (files (slice_index_or new k d))) good
             (each_staged id name body short shards whys old new w k d (omega arith) (told k d within) (unused k d within)));
@@ -283,7 +277,7 @@ module _ {D : Type 0} (tells : D → Bool) (files : D → Files) (count : D → 
       → IsShort tells files count the_set id name body stated whys old new → SomeDrive (λ a b. DriveCause (tells a) (count a) (count b)) old new
   short_cause id name body stated whys old new four short =
       let counted : length whys ≡ 4 = short.wrote.on.counted in
-      let few : count_by is_good whys < 3 = short.few in
+      let few : good_count whys < 3 = short.few in
       let failing = one_fails is_good whys Good (omega arith) in
       let lt : failing.0 < length whys = failing.1 in (
         failing.0,

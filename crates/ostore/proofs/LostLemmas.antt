@@ -2,7 +2,6 @@
 use Rattle.std.proofs.Common.{◌≡◌, ◌≢◌, ◌⊎◌, inl, inr, ℕ, zero, suc, ◌<◌, ◌≤◌, Bool, false, IsTrue, List, [], ◌∷◌, length, map, slice_index_or, Some, None, refl, sym, ap, ◌∙◌, subst, arith}
 use Rattle.std.specs.Prelude.{Contains}
 use Rattle.std.specs.Int.{IsBitSet}
-use Rattle.std.specs.List.{count_by}
 use Rattle.std.proofs.lemmas.List.{get_or-map, length-map}
 use Rattle.field_reader.specs.Format.{fault_at, place_of}
 use Rattle.seal_file.specs.Sealing.{sealed}
@@ -11,6 +10,7 @@ use Rattle.seal_file.specs.declared.damage.Damage.TheVariants.{Short, Digest, Ki
 use Rattle.seal_file.proofs.SealedLemmas.{sealed-injective, no_damage}
 use Rattle.sha2.specs.Sha256.{sha256}
 use Rattle.stamp_id.specs.declared.version.VersionId.{VersionId}
+use Rattle.call_types.specs.Good.{is_good, good_count}
 use Rattle.call_types.specs.declared.why.FileKind.TheVariants.{Format, Register, Manifest as ManifestKind, Shard}
 use Rattle.call_types.specs.declared.why.Why.{Why}
 use Rattle.call_types.specs.declared.why.Why.TheVariants.{Good, Failed, Damaged, Behind, Lacks}
@@ -33,7 +33,7 @@ use Rattle.std.specs.List.{AllByRecursion}
 use Rattle.sha2.proofs.Facts256.{length-sha256}
 use Rattle.drive_files.specs.Reading.{FailedWhile}
 use Rattle.get_read.specs.Causes.{Wanted, Fits, Serves, IsManifestDamage, IsTableDamage, IsBlockDamage, IsShardDamage, NoManifest, NoBlock, digest_in}
-use Rattle.get_read.specs.Outcomes.{is_good, wanted_of, NoneServes, FewBlocks}
+use Rattle.get_read.specs.Outcomes.{wanted_of, NoneServes, FewBlocks}
 use Rattle.ostore.specs.Holders.{the_set}
 use Rattle.get_read.proofs.ClashLemmas.{digest_of_block}
 use Rattle.ostore.specs.Finding.{DataCause}
@@ -221,7 +221,7 @@ module _ {D : Type 0} (tells : D → Bool) (files : D → Files) (count : D → 
       let one = λ (d : D). only_manifest bodies at id held.body (files (slice_index_or old at d)).kept few.manifest few.canonical small held.brought (held.only at d at_low)
       (ap (λ (f : Named (List ℕ)). f (manifest_name id)) (sym (held.shows at d at_low)) ∙ shown d) in
       let counted : length whys ≡ 4 = few.counted in
-      let fewer : count_by is_good whys < 2 = few.few in
+      let fewer : good_count whys < 2 = few.few in
       let (k, low, other, bad) = another_fails is_good whys Good h.lost (omega arith) in
       let lt : k < length old = (let four : length old ≡ 4 = held.four in omega arith) in
       (k, lt, λ d. of_part d (one d) k lt other bad)
