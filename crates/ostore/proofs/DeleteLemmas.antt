@@ -7,12 +7,13 @@ use Rattle.call_types.specs.declared.names.Pick.{Pick}
 use Rattle.call_types.specs.declared.act.Act.TheVariants as act
 use Rattle.call_types.specs.declared.reply.Reply.{Reply}
 use Rattle.drive_base.specs.Files.{Files}
+use Rattle.drive_files.specs.Writing.{IsInPlace}
 use Rattle.version_list.specs.declared.state.KeyState.{KeyState}
 use Rattle.version_list.specs.Step.{Step}
 use Rattle.version_list.specs.Gone.{gone_ids}
 use Rattle.ostore.specs.declared.connection.Turn.{Turn}
 use Rattle.ostore.specs.Commits.{IsPrepared}
-use Rattle.ostore.specs.Drives.{AllTell, Written, MayBeWritten, name_of, loose_name_of}
+use Rattle.ostore.specs.Drives.{AllTell, MayBeWritten, name_of, loose_name_of}
 use Rattle.ostore.specs.Heads.{SpellsDelete}
 use Rattle.ostore.specs.Leaves.{sides, Shows, CommitLeaves, LooksInVain, ChangesNothing, WritesInVain, Makes}
 use Rattle.ostore.specs.Objects.{Objects, Answer, delete, replied, unavailable, with_numbers, with_change}
@@ -186,7 +187,7 @@ module _ {D : Type 0} (clock : Option ℕ) (mode : Mode) (tell : D → Bool) (fi
       p.changes.has_file.1 (delete_step_uploads (objects.states key) p.changes.new mode pick id now p.changes.reply step ∙ r.sound.no_uploads key)
       (delete_sound r.owner key pick objects id now p.changes.reply p.changes.new begins.next (r.sound.versions key) step)
       (delete_datas number (number + number) key pick objects id now p.changes.reply p.changes.new old r step)
-      (λ k d lt. subst (λ f. Written (loose_name_of number) (name_of key) f (files (slice_index_or old k d)) (files (slice_index_or w.mid k d))) p.changes.has_file.3
+      (λ k d lt. subst (λ f. IsInPlace (loose_name_of number) (name_of key) f (files (slice_index_or old k d)) (files (slice_index_or w.mid k d))) p.changes.has_file.3
       (w.writes k d lt (tells_each clock mode tell files count old all k d lt) ((r.every k d lt).unused.writes number (omega arith) begins.few))) in
       let ids = gone_ids p.state.versions p.changes.new.versions in
       ready_removed files (number + 1) (number + number + 2) (with_change objects key p.changes.new 2) ids w.mid new

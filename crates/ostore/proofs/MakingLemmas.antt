@@ -4,7 +4,8 @@ use Rattle.std.specs.List.{flat_map}
 use Rattle.stamp_id.specs.VersionId.{id_bytes}
 use Rattle.stamp_id.specs.declared.version.VersionId.{VersionId}
 use Rattle.drive_base.specs.Files.{Files}
-use Rattle.ostore.specs.Drives.{AtEach, SomeDrive, Written, DriveCause}
+use Rattle.drive_files.specs.Writing.{IsInPlace}
+use Rattle.ostore.specs.Drives.{AtEach, SomeDrive, DriveCause}
 use Rattle.call_types.specs.declared.names.Mode.{Mode}
 use Rattle.call_types.specs.declared.act.Act.{Act}
 use Rattle.version_list.specs.declared.state.KeyState.{KeyState}
@@ -29,7 +30,7 @@ module _ {D : Type 0} (tell : D → Bool) (files : D → Files) (count : D → �
   -- a write, and then the removal of data
   pub writes_and_removes : (loose name file gone : List ℕ) (old mid new : List D)
       → length mid ≡ length old → length new ≡ length mid → AtEach (λ a b. tell b ≡ tell a) old mid
-      → AtEach (λ a b. IsTrue (tell a) → (files a).loose loose ≡ None → Written loose name file (files a) (files b)) old mid
+      → AtEach (λ a b. IsTrue (tell a) → (files a).loose loose ≡ None → IsInPlace loose name file (files a) (files b)) old mid
       → ((ids : List VersionId) → gone ≡ flat_map id_bytes ids → AtEach (λ a b. IsTrue (tell a) → OnlyRemoves (data_names ids) (files a) (files b)) mid new)
       → WritesAll tell files count loose name file gone old new
   writes_and_removes loose name file gone old mid new same later tells writes removes = record {

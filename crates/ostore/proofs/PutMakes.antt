@@ -5,11 +5,12 @@ use Rattle.stamp_id.specs.declared.version.VersionId.{VersionId}
 use Rattle.call_types.specs.declared.names.Mode.{Mode}
 use Rattle.call_types.specs.declared.reply.Reply.{Reply}
 use Rattle.drive_base.specs.Files.{Files}
+use Rattle.drive_files.specs.Writing.{IsInPlace}
 use Rattle.version_list.specs.declared.state.KeyState.{KeyState}
 use Rattle.version_list.specs.Step.{Step}
 use Rattle.version_list.specs.Gone.{gone_ids}
 use Rattle.ostore.specs.declared.connection.Turn.{Turn}
-use Rattle.ostore.specs.Drives.{AllTell, Written, MayBeWritten, name_of, loose_name_of}
+use Rattle.ostore.specs.Drives.{AllTell, MayBeWritten, name_of, loose_name_of}
 use Rattle.body_print.specs.Names.{shard_name}
 use Rattle.ostore.specs.Holders.{IsHeld}
 use Rattle.ostore.specs.Leaves.{sides, Draws, CommitLeaves, WritesInVain, Makes}
@@ -152,7 +153,7 @@ module _ {D : Type 0} (clock : Option ℕ) (mode : Mode) (tell : D → Bool) (fi
       let ready = ready_written files number (number + number + 1) 1 (with_numbers (with_body objects id body) key 1) key p.changes.new mid w.mid st.begins.few (some_mid clock mode tell files count number key body objects id now old mid new before staged st) w.same r
       p.changes.has_file.1 (step_uploads (objects.states key) p.changes.new mode id st.print body now p.changes.reply step ∙ r.sound.no_uploads key)
       (put_sound number key body objects id now old mid new before staged st all p.changes.reply p.changes.new step) (put_datas number key body objects id now old mid new before staged st all p.changes.reply p.changes.new step)
-      (λ k d lt. subst (λ f. Written (loose_name_of number) (name_of key) f (files (slice_index_or mid k d)) (files (slice_index_or w.mid k d))) p.changes.has_file.3
+      (λ k d lt. subst (λ f. IsInPlace (loose_name_of number) (name_of key) f (files (slice_index_or mid k d)) (files (slice_index_or w.mid k d))) p.changes.has_file.3
       (w.writes k d lt (tells_each clock mode tell files count mid (all_mid clock mode tell files count number key body objects id now old mid new before staged st all) k d lt) ((r.every k d lt).unused.writes number (omega arith) st.begins.few))) in
       let ids = gone_ids p.state.versions p.changes.new.versions in
       let removed = ready_removed files (number + 1) (number + number + 1 + 1) (with_change (with_numbers (with_body objects id body) key 1) key p.changes.new 1) ids w.mid new

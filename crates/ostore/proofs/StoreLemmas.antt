@@ -10,11 +10,12 @@ use Rattle.call_types.specs.declared.version.Version.{Version}
 use Rattle.call_types.specs.declared.version.What.{What}
 use Rattle.call_types.specs.declared.version.What.TheVariants.{Marker, Object}
 use Rattle.drive_base.specs.Files.{Files, Named, with_name, no_files}
+use Rattle.drive_files.specs.Writing.{IsInPlace}
 use Rattle.version_list.specs.declared.state.KeyState.{KeyState}
 use Rattle.version_list.specs.State.{IsCanonical}
 use Rattle.body_print.specs.Names.{shard_name, manifest_name, loose_shard_name, loose_manifest_name}
 use Rattle.put_stage.specs.OnDrives.{MayBeStaged, manifest_and_shard}
-use Rattle.ostore.specs.Drives.{name_of, loose_name_of, AtEach, Written, MayBeWritten}
+use Rattle.ostore.specs.Drives.{name_of, loose_name_of, AtEach, MayBeWritten}
 use Rattle.ostore.specs.Holders.{Coding, shard_file, manifest_file, IsHeld, data_names}
 use Rattle.ostore.specs.KeyFiles.{StandsFor, empty_state, key_file}
 use Rattle.ostore.specs.Objects.{Objects, no_objects, with_body, with_numbers, with_change, with_state}
@@ -208,7 +209,7 @@ module _ {D : Type 0} (files : D → Files) where
       → IsCanonical state → state.uploads ≡ []
       → AllByRecursion (IsSound (with_drawn objects.drawn (slot_of key) (objects.drawn (slot_of key) + more)) ready.owner objects.bodies key) state.versions
       → AllByRecursion (λ v. IsHeld files objects.bodies old v.what) state.versions
-      → AtEach (λ a b. Written (loose_name_of number) (name_of key) (key_file state) (files a) (files b)) old new
+      → AtEach (λ a b. IsInPlace (loose_name_of number) (name_of key) (key_file state) (files a) (files b)) old new
       → Ready files (number + 1) (most + more) (with_change objects key state more) new
   ready_written number most more objects key state old new few some same ready canonical none sound datas each = record {
     first = λ d other. written_first d other (bytes_eq key other) refl;
@@ -252,7 +253,7 @@ module _ {D : Type 0} (files : D → Files) where
       held_now : (v : Version) → IsHeld files objects.bodies old v.what → IsHeld files objects.bodies new v.what
       held_now = held_written number objects key state old new same each
 
-      first_written : (c d : D) (other : List ℕ) → Written (loose_name_of number) (name_of key) (key_file state) (files (slice_index_or old 0 c)) (files (slice_index_or new 0 c)) → (t : Bool) → bytes_eq key other ≡ t
+      first_written : (c d : D) (other : List ℕ) → IsInPlace (loose_name_of number) (name_of key) (key_file state) (files (slice_index_or old 0 c)) (files (slice_index_or new 0 c)) → (t : Bool) → bytes_eq key other ≡ t
           → StandsFor ((files (slice_index_or new 0 d)).kept (name_of other)) (with_state objects.states key state other)
       first_written c d other w true e =
           subst (λ t. StandsFor ((files (slice_index_or new 0 d)).kept (name_of other)) (cond t state (objects.states other))) (sym e)

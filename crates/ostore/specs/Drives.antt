@@ -1,9 +1,10 @@
 -- What the four drives hold and count.
-use Rattle.std.specs.Prelude.{◌≡◌, ◌⊎◌, ◌<◌, ◌≤◌, ℕ, Bool, IsTrue, List, ◌++◌, length, codes, slice_index_or, bytes_eq, false, Some, All, map}
+use Rattle.std.specs.Prelude.{◌≡◌, ◌⊎◌, ◌<◌, ◌≤◌, ℕ, Bool, IsTrue, List, ◌++◌, length, codes, slice_index_or, All, map}
 use Rattle.std.specs.Int.{w64, to_be_bytes}
 use Rattle.hex.specs.Hex.{encode_lower}
 use Rattle.drive_base.specs.Faults.{Rose}
-use Rattle.drive_base.specs.Files.{Files, with_name}
+use Rattle.drive_base.specs.Files.{Files}
+use Rattle.drive_files.specs.Writing.{Touches, IsInPlace}
 
 -- the name of a key's file
 abbrev pub name_of : List ℕ → List ℕ
@@ -25,21 +26,9 @@ AtEach {D} R old new = (k : ℕ) (d : D) → k < length old → R (slice_index_o
 abbrev pub SomeDrive : {D : Type 0} → (D → D → Type 0) → List D → List D → Type 0
 SomeDrive {D} R old new = (k : ℕ) × (k < length old) × ((d : D) → R (slice_index_or old k d) (slice_index_or new k d))
 
--- the file is in place under the name, and no loose file but that of this write is changed
-pub record Written (loose name body : List ℕ) (old new : Files) : Type 0 where
-  pub kept : new.kept ≡ with_name old.kept name (Some body)
-  pub shown : new.shown ≡ with_name old.shown name (Some body)
-  pub others : (other : List ℕ) → bytes_eq loose other ≡ false → new.loose other ≡ old.loose other
-
--- the named files are as they were, and no loose file but that of this write is changed
-pub record Unwritten (loose : List ℕ) (old new : Files) : Type 0 where
-  pub kept : new.kept ≡ old.kept
-  pub shown : new.shown ≡ old.shown
-  pub others : (other : List ℕ) → bytes_eq loose other ≡ false → new.loose other ≡ old.loose other
-
 -- a write that failed left the named files as they were, or put the file in place
 abbrev pub MayBeWritten : List ℕ → List ℕ → List ℕ → Files → Files → Type 0
-MayBeWritten loose name body old new = Unwritten loose old new ⊎ Written loose name body old new
+MayBeWritten loose name body old new = Touches loose old new ⊎ IsInPlace loose name body old new
 
 -- no count fell
 pub record NoneFell (old new : List ℕ) : Type 0 where

@@ -6,12 +6,13 @@ use Rattle.stamp_id.specs.declared.version.VersionId.{VersionId}
 use Rattle.call_types.specs.declared.names.Mode.{Mode}
 use Rattle.call_types.specs.declared.act.Act.{Act}
 use Rattle.drive_base.specs.Files.{Files}
+use Rattle.drive_files.specs.Writing.{IsInPlace}
 use Rattle.version_list.specs.declared.state.KeyState.{KeyState}
 use Rattle.ostore.specs.declared.connection.Turn.{Turn}
 use Rattle.ostore.specs.declared.connection.Turn.TheVariants.{Ended}
 use Rattle.ostore.specs.declared.connection.ConnectionEnd.TheVariants.{NoMemory}
 use Rattle.ostore.specs.Commits.{IsPrepared, NamesId}
-use Rattle.ostore.specs.Drives.{AtEach, SomeDrive, Written, MayBeWritten, DriveCause}
+use Rattle.ostore.specs.Drives.{AtEach, SomeDrive, MayBeWritten, DriveCause}
 use Rattle.ostore.specs.Holders.{data_names}
 use Rattle.ostore.specs.KeyFiles.{KeyCause, StandsFor}
 use Rattle.ostore.specs.Replies.{unavailable_text}
@@ -60,7 +61,7 @@ module _ {D : Type 0} (tell : D → Bool) (files : D → Files) (count : D → �
     pub same : length mid ≡ length old
     pub later : length new ≡ length mid
     pub tells : AtEach (λ a b. tell b ≡ tell a) old mid
-    pub writes : AtEach (λ a b. IsTrue (tell a) → (files a).loose loose ≡ None → Written loose name file (files a) (files b)) old mid
+    pub writes : AtEach (λ a b. IsTrue (tell a) → (files a).loose loose ≡ None → IsInPlace loose name file (files a) (files b)) old mid
     pub removes : (ids : List VersionId) → gone ≡ flat_map id_bytes ids → AtEach (λ a b. IsTrue (tell a) → OnlyRemoves (data_names ids) (files a) (files b)) mid new
 
   -- no memory was found before anything was written

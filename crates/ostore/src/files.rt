@@ -5,10 +5,12 @@ ghost use Rattle.std.specs.Option.{option_map};
 ghost use Rattle.std.specs.String.{string_bytes};
 ghost use Rattle.std.specs.List.{AllPass};
 ghost use Rattle.std.specs.Char.{is_ascii_alphanumeric};
-ghost use Rattle.drive_base.specs.Faults.{Rose};
-ghost use Rattle.ostore.specs.Drives.{name_of, loose_name_of, AtEach, SomeDrive, Written, MayBeWritten, DriveCause};
+ghost use Rattle.drive_files.specs.Writing.{IsInPlace};
+ghost use Rattle.ostore.specs.Drives.{name_of, loose_name_of, AtEach, SomeDrive, MayBeWritten, DriveCause};
 
+use call_types::{FileKind, Why};
 use drive_base::Drive;
+use drive_files::write_file;
 use std::alloc::{AllocError, Global};
 
 /// Some drive didn't do what was asked.
@@ -37,11 +39,12 @@ pub fn loose_name(alloc: Global, number: u64) -> Result<String, AllocError>
     Ok(name)
 }
 
-/// Writes a file under a loose name, and puts it in place under its name.
-fn write_file<D: Drive>(drive: &mut D, loose: &str, name: &str, body: &[u8]) -> Result<(), Refused>
+/// Writes a key's file to one drive, where it stands as the file of a register does: under a loose name first, and then
+/// in place under its name.
+fn write_one<D: Drive>(drive: &mut D, loose: &str, name: &str, body: &[u8]) -> Result<(), Refused>
     requires { length name.now ≤ 1129 }
     ensures ok { OnOk result (IsTrue (D.tells drive.old) → (D.files drive.old).loose loose.now ≡ None
-        → Written loose.now name.now body.now (D.files drive.old) (D.files drive.new)) }
+        → IsInPlace loose.now name.now body.now (D.files drive.old) (D.files drive.new)) }
     ensures err { OnErr result (IsTrue (D.tells drive.old) → (D.files drive.old).loose loose.now ≡ None
         → MayBeWritten loose.now name.now body.now (D.files drive.old) (D.files drive.new)) }
     ensures calm { OnOk result (D.count drive.new ≡ D.count drive.old) }
@@ -49,16 +52,10 @@ fn write_file<D: Drive>(drive: &mut D, loose: &str, name: &str, body: &[u8]) -> 
     ensures tells { D.tells drive.new ≡ D.tells drive.old }
     ensures count { D.count drive.old ≤ D.count drive.new }
 {
-    if drive.append(loose, body).is_err() {
-        return Err(Refused);
+    match write_file(drive, FileKind::Register, loose, name, body) {
+        Why::Good => Ok(()),
+        _ => Err(Refused),
     }
-    if drive.sync(loose).is_err() {
-        return Err(Refused);
-    }
-    if drive.rename(loose, name).is_err() {
-        return Err(Refused);
-    }
-    Ok(())
 }
 
 /// Writes a file to the drives in their order, and stops at the first that refuses it.
@@ -70,7 +67,7 @@ pub fn write_all<D: Drive>(
 ) -> Result<(), Refused>
     requires { length name.now ≤ 1129 }
     ensures ok { OnOk result (AtEach (λ old new. IsTrue (D.tells old) → (D.files old).loose loose.now ≡ None
-        → Written loose.now name.now body.now (D.files old) (D.files new)) drives.old drives.new) }
+        → IsInPlace loose.now name.now body.now (D.files old) (D.files new)) drives.old drives.new) }
     ensures err { OnErr result (AtEach (λ old new. IsTrue (D.tells old) → (D.files old).loose loose.now ≡ None
         → MayBeWritten loose.now name.now body.now (D.files old) (D.files new)) drives.old drives.new) }
     ensures calm { OnOk result (AtEach (λ old new. D.count new ≡ D.count old) drives.old drives.new) }
@@ -79,7 +76,7 @@ pub fn write_all<D: Drive>(
     ensures counts { AtEach (λ old new. D.count old ≤ D.count new) drives.old drives.new }
 {
     for drive in drives.iter_mut() {
-        write_file(drive, loose, name, body)?;
+        write_one(drive, loose, name, body)?;
     }
     Ok(())
 }

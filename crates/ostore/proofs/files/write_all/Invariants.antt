@@ -1,5 +1,5 @@
 use Rattle.std.proofs.Common.{◌≡◌, ◌<◌, ◌≤◌, ℕ, IsTrue, None, slice_index_or}
-use Rattle.ostore.specs.Drives.{Written}
+use Rattle.drive_files.specs.Writing.{IsInPlace}
 use Rattle.ostore.proofs.files.write_all.Given as goal
 
 -- the drives so far have the file, and the others are as they were
@@ -7,7 +7,7 @@ abbrev pub invariant-loop-drive : goal.invariant-loop-drive
 invariant-loop-drive g l = let D = g.D.Drive in record {
   written : (k : ℕ) (d : g.row.D.Denot) → k < l.drive-index
       → IsTrue (D.tells (slice_index_or l.initial.drives k d)) → (D.files (slice_index_or l.initial.drives k d)).loose l.loose ≡ None
-      → Written l.loose l.name l.body (D.files (slice_index_or l.initial.drives k d)) (D.files (slice_index_or l.drives k d));
+      → IsInPlace l.loose l.name l.body (D.files (slice_index_or l.initial.drives k d)) (D.files (slice_index_or l.drives k d));
   tells : (k : ℕ) (d : g.row.D.Denot) → k < l.drive-index → D.tells (slice_index_or l.drives k d) ≡ D.tells (slice_index_or l.initial.drives k d);
   calm : (k : ℕ) (d : g.row.D.Denot) → k < l.drive-index → D.count (slice_index_or l.drives k d) ≡ D.count (slice_index_or l.initial.drives k d);
   counts : (k : ℕ) (d : g.row.D.Denot) → k < l.drive-index → D.count (slice_index_or l.initial.drives k d) ≤ D.count (slice_index_or l.drives k d);

@@ -1,7 +1,8 @@
 use Rattle.std.proofs.Common.{ℕ, List, inl, inr, refl, ap, ◌∙◌, subst, Some, None, Err, string_bytes, Option}
 use Rattle.std.specs.Option.{option_map}
 use Rattle.ostore.specs.Commits.{IsPrepared}
-use Rattle.ostore.specs.Drives.{Written, MayBeWritten}
+use Rattle.drive_files.specs.Writing.{IsInPlace}
+use Rattle.ostore.specs.Drives.{MayBeWritten}
 use Rattle.ostore.specs.Leaves.{LookCause, Shows, WritesMaybe, WritesAll}
 use Rattle.ostore.specs.Session.{Gives}
 use Rattle.ostore.proofs.MakingLemmas.{writes_after_look, writes_and_removes, tells_later, counts_later, cause_later, prepared_all, look_cause_all}
@@ -39,7 +40,7 @@ returns-in_default-clause-leaves g c =
 
 pub returns-in-Ok-write_all-clause-leaves : goal.returns-in-Ok-write_all-clause-leaves
 returns-in-Ok-write_all-clause-leaves g c =
-    let written = writes_after_look g.D.Drive.tells g.D.Drive.files g.D.Drive.count c.as_str-2.result.now c.as_str-3.result.now c.as_slice-2.result.now Written c.args.drives.now c.prepare.new.drives c.write_all.new.drives
+    let written = writes_after_look g.D.Drive.tells g.D.Drive.files g.D.Drive.count c.as_str-2.result.now c.as_str-3.result.now c.as_slice-2.result.now IsInPlace c.args.drives.now c.prepare.new.drives c.write_all.new.drives
     c.prepare.auto.drives c.prepare.ensures.tells c.prepare.ensures.files c.in-Ok-write_all.ensures.ok in
     let all = writes_and_removes g.D.Drive.tells g.D.Drive.files g.D.Drive.count c.as_str-2.result.now c.as_str-3.result.now c.as_slice-2.result.now c.as_slice-in-Ok-write_all-2.result.now c.args.drives.now c.write_all.new.drives c.remove_data.new.drives
     (c.write_all.auto.drives ∙ c.prepare.auto.drives) c.remove_data.auto.drives (tells_later g.D.Drive.tells g.D.Drive.files g.D.Drive.count _ c.prepare.new.drives _ c.prepare.auto.drives c.prepare.ensures.tells c.write_all.ensures.tells)
