@@ -17,8 +17,8 @@ use Rattle.ostore.specs.Session.{Agrees, IsBegun, IsUnserved, EndsSo, Moved, Wir
 use Rattle.ostore.specs.Slots.{Drawn}
 use Rattle.ostore.specs.Store.{Ready}
 use Rattle.ostore.proofs.SessionLemmas.{none_fell_same, nothing_given}
-use Rattle.ostore.proofs.StoreLemmas.{ready_later}
-use Rattle.ostore.proofs.TurnLemmas.{deeper, unanswered}
+use Rattle.ostore.proofs.StoreLemmas.{ready_next}
+use Rattle.ostore.proofs.TurnLemmas.{deeper, unanswered, room_kept}
 
 in_body : (key : List ℕ) (n : ℕ) (head part : List ℕ) → SpellsPut key n head → length part < n → IsBegun (head ++ part)
 in_body key n head part spells lacks = inr (record { key = key; n = n; head = head; part = part; spells = spells; is = refl; lacks = lacks })
@@ -41,8 +41,8 @@ module _ {D : Type 0} (clock : Option ℕ) (mode : Mode) (tell : D → Bool) (fi
       → TurnOver clock mode tell files count number front objects drives before (Ended end) drives after drawn
   unread number front part objects drives before after end drawn ready agrees room moved ends =
       unanswered clock mode tell files count number front part objects objects drives drives before after end drawn refl agrees
-      (λ slot. let low : objects.drawn slot ≤ number + number = subst (λ n. n ≤ number + number) (agrees slot) (room slot) in omega arith)
-      (λ all. ready_later files number (number + 1) (number + number) (number + number + 2) objects drives (omega arith) (omega arith) (ready all))
+      (room_kept number drawn objects agrees room)
+      (λ all. ready_next files number objects drives (ready all))
       (none_fell_same (map count drives)) moved ends
 
   pub body_ended : (number : ℕ) (key : List ℕ) (n : ℕ) (head : List ℕ) (objects : Objects) (drives : List D) (left now given : Option (List ℕ)) (reads more writes : ℕ) (drawn : Drawn)

@@ -11,11 +11,6 @@ use Rattle.ostore.specs.declared.commit.Prepared.{Prepared}
 use Rattle.ostore.specs.declared.commit.Unprepared.{Unprepared}
 use Rattle.ostore.specs.Commits.{Changes, IsPrepared}
 
--- the first of some items
-abbrev pub first_of : {A : Type 0} (xs : List A) → 0 < length xs → A
-first_of [] some = absurd (omega arith)
-first_of (x ∷ xs) some = x
-
 -- a change of the state that was read is prepared
 pub change_is_prepared :
     {D : Type 0} (mode : Mode) (act : Act) (id : VersionId) (now : ℕ) (state : KeyState) (stands : D → KeyState → Type 0)

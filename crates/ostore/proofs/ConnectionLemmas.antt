@@ -16,10 +16,10 @@ use Rattle.ostore.specs.Slots.{Drawn}
 use Rattle.ostore.specs.Store.{Keeps, Ready}
 use Rattle.ostore.specs.Drives.{AllTell}
 use Rattle.ostore.specs.Session.{Run, bytes_of, texts_of, Wires, wires, Moved, Refuses, Agrees, moment, TurnOver, Served, SoFar}
-use Rattle.ostore.proofs.StoreLemmas.{ready_later}
+use Rattle.ostore.proofs.StoreLemmas.{ready_next}
 use Rattle.ostore.proofs.BodyLemmas.{unread}
 use Rattle.ostore.proofs.SessionLemmas.{none_fell_same, nothing_taken, nothing_given, moved_later, ends_later, ends_after, run_append, bytes_of-append, texts_of-append}
-use Rattle.ostore.proofs.TurnLemmas.{deeper}
+use Rattle.ostore.proofs.TurnLemmas.{deeper, room_kept}
 
 -- what is ready for the next request keeps the objects
 pub keeps_of : {D : Type 0} (files : D → Files) (number most : ℕ) (objects : Objects) (drives : List D) → Ready files number most objects drives → Keeps files objects drives
@@ -39,8 +39,8 @@ module _ {D : Type 0} (clock : Option ℕ) (mode : Mode) (tell : D → Bool) (fi
   refused number head objects drives (Ended Closed) left given now reads writes more drawn is ready agrees room (gave, low) = record {
     objects_after = objects;
     agrees = agrees;
-    room = λ slot. let low : objects.drawn slot ≤ number + number = subst (λ n. n ≤ number + number) (agrees slot) (room slot) in omega arith;
-    ready = λ all. ready_later files number (number + 1) (number + number) (number + number + 2) objects drives (omega arith) (omega arith) (ready all);
+    room = room_kept number drawn objects agrees room;
+    ready = λ all. ready_next files number objects drives (ready all);
     turns = record {
       exchanges = [];
       tail = head;
@@ -58,8 +58,8 @@ module _ {D : Type 0} (clock : Option ℕ) (mode : Mode) (tell : D → Bool) (fi
   refused number head objects drives (Ended WriteFault) left given now reads writes more drawn is ready agrees room ((n, gave), rose, low) = record {
     objects_after = objects;
     agrees = agrees;
-    room = λ slot. let low : objects.drawn slot ≤ number + number = subst (λ n. n ≤ number + number) (agrees slot) (room slot) in omega arith;
-    ready = λ all. ready_later files number (number + 1) (number + number) (number + number + 2) objects drives (omega arith) (omega arith) (ready all);
+    room = room_kept number drawn objects agrees room;
+    ready = λ all. ready_next files number objects drives (ready all);
     turns = record {
       exchanges = [];
       tail = head;

@@ -1,5 +1,5 @@
 -- What a DELETE leads to.
-use Rattle.std.proofs.Common.{◌≡◌, ◌⊎◌, inl, inr, ℕ, ◌+◌, ◌<◌, ◌≤◌, Bool, IsTrue, List, [], length, map, slice_index_or, Option, Some, None, refl, sym, ap, ◌∙◌, subst, arith}
+use Rattle.std.proofs.Common.{◌≡◌, ◌⊎◌, inl, inr, ℕ, ◌+◌, ◌<◌, ◌≤◌, Bool, List, [], length, map, slice_index_or, Option, Some, None, refl, sym, ap, ◌∙◌, subst, arith, ◌≢◌}
 use Rattle.std.specs.List.{AllByRecursion}
 use Rattle.stamp_id.specs.declared.version.VersionId.{VersionId}
 use Rattle.call_types.specs.declared.names.Mode.{Mode}
@@ -7,25 +7,23 @@ use Rattle.call_types.specs.declared.names.Pick.{Pick}
 use Rattle.call_types.specs.declared.act.Act.TheVariants as act
 use Rattle.call_types.specs.declared.reply.Reply.{Reply}
 use Rattle.drive_base.specs.Files.{Files}
-use Rattle.drive_files.specs.Writing.{IsInPlace}
 use Rattle.version_list.specs.declared.state.KeyState.{KeyState}
 use Rattle.version_list.specs.Step.{Step}
-use Rattle.version_list.specs.Gone.{gone_ids}
 use Rattle.ostore.specs.declared.connection.Turn.{Turn}
 use Rattle.ostore.specs.Commits.{IsPrepared}
-use Rattle.ostore.specs.Drives.{AllTell, MayBeWritten, name_of, loose_name_of}
+use Rattle.ostore.specs.Drives.{AllTell, name_of, loose_name_of}
 use Rattle.ostore.specs.Heads.{SpellsDelete}
 use Rattle.ostore.specs.Leaves.{sides, Shows, CommitLeaves, LooksInVain, ChangesNothing, WritesInVain, Makes}
 use Rattle.ostore.specs.Objects.{Objects, Answer, delete, replied, unavailable, with_numbers, with_change}
-use Rattle.ostore.specs.Session.{Exchange, Gives, wires, TurnOver}
+use Rattle.ostore.specs.Session.{Exchange, Gives, wires, TurnOver, Step as ExchangeStep, moment}
 use Rattle.ostore.specs.Slots.{slot_of, Drawn, with_drawn, IsIdOf}
 use Rattle.ostore.specs.Holders.{IsHeld}
 use Rattle.ostore.specs.Store.{Ready, IsSound}
-use Rattle.ostore.proofs.ChangeLemmas.{Begins, is_next, room_now, room_drawn, agrees_none, agrees_drawn, ready_stays, starved, apart_after}
+use Rattle.ostore.proofs.ChangeLemmas.{Begins, is_next, room_now, room_drawn, agrees_none, agrees_drawn, ready_stays, starved, drawn_of, step_of, made_ready, refused_ready}
 use Rattle.ostore.proofs.StandsLemmas.{all_or_not, shown_is, shows_only, look_cause}
-use Rattle.ostore.proofs.StateLemmas.{delete_step_keeps, delete_step_uploads, sound_drawn_later, grows_with_drawn, with_drawn_here, marker_is_sound, next_was_drawn}
-use Rattle.ostore.proofs.StoreLemmas.{ready_written, ready_refused, ready_removed}
+use Rattle.ostore.proofs.StateLemmas.{delete_step_keeps, delete_step_uploads, sound_drawn_later, marker_is_sound}
 use Rattle.ostore.proofs.TurnLemmas.{tells_each, counts_each, cause_of_some, answered}
+use Rattle.ostore.proofs.DrawnLemmas.{grows_with_drawn, with_drawn_here, next_was_drawn}
 
 -- the exchange of a DELETE
 abbrev deleted : List ℕ → Pick → List ℕ → Answer → Exchange
@@ -40,7 +38,7 @@ module _ {D : Type 0} (clock : Option ℕ) (mode : Mode) (tell : D → Bool) (fi
       → TurnOver clock mode tell files count number bytes objects old (wires left given reads faults) turn new (wires left later reads more) after
   delete_looks number key pick objects id now old new turn left given later reads faults more before after bytes begins asks looks =
       answered clock mode tell files count number objects objects old new (deleted key pick bytes unavailable) turn left given later reads faults more after
-      (agrees_none clock mode tell files count objects given later faults more before after begins.agrees looks.draws) (room_now clock mode tell files count number key objects id now old new before begins)
+      (agrees_none objects before after begins.agrees looks.draws) (room_now clock mode tell files count number key objects id now old new before begins)
       (ready_stays clock mode tell files count number key objects id now old new before begins looks.stays)
       (record {
         asks = asks;
@@ -51,12 +49,31 @@ module _ {D : Type 0} (clock : Option ℕ) (mode : Mode) (tell : D → Bool) (fi
         counts = counts_each clock mode tell files count old new begins.same begins.counts;
       }) looks.gives
 
-  -- the step of what was prepared is that of the objects, where the drives tell
-  step_of : (number most : ℕ) (key : List ℕ) (pick : Pick) (objects : Objects) (id : VersionId) (now : ℕ) (old : List D) (text gone : List ℕ) (file : Option (List ℕ))
-      (p : IsPrepared mode (act.Delete pick) id now (Shows tell files count old (name_of key)) text file gone)
-      → p.state ≡ objects.states key → Step (objects.states key) mode (act.Delete pick) id now p.changes.reply p.changes.new
-  step_of number most key pick objects id now old text gone file p same =
-      subst (λ s. Step s mode (act.Delete pick) id now p.changes.reply p.changes.new) same p.changes.step
+  -- a DELETE that is answered as its change says
+  delete_steps : (number : ℕ) (key : List ℕ) (pick : Pick) (objects later : Objects) (id : VersionId) (now : ℕ) (old new : List D) (before : Drawn) (bytes text gone : List ℕ) (file : Option (List ℕ))
+      → Begins clock mode tell files count number key objects id now old new before → SpellsDelete key pick bytes
+      → (p : IsPrepared mode (act.Delete pick) id now (Shows tell files count old (name_of key)) text file gone)
+      → (p.state ≡ objects.states key → ((p.changes.new ≡ objects.states key) × (later ≡ objects)) ⊎ ((p.changes.new ≢ objects.states key) × (later ≡ with_change objects key p.changes.new 2)))
+      → ExchangeStep clock mode (map tell old) (moment clock mode tell files count objects old) (deleted key pick bytes (replied p.changes.reply [])) (moment clock mode tell files count later new)
+  delete_steps number key pick objects later id now old new before bytes text gone file begins asks p is = record {
+    asks = asks;
+    fits = refl;
+    shows = λ all. shows_only clock mode tell files count number (number + number) objects old (begins.ready all);
+    serves = λ all.
+        let same = shown_is clock mode tell files count number (number + number) objects key p.state old begins.some all (begins.ready all) p.canonical p.shown in (
+          record {
+            id = id;
+            now = now;
+            next = is_next clock mode tell files count number key objects id now old new before begins all;
+            state = p.changes.new;
+            step = step_of mode (act.Delete pick) id now objects key (Shows tell files count old (name_of key)) text gone file p same;
+            is = is same;
+          },
+          refl,
+        );
+    cause = tt;
+    counts = counts_each clock mode tell files count old new begins.same begins.counts;
+  }
 
   -- the change leaves the state
   delete_nothing : (number : ℕ) (key : List ℕ) (pick : Pick) (objects : Objects) (id : VersionId) (now : ℕ) (old new : List D) (turn : Turn)
@@ -67,27 +84,10 @@ module _ {D : Type 0} (clock : Option ℕ) (mode : Mode) (tell : D → Bool) (fi
   delete_nothing number key pick objects id now old new turn left given later reads faults more before after bytes begins asks nothing =
       let p = nothing.prepared in
       answered clock mode tell files count number objects objects old new (deleted key pick bytes (replied p.changes.reply [])) turn left given later reads faults more after
-      (agrees_none clock mode tell files count objects given later faults more before after begins.agrees nothing.draws) (room_now clock mode tell files count number key objects id now old new before begins)
+      (agrees_none objects before after begins.agrees nothing.draws) (room_now clock mode tell files count number key objects id now old new before begins)
       (ready_stays clock mode tell files count number key objects id now old new before begins nothing.stays)
-      (record {
-        asks = asks;
-        fits = refl;
-        shows = λ all. shows_only clock mode tell files count number (number + number) objects old (begins.ready all);
-        serves = λ all.
-            let same = shown_is clock mode tell files count number (number + number) objects key p.state old begins.some all (begins.ready all) p.canonical p.shown in (
-              record {
-                id = id;
-                now = now;
-                next = is_next clock mode tell files count number key objects id now old new before begins all;
-                state = p.changes.new;
-                step = step_of number (number + number) key pick objects id now old nothing.text nothing.gone None p same;
-                is = inl (p.changes.has_file ∙ same, refl);
-              },
-              refl,
-            );
-        cause = tt;
-        counts = counts_each clock mode tell files count old new begins.same begins.counts;
-      }) (subst (λ t. Gives t turn given later faults more) p.changes.texts nothing.gives)
+      (delete_steps number key pick objects objects id now old new before bytes nothing.text nothing.gone None begins asks p (λ same. inl (p.changes.has_file ∙ same, refl)))
+      (subst (λ t. Gives t turn given later faults more) p.changes.texts nothing.gives)
 
   -- the versions after a DELETE are sound, and their data is on the drives
   delete_sound : (owner : List ℕ → List ℕ) (key : List ℕ) (pick : Pick) (objects : Objects) (id : VersionId) (now : ℕ) (reply : Reply) (state : KeyState)
@@ -108,11 +108,6 @@ module _ {D : Type 0} (clock : Option ℕ) (mode : Mode) (tell : D → Bool) (fi
   delete_datas number most key pick objects id now reply state old ready step =
       delete_step_keeps (λ v. IsHeld files objects.bodies old v.what) (objects.states key) state mode pick id now reply step (ready.datas key) tt
 
-  drawn_of : (objects after : Objects) (key : List ℕ) (state : KeyState) → (after ≡ with_numbers objects key 2) ⊎ (after ≡ with_change objects key state 2)
-      → after.drawn ≡ with_drawn objects.drawn (slot_of key) (objects.drawn (slot_of key) + 2)
-  drawn_of objects after key state (inl e) = ap (λ (o : Objects). o.drawn) e
-  drawn_of objects after key state (inr e) = ap (λ (o : Objects). o.drawn) e
-
   -- some drive refused the write, and these are the objects then
   refused_so : (number : ℕ) (key : List ℕ) (pick : Pick) (objects : Objects) (id : VersionId) (now : ℕ) (old new : List D) (turn : Turn)
       (left given later : Option (List ℕ)) (reads faults more : ℕ) (before after : Drawn) (bytes : List ℕ)
@@ -125,8 +120,8 @@ module _ {D : Type 0} (clock : Option ℕ) (mode : Mode) (tell : D → Bool) (fi
       let p = vain.prepared in
       let drawn = drawn_of objects objects_after key p.changes.new is in
       answered clock mode tell files count number objects objects_after old new (deleted key pick bytes unavailable) turn left given later reads faults more after
-      (λ slot. agrees_drawn clock mode tell files count objects key given later faults more before after begins.agrees vain.draws slot ∙ sym (ap (λ (f : Drawn). f slot) drawn))
-      (λ slot. subst (λ (f : Drawn). f slot ≤ number + number + 2) (sym drawn) (room_drawn clock mode tell files count number key objects id now old new before begins slot))
+      (λ slot. agrees_drawn objects key 2 before after begins.agrees vain.draws slot ∙ sym (ap (λ (f : Drawn). f slot) drawn))
+      (λ slot. subst (λ (f : Drawn). f slot ≤ number + number + 2) (sym drawn) (room_drawn clock mode tell files count number key objects id now old new before 2 (omega arith) begins slot))
       ready
       (record {
         asks = asks;
@@ -140,7 +135,7 @@ module _ {D : Type 0} (clock : Option ℕ) (mode : Mode) (tell : D → Bool) (fi
               next = is_next clock mode tell files count number key objects id now old new before begins all;
               reply = p.changes.reply;
               state = p.changes.new;
-              step = step_of number (number + number) key pick objects id now old vain.text vain.gone (Some vain.file) p same;
+              step = step_of mode (act.Delete pick) id now objects key (Shows tell files count old (name_of key)) vain.text vain.gone (Some vain.file) p same;
               is = is;
             });
         cause = cause_of_some clock mode tell files count old new begins.same vain.cause;
@@ -157,13 +152,11 @@ module _ {D : Type 0} (clock : Option ℕ) (mode : Mode) (tell : D → Bool) (fi
         let p = vain.prepared in
         let r = begins.ready all in
         let same = shown_is clock mode tell files count number (number + number) objects key p.state old begins.some all r p.canonical p.shown in
-        let step = step_of number (number + number) key pick objects id now old vain.text vain.gone (Some vain.file) p same in
-        let found = ready_refused files number (number + number) 2 objects key p.changes.new old new begins.few begins.some begins.same r
-        p.changes.has_file.1 (delete_step_uploads (objects.states key) p.changes.new mode pick id now p.changes.reply step ∙ r.sound.no_uploads key)
+        let step = step_of mode (act.Delete pick) id now objects key (Shows tell files count old (name_of key)) vain.text vain.gone (Some vain.file) p same in
+        let found = refused_ready clock mode tell files count number (number + number) 2 objects key (act.Delete pick) id now (Shows tell files count old (name_of key)) vain.text vain.file vain.gone old new
+        begins.few begins.some begins.same all r p (delete_step_uploads (objects.states key) p.changes.new mode pick id now p.changes.reply step ∙ r.sound.no_uploads key)
         (delete_sound r.owner key pick objects id now p.changes.reply p.changes.new begins.next (r.sound.versions key) step)
-        (delete_datas number (number + number) key pick objects id now p.changes.reply p.changes.new old r step)
-        (λ k d lt. subst (λ f. MayBeWritten (loose_name_of number) (name_of key) f (files (slice_index_or old k d)) (files (slice_index_or new k d))) p.changes.has_file.3
-        (vain.writes k d lt (tells_each clock mode tell files count old all k d lt) ((r.every k d lt).unused.writes number (omega arith) begins.few))) in
+        (delete_datas number (number + number) key pick objects id now p.changes.reply p.changes.new old r step) vain.writes in
         refused_so number key pick objects id now old new turn left given later reads faults more before after bytes begins asks vain found.0 found.1 (λ _. found.2)
     | inr silent ↦ refused_so number key pick objects id now old new turn left given later reads faults more before after bytes begins asks vain (with_numbers objects key 2) (inl refl) (λ all. absurd (silent all))
   ]
@@ -176,44 +169,18 @@ module _ {D : Type 0} (clock : Option ℕ) (mode : Mode) (tell : D → Bool) (fi
       → TurnOver clock mode tell files count number bytes objects old (wires left given reads faults) turn new (wires left later reads more) after
   delete_makes number key pick objects id now old new turn left given later reads faults more before after bytes begins asks makes =
       let p = makes.prepared in
-      let w = makes.writes in
       answered clock mode tell files count number objects (with_change objects key p.changes.new 2) old new (deleted key pick bytes (replied p.changes.reply [])) turn left given later reads faults more after
-      (agrees_drawn clock mode tell files count objects key given later faults more before after begins.agrees makes.draws) (room_drawn clock mode tell files count number key objects id now old new before begins)
+      (agrees_drawn objects key 2 before after begins.agrees makes.draws) (room_drawn clock mode tell files count number key objects id now old new before 2 (omega arith) begins)
       (λ all.
       let r = begins.ready all in
       let same = shown_is clock mode tell files count number (number + number) objects key p.state old begins.some all r p.canonical p.shown in
-      let step = step_of number (number + number) key pick objects id now old makes.text makes.gone (Some makes.file) p same in
-      let ready = ready_written files number (number + number) 2 objects key p.changes.new old w.mid begins.few begins.some w.same r
-      p.changes.has_file.1 (delete_step_uploads (objects.states key) p.changes.new mode pick id now p.changes.reply step ∙ r.sound.no_uploads key)
+      let step = step_of mode (act.Delete pick) id now objects key (Shows tell files count old (name_of key)) makes.text makes.gone (Some makes.file) p same in
+      made_ready clock mode tell files count number (number + number) 2 objects key (act.Delete pick) id now (Shows tell files count old (name_of key)) makes.text makes.file makes.gone old new
+      begins.few begins.some all r p same (delete_step_uploads (objects.states key) p.changes.new mode pick id now p.changes.reply step ∙ r.sound.no_uploads key)
       (delete_sound r.owner key pick objects id now p.changes.reply p.changes.new begins.next (r.sound.versions key) step)
-      (delete_datas number (number + number) key pick objects id now p.changes.reply p.changes.new old r step)
-      (λ k d lt. subst (λ f. IsInPlace (loose_name_of number) (name_of key) f (files (slice_index_or old k d)) (files (slice_index_or w.mid k d))) p.changes.has_file.3
-      (w.writes k d lt (tells_each clock mode tell files count old all k d lt) ((r.every k d lt).unused.writes number (omega arith) begins.few))) in
-      let ids = gone_ids p.state.versions p.changes.new.versions in
-      ready_removed files (number + 1) (number + number + 2) (with_change objects key p.changes.new 2) ids w.mid new
-      (let n : length w.mid ≡ length old = w.same in let some = begins.some in omega arith) w.later ready
-      (apart_after clock mode tell files count r.owner objects key p.changes.new ids r.sound.versions (ap (λ (s : KeyState). gone_ids s.versions p.changes.new.versions) same))
-      (λ k d lt. let within : k < length old = (let n : length w.mid ≡ length old = w.same in omega arith) in
-      w.removes ids p.changes.has_file.4 k d lt (subst IsTrue (sym (w.tells k d within)) (tells_each clock mode tell files count old all k d within))))
-      (record {
-        asks = asks;
-        fits = refl;
-        shows = λ all. shows_only clock mode tell files count number (number + number) objects old (begins.ready all);
-        serves = λ all.
-            let same = shown_is clock mode tell files count number (number + number) objects key p.state old begins.some all (begins.ready all) p.canonical p.shown in (
-              record {
-                id = id;
-                now = now;
-                next = is_next clock mode tell files count number key objects id now old new before begins all;
-                state = p.changes.new;
-                step = step_of number (number + number) key pick objects id now old makes.text makes.gone (Some makes.file) p same;
-                is = inr ((λ e. p.changes.has_file.2 (e ∙ sym same)), refl);
-              },
-              refl,
-            );
-        cause = tt;
-        counts = counts_each clock mode tell files count old new begins.same begins.counts;
-      }) (subst (λ t. Gives t turn given later faults more) p.changes.texts makes.gives)
+      (delete_datas number (number + number) key pick objects id now p.changes.reply p.changes.new old r step) makes.writes)
+      (delete_steps number key pick objects (with_change objects key p.changes.new 2) id now old new before bytes makes.text makes.gone (Some makes.file) begins asks p (λ same. inr ((λ e. p.changes.has_file.2 (e ∙ sym same)), refl)))
+      (subst (λ t. Gives t turn given later faults more) p.changes.texts makes.gives)
 
   pub delete_turn : (number : ℕ) (key : List ℕ) (pick : Pick) (objects : Objects) (id : VersionId) (now : ℕ) (old new : List D) (turn : Turn)
       (left given later : Option (List ℕ)) (reads faults more : ℕ) (before after : Drawn) (bytes : List ℕ)

@@ -1,4 +1,4 @@
--- What stages and writes leave of what one drive keeps of the objects, and what slots drew.
+-- What stages and writes leave of what one drive keeps of the objects.
 use Rattle.std.proofs.Common.{◌≡◌, ◌≢◌, inl, inr, ℕ, ◌+◌, ◌<◌, ◌≤◌, Bool, true, false, cond, List, [], ◌∷◌, Some, None, refl, sym, ap, ◌∙◌, subst, arith, bytes_eq, nat_eq}
 use Rattle.std.specs.List.{AllByRecursion}
 use Rattle.stamp_id.specs.declared.version.VersionId.{VersionId}
@@ -15,20 +15,9 @@ use Rattle.ostore.specs.KeyFiles.{StandsFor, key_file}
 use Rattle.ostore.specs.Objects.{Objects, with_body, with_numbers, with_change, with_state}
 use Rattle.ostore.specs.Slots.{slot_of, Drawn, with_drawn, IsIdOf, WasDrawn}
 use Rattle.ostore.specs.Store.{KeepsSomeState, IsUnused, KeepsAll, AreSound}
-use Rattle.ostore.proofs.DataNames.{shard_name-injective, loose_shards_differ, loose_manifests_differ}
 use Rattle.ostore.proofs.HolderLemmas.{only_less, only_staged, staged_shows, staged_loose, staged_kept}
-use Rattle.ostore.proofs.NameLemmas.{loose_names_differ}
-use Rattle.ostore.proofs.StateLemmas.{next_not_drawn}
-
--- ---- lists
-
-pub all_map : {X : Type 0} (P Q : X → Type 0) (xs : List X) → ((x : X) → P x → Q x) → AllByRecursion P xs → AllByRecursion Q xs
-all_map P Q [] each all = tt
-all_map P Q (x ∷ xs) each all = (each x all.0, all_map P Q xs each all.1)
-
-pub all_zip : {X : Type 0} (P Q R : X → Type 0) (xs : List X) → ((x : X) → P x → Q x → R x) → AllByRecursion P xs → AllByRecursion Q xs → AllByRecursion R xs
-all_zip P Q R [] each p q = tt
-all_zip P Q R (x ∷ xs) each p q = (each x p.0 q.0, all_zip P Q R xs each p.1 q.1)
+use Rattle.ostore.proofs.NameLemmas.{shard_name-injective, loose_names_differ, loose_shards_differ, loose_manifests_differ}
+use Rattle.ostore.proofs.DrawnLemmas.{above_less, later_apart, next_not_drawn}
 
 -- ---- one drive's write
 
@@ -43,62 +32,6 @@ loose_elsewhere loose name body other a b (inr w) apart = w.others other apart
 pub kept_elsewhere : (loose name body other : List ℕ) (a b : Files) → MayBeWritten loose name body a b → bytes_eq name other ≡ false → b.kept other ≡ a.kept other
 kept_elsewhere loose name body other a b (inl w) apart = ap (λ f. f other) w.kept
 kept_elsewhere loose name body other a b (inr w) apart = ap (λ f. f other) w.kept ∙ ap (λ t. cond t (Some body) (a.kept other)) apart
-
--- an id that was drawn isn't its slot's next
-pub drawn_before : (drawn : Drawn) (slot : ℕ) (id d : VersionId) → IsIdOf slot (drawn slot + 1) id → (other : ℕ) → WasDrawn drawn other d → id ≢ d
-drawn_before drawn slot id d is other was e =
-    let same_slot : other ≡ slot = sym was.slot_is ∙ ap (λ (v : VersionId). v.slot) (sym e) ∙ is.slot_is in
-    let seqs : id.change.0.seq ≡ d.change.0.seq = ap (λ (v : VersionId). v.change.0.seq) e in
-    let low : d.change.0.seq ≤ drawn slot = subst (λ s. d.change.0.seq ≤ drawn s) same_slot was.low in
-    let next : id.change.0.seq ≡ drawn slot + 1 = is.number_is in
-    omega arith
-
-false_not_true : false ≡ true → ⊥
-false_not_true p = cc
-
--- an id above what its slot has drawn, with the next number too, is another one, and was above before
-pub later_apart : (drawn : Drawn) (slot : ℕ) (id d : VersionId) → IsIdOf slot (drawn slot + 1) id → with_drawn drawn slot (drawn slot + 1) d.slot < d.change.0.seq
-    → (id ≢ d) × (drawn d.slot < d.change.0.seq)
-later_apart drawn slot id d is above = by (nat_eq slot d.slot) refl
-  where
-    by : (b : Bool) → nat_eq slot d.slot ≡ b → (id ≢ d) × (drawn d.slot < d.change.0.seq)
-    by true e =
-        let same : slot ≡ d.slot = eqb-true slot d.slot e in
-        let high : drawn slot + 1 < d.change.0.seq = subst (λ t. cond t (drawn slot + 1) (drawn d.slot) < d.change.0.seq) e above in
-        let next : id.change.0.seq ≡ drawn slot + 1 = is.number_is in (
-          (λ p. let seqs : id.change.0.seq ≡ d.change.0.seq = ap (λ (v : VersionId). v.change.0.seq) p in omega arith),
-          subst (λ s. drawn s < d.change.0.seq) same (omega arith),
-        )
-    by false e =
-        let high : drawn d.slot < d.change.0.seq = subst (λ t. cond t (drawn slot + 1) (drawn d.slot) < d.change.0.seq) e above in
-        ((λ p. false_not_true (sym e ∙ eq-eqb slot d.slot (sym is.slot_is ∙ ap (λ (v : VersionId). v.slot) p))), high)
-
--- drawing more keeps what is above
-pub above_less : (drawn : Drawn) (slot n : ℕ) (other m : ℕ) → drawn slot ≤ n → with_drawn drawn slot n other < m → drawn other < m
-above_less drawn slot n other m more above = by (nat_eq slot other) refl
-  where
-    by : (b : Bool) → nat_eq slot other ≡ b → drawn other < m
-    by true e =
-        let same : slot ≡ other = eqb-true slot other e in
-        let high : n < m = subst (λ t. cond t n (drawn other) < m) e above in
-        subst (λ s. drawn s < m) same (omega arith)
-    by false e = subst (λ t. cond t n (drawn other) < m) e above
-
--- ---- what a slot drew
-
-pub drawn_more : (drawn : Drawn) (slot n other : ℕ) → drawn slot ≤ n → drawn other ≤ with_drawn drawn slot n other
-drawn_more drawn slot n other more = by (nat_eq slot other) refl
-  where
-    by : (b : Bool) → nat_eq slot other ≡ b → drawn other ≤ with_drawn drawn slot n other
-    by true e = subst (λ t. drawn other ≤ cond t n (drawn other)) (sym e) (subst (λ s. drawn s ≤ n) (eqb-true slot other e) more)
-    by false e = subst (λ t. drawn other ≤ cond t n (drawn other)) (sym e) (omega arith)
-
-pub drawn_most : (drawn : Drawn) (slot n most other : ℕ) → n ≤ most → drawn other ≤ most → with_drawn drawn slot n other ≤ most
-drawn_most drawn slot n most other low was = by (nat_eq slot other) refl
-  where
-    by : (b : Bool) → nat_eq slot other ≡ b → with_drawn drawn slot n other ≤ most
-    by true e = subst (λ t. cond t n (drawn other) ≤ most) (sym e) low
-    by false e = subst (λ t. cond t n (drawn other) ≤ most) (sym e) was
 
 -- ---- a drive after a stage
 

@@ -24,6 +24,7 @@ use Rattle.ostore.specs.Holders.{the_set}
 use Rattle.ostore.specs.Leaves.{FilesStay, Shows}
 use Rattle.ostore.specs.Session.{IsRead, IsReadOf}
 use Rattle.ostore.proofs.StateLemmas.{read_is_object}
+use Rattle.ostore.proofs.ListLemmas.{first_of}
 
 -- the version at the place of a read is in the list, and is no marker
 pub version_at : (versions : List Version) (pick : Pick) (place : ℕ) (v : Version) → Reads versions pick (Ok place) → v ≡ slice_index_or versions place v
@@ -45,10 +46,6 @@ module _ {D : Type 0} (tell : D → Bool) (files : D → Files) (count : D → �
   abbrev view_of : D → DriveView
   view_of d = record { tells = tell d; files = files d }
 
-  drive_at : (drives : List D) (k : ℕ) → k < length drives → D
-  drive_at [] k lt = absurd (omega arith)
-  drive_at (d ∷ drives) k lt = d
-
   view_at : (drives : List D) (k : ℕ) (d : D) (v : DriveView) → k < length drives → slice_index_or (views_of tell files drives) k v ≡ view_of (slice_index_or drives k d)
   view_at drives k d v lt = get_or-map view_of drives k d v lt
 
@@ -57,7 +54,7 @@ module _ {D : Type 0} (tell : D → Bool) (files : D → Files) (count : D → �
   -- what was read of a drive is seen
   read_seen : (drives : List D) (bytes : List ℕ) → WasRead tell files drives bytes → WasRead tells_of files_of (views_of tell files drives) bytes
   read_seen drives bytes (k, lt, shown) =
-      let d = drive_at drives k lt in (
+      let d = first_of drives (omega arith) in (
         k,
         subst (λ n. k < n) (sym (length-map drives view_of)) lt,
         λ v. subst (λ (w : DriveView). IsTrue w.tells → IsShown w.files bytes) (sym (view_at drives k d v lt)) (shown d),
@@ -69,7 +66,7 @@ module _ {D : Type 0} (tell : D → Bool) (files : D → Files) (count : D → �
   read_before old mid bytes same tells stays (k, lt, shown) =
       let there : k < length mid = subst (λ n. k < n) (length-map mid view_of) lt in
       let within : k < length old = omega arith in
-      let d = drive_at old k within in
+      let d = first_of old (omega arith) in
       let seen : IsTrue (tell (slice_index_or mid k d)) → IsShown (files (slice_index_or mid k d)) bytes =
       subst (λ (w : DriveView). IsTrue w.tells → IsShown w.files bytes) (view_at mid k d (view_of d) there) (shown (view_of d)) in (
         k,

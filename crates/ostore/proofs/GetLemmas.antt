@@ -24,13 +24,14 @@ use Rattle.ostore.specs.Replies.{found_reply, unavailable_text}
 use Rattle.ostore.specs.Session.{Exchange, IsReadOf, Gives, wires, Agrees, TurnOver}
 use Rattle.ostore.specs.Slots.{Drawn}
 use Rattle.ostore.specs.Store.{Ready, HasDataOf, IsSound}
-use Rattle.ostore.proofs.CommitLemmas.{first_of}
+use Rattle.ostore.proofs.ListLemmas.{first_of}
 use Rattle.ostore.proofs.LostLemmas.{data_cause}
 use Rattle.ostore.proofs.SessionLemmas.{nothing_taken, nothing_given}
 use Rattle.ostore.proofs.StandsLemmas.{all_or_not, shown_is, shows_only, keys_cause}
 use Rattle.ostore.proofs.StateLemmas.{reads_one}
-use Rattle.ostore.proofs.StoreLemmas.{ready_same, ready_later}
-use Rattle.ostore.proofs.TurnLemmas.{tells_each, tells_same, counts_each, counts_same, cause_of_some, answered, unanswered}
+use Rattle.ostore.proofs.StoreLemmas.{ready_same}
+use Rattle.ostore.proofs.TurnLemmas.{tells_each, tells_same, counts_each, counts_same, cause_of_some, answered, unanswered, room_kept}
+use Rattle.ostore.proofs.ChangeLemmas.{ready_after}
 
 -- the exchange of a GET
 abbrev asked : List ℕ → Pick → List ℕ → Answer → Exchange
@@ -60,16 +61,9 @@ module _ {D : Type 0} (clock : Option ℕ) (mode : Mode) (tell : D → Bool) (fi
   some_of : (number : ℕ) (objects : Objects) (old new : List D) (drawn : Drawn) → Opens number objects old new drawn → 0 < length old
   some_of number objects old new drawn opens = let four : length old ≡ 4 = opens.four in omega arith
 
-  ready_after : (number : ℕ) (objects : Objects) (old new : List D) (drawn : Drawn) → Opens number objects old new drawn → AllTell (map tell old)
+  opened_ready : (number : ℕ) (objects : Objects) (old new : List D) (drawn : Drawn) → Opens number objects old new drawn → AllTell (map tell old)
       → Ready files (number + 1) (number + number + 2) objects new
-  ready_after number objects old new drawn opens all =
-      ready_later files number (number + 1) (number + number) (number + number + 2) objects new (omega arith) (omega arith)
-      (ready_same files number (number + number) objects old new (some_of number objects old new drawn opens) opens.same (opens.ready all)
-      (λ k d lt. opens.stays k d lt (tells_each clock mode tell files count old all k d lt)))
-
-  room_after : (number : ℕ) (objects : Objects) (old new : List D) (drawn : Drawn) → Opens number objects old new drawn → (slot : ℕ) → objects.drawn slot ≤ number + number + 2
-  room_after number objects old new drawn opens slot =
-      let low : objects.drawn slot ≤ number + number = subst (λ n. n ≤ number + number) (opens.agrees slot) (opens.room slot) in omega arith
+  opened_ready number objects old new drawn opens = ready_after clock mode tell files count number objects old new (some_of number objects old new drawn opens) opens.same opens.ready opens.stays
 
   -- the state refuses the GET
   get_nothing : (number : ℕ) (key : List ℕ) (pick : Pick) (objects : Objects) (old new : List D) (turn : Turn)
@@ -80,7 +74,7 @@ module _ {D : Type 0} (clock : Option ℕ) (mode : Mode) (tell : D → Bool) (fi
       → TurnOver clock mode tell files count number bytes objects old (wires left given reads faults) turn new (wires left later reads more) drawn
   get_nothing number key pick objects old new turn left given later reads faults more drawn bytes opens asks calm text state same nothing gives =
       answered clock mode tell files count number objects objects old new (asked key pick bytes (replied (Refused (refusal_of nothing.why)) [])) turn left given later reads faults more drawn
-      opens.agrees (room_after number objects old new drawn opens) (ready_after number objects old new drawn opens)
+      opens.agrees (room_kept number drawn objects opens.agrees opens.room) (opened_ready number objects old new drawn opens)
       (record {
         asks = asks;
         fits = refl;
@@ -108,7 +102,7 @@ module _ {D : Type 0} (clock : Option ℕ) (mode : Mode) (tell : D → Bool) (fi
       → TurnOver clock mode tell files count number bytes objects old (wires left given reads faults) turn new (wires left later reads more) drawn
   get_one number key pick objects old new turn left given later reads faults more drawn bytes opens asks text state same one gives =
       answered clock mode tell files count number objects objects old new (asked key pick bytes (replied (found_reply mode one.version one.gives.body) one.gives.body)) turn left given later reads faults more drawn
-      opens.agrees (room_after number objects old new drawn opens) (ready_after number objects old new drawn opens)
+      opens.agrees (room_kept number drawn objects opens.agrees opens.room) (opened_ready number objects old new drawn opens)
       (record {
         asks = asks;
         fits = one.gives.read;
@@ -198,7 +192,7 @@ module _ {D : Type 0} (clock : Option ℕ) (mode : Mode) (tell : D → Bool) (fi
       → TurnOver clock mode tell files count number bytes objects old (wires left given reads faults) turn new (wires left later reads more) drawn
   get_unread number key pick objects old new turn left given later reads faults more drawn bytes opens asks unread gives =
       answered clock mode tell files count number objects objects old new (asked key pick bytes unavailable) turn left given later reads faults more drawn
-      opens.agrees (room_after number objects old new drawn opens) (ready_after number objects old new drawn opens)
+      opens.agrees (room_kept number drawn objects opens.agrees opens.room) (opened_ready number objects old new drawn opens)
       (record {
         asks = asks;
         fits = tt;
@@ -217,7 +211,7 @@ module _ {D : Type 0} (clock : Option ℕ) (mode : Mode) (tell : D → Bool) (fi
       → TurnOver clock mode tell files count number bytes objects old (wires left given reads faults) (Ended NoMemory) new (wires left given reads faults) drawn
   get_starved number key pick objects old new left given reads faults drawn bytes opens asks =
       unanswered clock mode tell files count number bytes [] objects objects old new (wires left given reads faults) (wires left given reads faults) NoMemory drawn refl
-      opens.agrees (room_after number objects old new drawn opens) (ready_after number objects old new drawn opens)
+      opens.agrees (room_kept number drawn objects opens.agrees opens.room) (opened_ready number objects old new drawn opens)
       (counts_each clock mode tell files count old new opens.same opens.counts)
       (record { took = nothing_taken left; gave = nothing_given given; reads = omega arith; writes = omega arith })
       (inr (get key pick, subst (SpellsGet key pick) (sym (append-nil bytes)) asks), refl)

@@ -16,9 +16,10 @@ use Rattle.version_list.proofs.NamingLemmas.{same_id-refl}
 use Rattle.body_print.specs.Names.{shard_name, manifest_name}
 use Rattle.ostore.specs.Holders.{data_names}
 use Rattle.ostore.specs.Slots.{Drawn}
-use Rattle.ostore.proofs.DataNames.{shard_names_differ, manifest_names_differ}
-use Rattle.ostore.specs.Store.{HasDataOf, IsSound}
-use Rattle.ostore.proofs.StateLemmas.{each_passed}
+use Rattle.ostore.proofs.NameLemmas.{shard_names_differ, manifest_names_differ}
+use Rattle.ostore.specs.Store.{HasDataOf, IsSound, IsNoneOf}
+use Rattle.ostore.proofs.ListLemmas.{each_passed}
+use Rattle.std.proofs.lemmas.Bool.{or_parts}
 
 -- a fact of the data of a version; a marker has none
 abbrev pub OnData : (VersionId → Type 0) → What → Type 0
@@ -27,7 +28,7 @@ OnData F (Object data_id print size md5 parts upload kind) = F data_id
 
 -- the names of the data aren't among these
 abbrev pub IsNotAmong : List (List ℕ) → VersionId → Type 0
-IsNotAmong names id = (list_any (λ n. bytes_eq n (shard_name id)) names ≡ false) × (list_any (λ n. bytes_eq n (manifest_name id)) names ≡ false)
+IsNotAmong names id = IsNoneOf names (shard_name id) × IsNoneOf names (manifest_name id)
 
 -- a weaker fact of the data
 pub on_data : (F G : VersionId → Type 0) → ((id : VersionId) → F id → G id) → (what : What) → OnData F what → OnData G what
@@ -60,14 +61,6 @@ not_true : (b : Bool) → not b ≡ true → b ≡ false
 not_true true h = absurd cc
 not_true false h = refl
 
-left_false : (a b : Bool) → (a || b) ≡ false → a ≡ false
-left_false true b h = absurd cc
-left_false false b h = refl
-
-right_false : (a b : Bool) → (a || b) ≡ false → b ≡ false
-right_false true b h = absurd cc
-right_false false b h = h
-
 not_the_data :
     (what : What) (gone : List VersionId) → AllByRecursion (λ g. is_data g what ≡ false) gone
     → OnData (λ d. AllByRecursion (λ g. same_id d g ≡ false) gone) what
@@ -80,9 +73,9 @@ not_among_new :
 not_among_new gone [] all = tt
 not_among_new gone (v ∷ new) all = (
   not_the_data v.what gone
-      (each_item (λ g. list_any (has_data g) (v ∷ new) ≡ false) (λ g. is_data g v.what ≡ false) (λ g h. left_false (is_data g v.what) (list_any (has_data g) new) h) gone all),
+      (each_item (λ g. list_any (has_data g) (v ∷ new) ≡ false) (λ g. is_data g v.what ≡ false) (λ g h. (or_parts (is_data g v.what) (list_any (has_data g) new) h).0) gone all),
   not_among_new gone new
-      (each_item (λ g. list_any (has_data g) (v ∷ new) ≡ false) (λ g. list_any (has_data g) new ≡ false) (λ g h. right_false (is_data g v.what) (list_any (has_data g) new) h) gone all),
+      (each_item (λ g. list_any (has_data g) (v ∷ new) ≡ false) (λ g. list_any (has_data g) new ≡ false) (λ g h. (or_parts (is_data g v.what) (list_any (has_data g) new) h).1) gone all),
 )
 
 -- no new version has data that is gone

@@ -8,7 +8,7 @@ use Rattle.std.proofs.lemmas.List.Elements.{All-tail}
 use Rattle.std.proofs.Math.Seq.{take-append_seam, drop-append_seam}
 use Rattle.call_types.specs.declared.names.Pick.{Pick}
 use Rattle.call_types.specs.declared.names.Pick.TheVariants.{Current, Null, Id}
-use Rattle.ostore.specs.Heads.{IsKey, query_of, blank_line}
+use Rattle.ostore.specs.Heads.{IsKey, query_of, blank_line, SpellsNamed}
 
 -- the run of passing bytes at the front of xs ++ ys is xs
 pub run_length : (p : ℕ → Bool) (xs ys : List ℕ) → AllPass p xs → prefix_len p ys ≡ 0 → prefix_len p (xs ++ ys) ≡ length xs
@@ -43,6 +43,13 @@ regrouped a b c d = simp append_assoc
 -- what follows a and what follows the key c, as one list each
 pub named_parts : (a b c d e f : List ℕ) → a ++ b ++ c ++ d ++ e ++ f ≡ a ++ (b ++ c ++ (d ++ e ++ f))
 named_parts a b c d e f = simp append_assoc
+
+-- what follows the method in the head of a request that names a version
+pub named_target : (bytes method target key : List ℕ) (pick : Pick) → bytes ≡ method ++ target → SpellsNamed method key pick bytes
+    → target ≡ codes " /pic/" ++ key ++ (query_of pick ++ codes " HTTP/1.1" ++ blank_line)
+named_target bytes method target key pick stripped spells =
+    append_cancel_left method target (codes " /pic/" ++ key ++ (query_of pick ++ codes " HTTP/1.1" ++ blank_line))
+    (sym stripped ∙ spells.is ∙ named_parts method (codes " /pic/") key (query_of pick) (codes " HTTP/1.1") blank_line)
 
 -- what may follow the key of a GET or a DELETE begins with no letter or digit
 pub stops-query_of : (pick : Pick) → prefix_len is_ascii_alphanumeric (query_of pick ++ codes " HTTP/1.1" ++ blank_line) ≡ 0

@@ -26,10 +26,10 @@ use Rattle.put_stage.specs.OnDrives.{Leaves, MayBeStaged, LeavesOf, CauseOf, man
 use Rattle.put_stage.specs.Outcomes.{manifest_of, Wrote, IsShort}
 use Rattle.ostore.specs.Store.{HasNoLoose}
 use Rattle.ostore.specs.Drives.{SomeDrive, DriveCause}
-use Rattle.ostore.specs.Holders.{the_set}
-use Rattle.ostore.specs.Holders.{IsPrintOf, Coding, shard_file, manifest_file, Holds, HasOnly, HasHolders, IsHeld}
+use Rattle.ostore.specs.Holders.{the_set, IsPrintOf, Coding, shard_file, manifest_file, Holds, IsNothingOr, HasOnly, HasHolders, IsHeld}
 use Rattle.ostore.proofs.GoneLemmas.{OnData}
 use Rattle.ostore.proofs.CountLemmas.{but_one_passes, one_fails}
+use Rattle.ostore.proofs.NameLemmas.{with_name-here}
 
 -- ---- the print
 
@@ -78,40 +78,27 @@ print_of_shards body print shards p are =
 abbrev pub KeepsSame : VersionId → Files → Files → Type 0
 KeepsSame id a b = (b.kept (shard_name id) ≡ a.kept (shard_name id)) × (b.kept (manifest_name id) ≡ a.kept (manifest_name id))
 
+-- what there is stays, or is gone
+nothing_or_less : (file_for : (body : List ℕ) → Coding body → List ℕ) (bodies later : Named (List ℕ)) (id : VersionId) (a b : Option (List ℕ)) → later (shard_name id) ≡ bodies (shard_name id)
+    → (b ≡ a) ⊎ (b ≡ None) → IsNothingOr file_for bodies id a → IsNothingOr file_for later id b
+nothing_or_less file_for bodies later id a b same (inr none) was = inl none
+nothing_or_less file_for bodies later id a b same (inl e) (inl none) = inl (e ∙ none)
+nothing_or_less file_for bodies later id a b same (inl e) (inr (body, coding, brought, there)) = inr (body, coding, same ∙ brought, e ∙ there)
+
 -- what is under the names of an id stays, or is gone
 pub only_less : (bodies later : Named (List ℕ)) (k : ℕ) (id : VersionId) (a b : Named (List ℕ)) → later (shard_name id) ≡ bodies (shard_name id)
     → ((b (shard_name id) ≡ a (shard_name id)) ⊎ (b (shard_name id) ≡ None)) → ((b (manifest_name id) ≡ a (manifest_name id)) ⊎ (b (manifest_name id) ≡ None))
     → HasOnly bodies k id a → HasOnly later k id b
-only_less bodies later k id a b same shards manifests only = record { shard = shard shards only.shard; manifest = manifest manifests only.manifest }
-  where
-    shard : ((b (shard_name id) ≡ a (shard_name id)) ⊎ (b (shard_name id) ≡ None))
-        → ((a (shard_name id) ≡ None) ⊎ ((body : List ℕ) × (coding : Coding body) × (bodies (shard_name id) ≡ Some body) × (a (shard_name id) ≡ Some (shard_file body coding k))))
-        → (b (shard_name id) ≡ None) ⊎ ((body : List ℕ) × (coding : Coding body) × (later (shard_name id) ≡ Some body) × (b (shard_name id) ≡ Some (shard_file body coding k)))
-    shard (inr none) was = inl none
-    shard (inl e) (inl none) = inl (e ∙ none)
-    shard (inl e) (inr (body, coding, brought, there)) = inr (body, coding, same ∙ brought, e ∙ there)
+only_less bodies later k id a b same shards manifests only = record {
+  shard = nothing_or_less (λ body coding. shard_file body coding k) bodies later id (a (shard_name id)) (b (shard_name id)) same shards only.shard;
+  manifest = nothing_or_less (manifest_file id) bodies later id (a (manifest_name id)) (b (manifest_name id)) same manifests only.manifest;
+}
 
-    manifest : ((b (manifest_name id) ≡ a (manifest_name id)) ⊎ (b (manifest_name id) ≡ None))
-        → ((a (manifest_name id) ≡ None) ⊎ ((body : List ℕ) × (coding : Coding body) × (bodies (shard_name id) ≡ Some body) × (a (manifest_name id) ≡ Some (manifest_file id body coding))))
-        → (b (manifest_name id) ≡ None) ⊎ ((body : List ℕ) × (coding : Coding body) × (later (shard_name id) ≡ Some body) × (b (manifest_name id) ≡ Some (manifest_file id body coding)))
-    manifest (inr none) was = inl none
-    manifest (inl e) (inl none) = inl (e ∙ none)
-    manifest (inl e) (inr (body, coding, brought, there)) = inr (body, coding, same ∙ brought, e ∙ there)
-
--- where no body was brought, nothing is under the names
-nothing_under : (bodies : Named (List ℕ)) (k : ℕ) (id : VersionId) (named : Named (List ℕ)) → bodies (shard_name id) ≡ None → HasOnly bodies k id named
-    → (named (shard_name id) ≡ None) × (named (manifest_name id) ≡ None)
-nothing_under bodies k id named none only = (shard only.shard, manifest only.manifest)
-  where
-    shard : ((named (shard_name id) ≡ None) ⊎ ((body : List ℕ) × (coding : Coding body) × (bodies (shard_name id) ≡ Some body) × (named (shard_name id) ≡ Some (shard_file body coding k))))
-        → named (shard_name id) ≡ None
-    shard (inl e) = e
-    shard (inr (body, coding, brought, there)) = absurd (let e : None ≡ Some body = sym none ∙ brought in cc)
-
-    manifest : ((named (manifest_name id) ≡ None) ⊎ ((body : List ℕ) × (coding : Coding body) × (bodies (shard_name id) ≡ Some body) × (named (manifest_name id) ≡ Some (manifest_file id body coding))))
-        → named (manifest_name id) ≡ None
-    manifest (inl e) = e
-    manifest (inr (body, coding, brought, there)) = absurd (let e : None ≡ Some body = sym none ∙ brought in cc)
+-- where no body was brought there is nothing
+none_brought : (file_for : (body : List ℕ) → Coding body → List ℕ) (bodies : Named (List ℕ)) (id : VersionId) (there : Option (List ℕ)) → bodies (shard_name id) ≡ None
+    → IsNothingOr file_for bodies id there → there ≡ None
+none_brought file_for bodies id there none (inl e) = e
+none_brought file_for bodies id there none (inr (body, coding, brought, is)) = absurd (let e : None ≡ Some body = sym none ∙ brought in cc)
 
 -- ---- one drive's stage
 
@@ -134,16 +121,13 @@ staged_kept id m s name a b (inr (inr w)) shard manifest =
     ap (λ f. f name) w.kept ∙ ap (λ t. cond t (Some s) (cond (bytes_eq (manifest_name id) name) (Some m) (a.kept name))) shard
     ∙ ap (λ t. cond t (Some m) (a.kept name)) manifest
 
-here : (named : Named (List ℕ)) (name : List ℕ) (w : Option (List ℕ)) → with_name named name w name ≡ w
-here named name w = update_same bytes_eq named name w name ((bytes_eq-Decides name name).1 refl)
-
 -- both files are in place
 pub both_hold : (id : VersionId) (body : List ℕ) (coding : Coding body) (k : ℕ) (a b : Files)
     → Leaves (manifest_and_shard id (manifest_file id body coding) (shard_file body coding k)) (manifest_and_shard id (manifest_file id body coding) (shard_file body coding k)) a b
     → Holds id body coding k b
 both_hold id body coding k a b w = record {
-  shard = ap (λ f. f (shard_name id)) w.kept ∙ here (with_name a.kept (manifest_name id) (Some (manifest_file id body coding))) (shard_name id) (Some (shard_file body coding k));
-  manifest = ap (λ f. f (manifest_name id)) w.kept ∙ here a.kept (manifest_name id) (Some (manifest_file id body coding));
+  shard = ap (λ f. f (shard_name id)) w.kept ∙ with_name-here (with_name a.kept (manifest_name id) (Some (manifest_file id body coding))) (shard_name id) (Some (shard_file body coding k));
+  manifest = ap (λ f. f (manifest_name id)) w.kept ∙ with_name-here a.kept (manifest_name id) (Some (manifest_file id body coding));
 }
 
 -- a stage leaves nothing else under the names of its id
@@ -151,11 +135,10 @@ pub only_staged : (bodies : Named (List ℕ)) (id : VersionId) (body : List ℕ)
     → bodies (shard_name id) ≡ None → HasOnly bodies k id a.kept → MayBeStaged (manifest_and_shard id (manifest_file id body coding) (shard_file body coding k)) a b
     → HasOnly (with_name bodies (shard_name id) (Some body)) k id b.kept
 only_staged bodies id body coding k a b none only staged =
-    let was = nothing_under bodies k id a.kept none only in
-    by staged was
+    by staged (none_brought (λ b c. shard_file b c k) bodies id (a.kept (shard_name id)) none only.shard, none_brought (manifest_file id) bodies id (a.kept (manifest_name id)) none only.manifest)
   where
     brought : with_name bodies (shard_name id) (Some body) (shard_name id) ≡ Some body
-    brought = here bodies (shard_name id) (Some body)
+    brought = with_name-here bodies (shard_name id) (Some body)
 
     by : MayBeStaged (manifest_and_shard id (manifest_file id body coding) (shard_file body coding k)) a b → (a.kept (shard_name id) ≡ None) × (a.kept (manifest_name id) ≡ None)
         → HasOnly (with_name bodies (shard_name id) (Some body)) k id b.kept
@@ -165,7 +148,7 @@ only_staged bodies id body coding k a b none only staged =
     }
     by (inr (inl w)) was = record {
       shard = inl (ap (λ f. f (shard_name id)) w.kept ∙ was.0);
-      manifest = inr (body, coding, brought, ap (λ f. f (manifest_name id)) w.kept ∙ here a.kept (manifest_name id) (Some (manifest_file id body coding)));
+      manifest = inr (body, coding, brought, ap (λ f. f (manifest_name id)) w.kept ∙ with_name-here a.kept (manifest_name id) (Some (manifest_file id body coding)));
     }
     by (inr (inr w)) was =
         let holds = both_hold id body coding k a b w in

@@ -4,8 +4,8 @@ pub mod ChangeLemmas
 pub mod CommitLemmas
 pub mod ConnectionLemmas
 pub mod CountLemmas
-pub mod DataNames
 pub mod DeleteLemmas
+pub mod DrawnLemmas
 pub mod DriveLemmas
 pub mod Filling
 pub mod FindingLemmas
@@ -14,6 +14,7 @@ pub mod GoneLemmas
 pub mod HeadLemmas
 pub mod HolderLemmas
 pub mod KeyFileLemmas
+pub mod ListLemmas
 pub mod LostLemmas
 pub mod MakingLemmas
 pub mod NameLemmas

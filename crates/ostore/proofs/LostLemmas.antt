@@ -34,11 +34,10 @@ use Rattle.sha2.proofs.Facts256.{length-sha256}
 use Rattle.drive_files.specs.Reading.{FailedWhile}
 use Rattle.get_read.specs.Causes.{Wanted, Fits, Serves, IsManifestDamage, IsTableDamage, IsBlockDamage, IsShardDamage, NoManifest, NoBlock, digest_in}
 use Rattle.get_read.specs.Outcomes.{wanted_of, NoneServes, FewBlocks}
-use Rattle.ostore.specs.Holders.{the_set}
 use Rattle.get_read.proofs.ClashLemmas.{digest_of_block}
 use Rattle.ostore.specs.Finding.{DataCause}
 use Rattle.ostore.specs.Drives.{SomeDrive}
-use Rattle.ostore.specs.Holders.{IsPrintOf, Coding, manifest_file, HasOnly, HasHolders}
+use Rattle.ostore.specs.Holders.{the_set, IsPrintOf, Coding, manifest_file, IsNothingOr, HasOnly, HasHolders}
 use Rattle.ostore.proofs.CountLemmas.{another_fails}
 use Rattle.ostore.proofs.HolderLemmas.{none_out, print_of_shards}
 
@@ -155,8 +154,7 @@ only_manifest : (bodies : Named (List ℕ)) (k : ℕ) (id : VersionId) (body : L
     → bodies (shard_name id) ≡ Some body → HasOnly bodies k id named → named (manifest_name id) ≡ Some (file_of m) → IsOnePart id body m
 only_manifest bodies k id body named m canonical few brought only there = by only.manifest
   where
-    by : (named (manifest_name id) ≡ None) ⊎ ((other : List ℕ) × (coding : Coding other) × (bodies (shard_name id) ≡ Some other) × (named (manifest_name id) ≡ Some (manifest_file id other coding)))
-        → IsOnePart id body m
+    by : IsNothingOr (manifest_file id) bodies id (named (manifest_name id)) → IsOnePart id body m
     by (inl none) = absurd (let e : None ≡ Some (file_of m) = sym none ∙ there in cc)
     by (inr (other, coding, was, is)) =
         let same : other ≡ body = (let e : Some other ≡ Some body = sym was ∙ brought in cc) in

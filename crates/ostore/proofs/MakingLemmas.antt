@@ -13,7 +13,10 @@ use Rattle.ostore.specs.Commits.{IsPrepared, NamesId}
 use Rattle.ostore.specs.Holders.{data_names}
 use Rattle.ostore.specs.KeyFiles.{StandsFor, KeyCause}
 use Rattle.ostore.specs.Store.{OnlyRemoves}
-use Rattle.ostore.specs.Leaves.{FilesStay, WritesAll, Shows, LookCause}
+use Rattle.ostore.specs.Leaves.{FilesStay, WritesAll, Shows, LookCause, Sides, CommitLeaves}
+use Rattle.ostore.proofs.ListLemmas.{first_of}
+use Rattle.ostore.proofs.SessionLemmas.{rose_later}
+use Rattle.ostore.specs.declared.connection.Turn.{Turn}
 
 module _ {D : Type 0} (tell : D → Bool) (files : D → Files) (count : D → ℕ) where
   -- after a look that changed nothing, a write is one from before
@@ -60,12 +63,8 @@ module _ {D : Type 0} (tell : D → Bool) (files : D → Files) (count : D → �
       (k, within, λ d. later (slice_index_or old k d) (slice_index_or mid k d) (slice_index_or new k d) (tells k d within) (counts k d within) (cause d))
     where
       later : (a b c : D) → tell b ≡ tell a → count a ≤ count b → DriveCause (tell b) (count b) (count c) → DriveCause (tell a) (count a) (count c)
-      later a b c same low (inl rose) = inl (omega (arith, rose.0), elim rose.1 [ inl up ↦ inl (omega arith) | inr last ↦ inr last ])
+      later a b c same low (inl rose) = inl (rose_later (count a) (count b) (count c) low rose)
       later a b c same low (inr silent) = inr (λ told. silent (subst IsTrue (sym same) told))
-
-  first_of : (old : List D) → 0 < length old → D
-  first_of [] some = absurd (omega arith)
-  first_of (d ∷ ds) some = d
 
   shows_all : (old : List D) (name : List ℕ) (state : KeyState) (c : D) → 0 < length old
       → (IsTrue (tell (slice_index_or old 0 c)) → StandsFor ((files (slice_index_or old 0 c)).shown name) state) → Shows tell files count old name state
@@ -73,13 +72,21 @@ module _ {D : Type 0} (tell : D → Bool) (files : D → Files) (count : D → �
   shows_all (x ∷ xs) name state c some shows = λ d. shows
 
   -- what was prepared of the state that drive 0 shows
-  pub prepared_all : (mode : Mode) (act : Act) (id : VersionId) (now : ℕ) (old : List D) (name text : List ℕ) (file : Option (List ℕ)) (gone : List ℕ) → 0 < length old
+  prepared_all : (mode : Mode) (act : Act) (id : VersionId) (now : ℕ) (old : List D) (name text : List ℕ) (file : Option (List ℕ)) (gone : List ℕ) → 0 < length old
       → ((d : D) → IsPrepared mode act id now (λ state. IsTrue (tell (slice_index_or old 0 d)) → StandsFor ((files (slice_index_or old 0 d)).shown name) state) text file gone)
       → IsPrepared mode act id now (Shows tell files count old name) text file gone
   prepared_all mode act id now old name text file gone some prepared =
       let c = first_of old some in
       let p = prepared c in
       record { state = p.state; canonical = p.canonical; shown = shows_all old name p.state c some p.shown; fresh = p.fresh; changes = p.changes }
+
+  -- the same under the names that the caller knows
+  pub prepared_so : (mode : Mode) (act : Act) (id : VersionId) (now : ℕ) (old : List D) (named name text : List ℕ) (made file : Option (List ℕ)) (gone : List ℕ) → 0 < length old → named ≡ name → made ≡ file
+      → ((d : D) → IsPrepared mode act id now (λ state. IsTrue (tell (slice_index_or old 0 d)) → StandsFor ((files (slice_index_or old 0 d)).shown named) state) text made gone)
+      → IsPrepared mode act id now (Shows tell files count old name) text file gone
+  prepared_so mode act id now old named name text made file gone some same is prepared =
+      subst (λ n. IsPrepared mode act id now (Shows tell files count old n) text file gone) same
+      (subst (λ f. IsPrepared mode act id now (Shows tell files count old named) text f gone) is (prepared_all mode act id now old named text made gone some prepared))
 
   pub look_cause_all : (id : VersionId) (name : List ℕ) (old new : List D) → 0 < length old
       → ((d : D) → SomeDrive (λ a b. KeyCause (tell a) ((files a).shown name) (count a) (count b)) old new
@@ -92,3 +99,13 @@ module _ {D : Type 0} (tell : D → Bool) (files : D → Files) (count : D → �
           → LookCause tell files count id name old new
       by (inl drive) = inl drive
       by (inr n) = inr (record { state = n.state; canonical = n.canonical; shown = shows_all old name n.state (first_of old some) some n.shown; names = n.names })
+
+  -- what a change leaves, said of the act, the slot and the names that the caller knows
+  pub leaves_so : (mode : Mode) (done act : Act) (id : VersionId) (now at slot more : ℕ) (written loose named name : List ℕ) (turn : Turn) (old : List D) (before : Sides) (new : List D) (after : Sides)
+      → done ≡ act → at ≡ slot → written ≡ loose → named ≡ name
+      → CommitLeaves tell files count mode done id now at more written named turn old before new after → CommitLeaves tell files count mode act id now slot more loose name turn old before new after
+  leaves_so mode done act id now at slot more written loose named name turn old before new after same_act same_slot same_loose same_name leaves =
+      subst (λ a. CommitLeaves tell files count mode a id now slot more loose name turn old before new after) same_act
+      (subst (λ s. CommitLeaves tell files count mode done id now s more loose name turn old before new after) same_slot
+      (subst (λ l. CommitLeaves tell files count mode done id now at more l name turn old before new after) same_loose
+      (subst (λ n. CommitLeaves tell files count mode done id now at more written n turn old before new after) same_name leaves)))

@@ -20,16 +20,17 @@ use Rattle.ostore.specs.Holders.{IsPrintOf, Coding, shard_file, manifest_file, H
 use Rattle.ostore.specs.Leaves.{sides, Shows, FilesStay, Starves, LooksInVain, ChangesNothing}
 use Rattle.ostore.specs.Objects.{Objects, Answer, Asks, put, replied, unavailable, put_act, MayPut, with_numbers, with_change, with_body}
 use Rattle.ostore.specs.Replies.{unavailable_text}
-use Rattle.ostore.specs.Session.{Exchange, Gives, Agrees, wires, TurnOver}
+use Rattle.ostore.specs.Session.{Exchange, Gives, Agrees, wires, TurnOver, Step as ExchangeStep, moment}
 use Rattle.ostore.specs.Slots.{slot_of, Drawn, with_drawn}
 use Rattle.ostore.specs.Store.{HasNoLoose, Ready}
-use Rattle.ostore.proofs.ChangeLemmas.{Begins, is_next, room_now, agrees_none}
+use Rattle.ostore.proofs.ChangeLemmas.{Begins, is_next, agrees_none, step_of, agrees_drawn, room_drawn}
 use Rattle.ostore.proofs.StandsLemmas.{shown_is, shows_only, look_cause}
 use Rattle.ostore.proofs.SessionLemmas.{rose_later, nothing_taken, nothing_given}
-use Rattle.ostore.proofs.StateLemmas.{put_version, with_front, with_drawn_here, next_not_drawn}
-use Rattle.ostore.proofs.DriveLemmas.{drawn_most}
+use Rattle.ostore.proofs.StateLemmas.{put_version, with_front}
 use Rattle.ostore.proofs.StoreLemmas.{ready_same, ready_later, ready_staged}
 use Rattle.ostore.proofs.TurnLemmas.{tells_each, tells_same, counts_each, cause_of_some, unanswered, answered}
+use Rattle.ostore.proofs.DrawnLemmas.{with_drawn_here, next_not_drawn}
+use Rattle.version_list.specs.Answers.{IsServed}
 
 -- the exchange of a PUT
 abbrev pub putting : List ℕ → List ℕ → List ℕ → Answer → Exchange
@@ -92,20 +93,6 @@ module _ {D : Type 0} (clock : Option ℕ) (mode : Mode) (tell : D → Bool) (fi
     pub coding : Coding body
     pub stages : IsStagedAs id body coding old mid
     pub holders : AllTell (map tell old) → HasHolders files id body mid
-
-  pub agrees_one : (objects : Objects) (key : List ℕ) (before staged : Drawn) → Agrees before objects
-      → ((slot : ℕ) → staged slot ≡ with_drawn before (slot_of key) (before (slot_of key) + 1) slot)
-      → (slot : ℕ) → staged slot ≡ with_drawn objects.drawn (slot_of key) (objects.drawn (slot_of key) + 1) slot
-  agrees_one objects key before staged agrees draws slot =
-      draws slot ∙ ap (λ (f : Drawn). with_drawn f (slot_of key) (f (slot_of key) + 1) slot) (fun_ext agrees)
-
-  -- the objects draw no more than the room for a request
-  pub room_more : (number : ℕ) (key : List ℕ) (objects : Objects) (id : VersionId) (now : ℕ) (old new : List D) (before : Drawn) (n : ℕ) → n ≤ 2
-      → Begins clock mode tell files count number key objects id now old new before → (slot : ℕ) → with_drawn objects.drawn (slot_of key) (objects.drawn (slot_of key) + n) slot ≤ number + number + 2
-  room_more number key objects id now old new before n few begins slot =
-      let low : objects.drawn (slot_of key) ≤ number + number = subst (λ m. m ≤ number + number) (begins.agrees (slot_of key)) (begins.room (slot_of key)) in
-      drawn_most objects.drawn (slot_of key) (objects.drawn (slot_of key) + n) (number + number + 2) slot (omega arith)
-      (room_now clock mode tell files count number key objects id now old new before begins slot)
 
   -- the drives keep the objects with the body, whatever each of them has of its files
   abbrev pub staged_maybe : (number : ℕ) (key body : List ℕ) (coding : Coding body) (objects : Objects) (id : VersionId) (now : ℕ) (old mid new : List D) (before : Drawn)
@@ -181,7 +168,7 @@ module _ {D : Type 0} (clock : Option ℕ) (mode : Mode) (tell : D → Bool) (fi
       → TurnOver clock mode tell files count number bytes objects old (wires left given reads faults) turn new (wires left later reads more) after
   put_unstaged number key print body coding objects id now old new turn left given later reads faults more before after bytes begins asks draws printed stages cause gives =
       answered clock mode tell files count number objects (with_numbers (with_body objects id body) key 1) old new (putting key body bytes unavailable) turn left given later reads faults more after
-      (agrees_one objects key before after begins.agrees draws) (room_more number key objects id now old new before 1 (omega arith) begins)
+      (agrees_drawn objects key 1 before after begins.agrees draws) (room_drawn clock mode tell files count number key objects id now old new before 1 (omega arith) begins)
       (λ all. ready_later files number (number + 1) (number + number + 1) (number + number + 2) (with_numbers (with_body objects id body) key 1) new (omega arith) (omega arith)
       (staged_maybe number key body coding objects id now old new new before begins begins.same stages all))
       (record {
@@ -202,8 +189,8 @@ module _ {D : Type 0} (clock : Option ℕ) (mode : Mode) (tell : D → Bool) (fi
       let same_faults : more ≡ faults = starves.faults in
       subst (λ t. TurnOver clock mode tell files count number bytes objects old (wires left given reads faults) t new (wires left later reads more) after) (sym starves.ended)
       (unanswered clock mode tell files count number bytes [] objects (with_numbers (with_body objects id body) key 1) old new (wires left given reads faults) (wires left later reads more) NoMemory after refl
-      (agrees_none clock mode tell files count (with_numbers (with_body objects id body) key 1) given later faults more staged after (agrees_one objects key before staged st.begins.agrees st.draws) starves.draws)
-      (room_more number key objects id now old new before 1 (omega arith) st.begins) (staged_stays number key body objects id now old mid new before staged st starves.stays)
+      (agrees_none (with_numbers (with_body objects id body) key 1) staged after (agrees_drawn objects key 1 before staged st.begins.agrees st.draws) starves.draws)
+      (room_drawn clock mode tell files count number key objects id now old new before 1 (omega arith) st.begins) (staged_stays number key body objects id now old mid new before staged st starves.stays)
       (counts_each clock mode tell files count old new st.begins.same st.begins.counts)
       (record { took = nothing_taken left; gave = starves.given ∙ nothing_given given; reads = omega arith; writes = omega arith })
       (inr (put key body, subst (Asks (put key body)) (sym (append-nil bytes)) asks), refl))
@@ -215,8 +202,8 @@ module _ {D : Type 0} (clock : Option ℕ) (mode : Mode) (tell : D → Bool) (fi
       → TurnOver clock mode tell files count number bytes objects old (wires left given reads faults) turn new (wires left later reads more) after
   put_looks number key body objects id now old mid new turn left given later reads faults more before staged after bytes st asks looks =
       answered clock mode tell files count number objects (with_numbers (with_body objects id body) key 1) old new (putting key body bytes unavailable) turn left given later reads faults more after
-      (agrees_none clock mode tell files count (with_numbers (with_body objects id body) key 1) given later faults more staged after (agrees_one objects key before staged st.begins.agrees st.draws) looks.draws)
-      (room_more number key objects id now old new before 1 (omega arith) st.begins) (staged_stays number key body objects id now old mid new before staged st looks.stays)
+      (agrees_none (with_numbers (with_body objects id body) key 1) staged after (agrees_drawn objects key 1 before staged st.begins.agrees st.draws) looks.draws)
+      (room_drawn clock mode tell files count number key objects id now old new before 1 (omega arith) st.begins) (staged_stays number key body objects id now old mid new before staged st looks.stays)
       (record {
         asks = asks;
         fits = tt;
@@ -227,18 +214,41 @@ module _ {D : Type 0} (clock : Option ℕ) (mode : Mode) (tell : D → Bool) (fi
         counts = counts_each clock mode tell files count old new st.begins.same st.begins.counts;
       }) looks.gives
 
-  pub put_step_of : (key print body : List ℕ) (objects : Objects) (id : VersionId) (now : ℕ) (mid : List D) (text gone : List ℕ) (file : Option (List ℕ))
-      (p : IsPrepared mode (put_act id print body) id now (Shows tell files count mid (name_of key)) text file gone)
-      → p.state ≡ objects.states key → Step (objects.states key) mode (put_act id print body) id now p.changes.reply p.changes.new
-  put_step_of key print body objects id now mid text gone file p same =
-      subst (λ s. Step s mode (put_act id print body) id now p.changes.reply p.changes.new) same p.changes.step
-
   -- what was prepared is of the objects' state, where the drives tell
   pub put_shown : (number : ℕ) (key body : List ℕ) (objects : Objects) (id : VersionId) (now : ℕ) (old mid new : List D) (before staged : Drawn)
       → (st : Staged number key body objects id now old mid new before staged) → (text gone : List ℕ) (file : Option (List ℕ)) (p : IsPrepared mode (put_act id st.print body) id now (Shows tell files count mid (name_of key)) text file gone)
       → AllTell (map tell old) → p.state ≡ objects.states key
   put_shown number key body objects id now old mid new before staged st text gone file p all =
       shown_is clock mode tell files count number (number + number + 1) (with_numbers (with_body objects id body) key 1) key p.state mid (some_mid number key body objects id now old mid new before staged st) (all_mid number key body objects id now old mid new before staged st all) (staged_ready number key body objects id now old mid new before staged st all) p.canonical p.shown
+
+  -- a PUT that is answered as its change says
+  pub put_steps : (number : ℕ) (key body : List ℕ) (objects later : Objects) (id : VersionId) (now : ℕ) (old mid new : List D) (before staged : Drawn) (bytes text gone : List ℕ) (file : Option (List ℕ))
+      → (st : Staged number key body objects id now old mid new before staged) → Asks (put key body) bytes
+      → (p : IsPrepared mode (put_act id st.print body) id now (Shows tell files count mid (name_of key)) text file gone)
+      → (p.state ≡ objects.states key
+      → ((IsServed p.changes.reply) × (later ≡ with_change (with_body objects id body) key p.changes.new 2)) ⊎ ((p.changes.new ≡ objects.states key) × (later ≡ with_numbers (with_body objects id body) key 1)))
+      → ExchangeStep clock mode (map tell old) (moment clock mode tell files count objects old) (putting key body bytes (replied p.changes.reply [])) (moment clock mode tell files count later new)
+  put_steps number key body objects later id now old mid new before staged bytes text gone file st asks p is = record {
+    asks = asks;
+    fits = refl;
+    shows = λ all. shows_only clock mode tell files count number (number + number) objects old (st.begins.ready all);
+    serves = λ all.
+        let same = put_shown number key body objects id now old mid new before staged st text gone file p all in (
+          record {
+            id = id;
+            now = now;
+            next = is_next clock mode tell files count number key objects id now old new before st.begins all;
+            print = st.print;
+            printed = st.printed;
+            state = p.changes.new;
+            step = step_of mode (put_act id st.print body) id now objects key (Shows tell files count mid (name_of key)) text gone file p same;
+            is = is same;
+          },
+          refl,
+        );
+    cause = tt;
+    counts = counts_each clock mode tell files count old new st.begins.same st.begins.counts;
+  }
 
   pub put_nothing : (number : ℕ) (key body : List ℕ) (objects : Objects) (id : VersionId) (now : ℕ) (old mid new : List D) (turn : Turn)
       (left given later : Option (List ℕ)) (reads faults more : ℕ) (before staged after : Drawn) (bytes : List ℕ)
@@ -248,26 +258,7 @@ module _ {D : Type 0} (clock : Option ℕ) (mode : Mode) (tell : D → Bool) (fi
   put_nothing number key body objects id now old mid new turn left given later reads faults more before staged after bytes st asks nothing =
       let p = nothing.prepared in
       answered clock mode tell files count number objects (with_numbers (with_body objects id body) key 1) old new (putting key body bytes (replied p.changes.reply [])) turn left given later reads faults more after
-      (agrees_none clock mode tell files count (with_numbers (with_body objects id body) key 1) given later faults more staged after (agrees_one objects key before staged st.begins.agrees st.draws) nothing.draws)
-      (room_more number key objects id now old new before 1 (omega arith) st.begins) (staged_stays number key body objects id now old mid new before staged st nothing.stays)
-      (record {
-        asks = asks;
-        fits = refl;
-        shows = λ all. shows_only clock mode tell files count number (number + number) objects old (st.begins.ready all);
-        serves = λ all.
-            let same = put_shown number key body objects id now old mid new before staged st nothing.text nothing.gone None p all in (
-              record {
-                id = id;
-                now = now;
-                next = is_next clock mode tell files count number key objects id now old new before st.begins all;
-                print = st.print;
-                printed = st.printed;
-                state = p.changes.new;
-                step = put_step_of key st.print body objects id now mid nothing.text nothing.gone None p same;
-                is = inr (p.changes.has_file ∙ same, refl);
-              },
-              refl,
-            );
-        cause = tt;
-        counts = counts_each clock mode tell files count old new st.begins.same st.begins.counts;
-      }) (subst (λ t. Gives t turn given later faults more) p.changes.texts nothing.gives)
+      (agrees_none (with_numbers (with_body objects id body) key 1) staged after (agrees_drawn objects key 1 before staged st.begins.agrees st.draws) nothing.draws)
+      (room_drawn clock mode tell files count number key objects id now old new before 1 (omega arith) st.begins) (staged_stays number key body objects id now old mid new before staged st nothing.stays)
+      (put_steps number key body objects (with_numbers (with_body objects id body) key 1) id now old mid new before staged bytes nothing.text nothing.gone None st asks p (λ same. inr (p.changes.has_file ∙ same, refl)))
+      (subst (λ t. Gives t turn given later faults more) p.changes.texts nothing.gives)

@@ -20,20 +20,8 @@ pub count_rose_later : (a b c : ℕ) → a ≤ b → CountRose b c → CountRose
 count_rose_later a b c low (inl up) = inl (omega arith)
 count_rose_later a b c low (inr last) = inr last
 
-pub count_rose_more : (a b c : ℕ) → b ≤ c → CountRose a b → CountRose a c
-count_rose_more a b c low (inl up) = inl (omega arith)
-count_rose_more a b c low (inr last) = inr (omega arith)
-
 pub none_fell_same : (counts : List ℕ) → NoneFell counts counts
 none_fell_same counts = record { drives = refl; each = λ k d lt. omega arith }
-
-pub none_fell_later : (a b c : List ℕ) → NoneFell a b → NoneFell b c → NoneFell a c
-none_fell_later a b c first second = record {
-  drives = second.drives ∙ first.drives;
-  each = λ k d lt. let low = first.each k d lt in
-      let within : k < length b = subst (λ n. k < n) (sym first.drives) lt in
-      let high = second.each k d within in omega arith;
-}
 
 -- ---- runs
 

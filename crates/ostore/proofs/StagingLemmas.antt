@@ -24,8 +24,8 @@ use Rattle.ostore.proofs.ChangeLemmas.{Begins}
 use Rattle.ostore.proofs.HolderLemmas.{each_may_be_staged, staged_holders, short_cause, print_by_shards}
 use Rattle.ostore.proofs.PutLemmas.{Staged, put_unstaged}
 use Rattle.ostore.proofs.PutMakes.{put_turn}
-use Rattle.ostore.proofs.StateLemmas.{next_not_drawn}
 use Rattle.ostore.proofs.TurnLemmas.{tells_each}
+use Rattle.ostore.proofs.DrawnLemmas.{next_not_drawn}
 
 -- the name of a key's file is short
 pub short_name : (key : List ℕ) → IsKey key → length (name_of key) < 2 ^ 16

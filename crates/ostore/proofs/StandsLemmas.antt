@@ -18,6 +18,7 @@ use Rattle.ostore.specs.Objects.{Objects}
 use Rattle.ostore.specs.Session.{ShowOnly}
 use Rattle.ostore.specs.Store.{Ready}
 use Rattle.ostore.proofs.TurnLemmas.{tells_each, cause_of_some}
+use Rattle.ostore.proofs.ListLemmas.{first_of}
 
 -- what is shown stands for one canonical state
 pub stands_one : (shown : Option (List ℕ)) (a b : KeyState) → IsCanonical a → IsCanonical b → StandsFor shown a → StandsFor shown b → a ≡ b
@@ -39,19 +40,11 @@ all_or_not (true ∷ rest) = elim (all_or_not rest) [
 ]
 
 module _ {D : Type 0} (clock : Option ℕ) (mode : Mode) (tell : D → Bool) (files : D → Files) (count : D → ℕ) where
-  pub first_drive : (drives : List D) → 0 < length drives → D
-  first_drive [] some = absurd (omega arith)
-  first_drive (d ∷ drives) some = d
-
-  some_drive : (drives : List D) (k : ℕ) → k < length drives → D
-  some_drive [] k lt = absurd (omega arith)
-  some_drive (d ∷ drives) k lt = d
-
   -- the state that drive 0 shows is the objects'
   pub shown_is : (number most : ℕ) (objects : Objects) (key : List ℕ) (state : KeyState) (old : List D) → 0 < length old → AllTell (map tell old)
       → Ready files number most objects old → IsCanonical state → Shows tell files count old (name_of key) state → state ≡ objects.states key
   shown_is number most objects key state old some all ready canonical shows =
-      let d = first_drive old some in
+      let d = first_of old some in
       let here : StandsFor ((files (slice_index_or old 0 d)).kept (name_of key)) state =
       subst (λ f. StandsFor (f (name_of key)) state) (ready.every 0 d some).shows (shows d (tells_each clock mode tell files count old all 0 d some)) in
       stands_one ((files (slice_index_or old 0 d)).kept (name_of key)) state (objects.states key) canonical (ready.sound.canonical key) here (ready.first d key)
@@ -60,7 +53,7 @@ module _ {D : Type 0} (clock : Option ℕ) (mode : Mode) (tell : D → Bool) (fi
   pub shows_only : (number most : ℕ) (objects : Objects) (drives : List D) → Ready files number most objects drives → ShowOnly objects (views_of tell files drives)
   shows_only number most objects drives ready k d lt id =
       let within : k < length drives = subst (λ n. k < n) (length-map drives (λ (x : D). record { tells = tell x; files = files x })) lt in
-      let c = some_drive drives k within in
+      let c = first_of drives (omega arith) in
       let keeps = ready.every k c within in
       subst (λ (v : DriveView). HasOnly objects.bodies k id v.files.shown) (sym (get_or-map (λ (x : D). record { tells = tell x; files = files x }) drives k c d within))
       (subst (HasOnly objects.bodies k id) (sym keeps.shows) (keeps.datas id))

@@ -33,17 +33,10 @@ use Rattle.body_print.specs.Names.{shard_name}
 use Rattle.ostore.specs.Holders.{IsPrintOf}
 use Rattle.ostore.specs.Slots.{slot_of, Drawn, with_drawn, IsIdOf, WasDrawn}
 use Rattle.ostore.specs.Objects.{put_act, usual_kind, HasBody}
-use Rattle.ostore.proofs.DataNames.{shard_names_differ}
+use Rattle.ostore.proofs.NameLemmas.{shard_names_differ, with_name-here, with_name-other}
 use Rattle.ostore.specs.Store.{IsDrawnName, HasDataOf, IsSound}
-
--- ---- lists
-
--- what holds of each item holds of those that pass a test
-pub each_passed : {A : Type 0} (P : A → Type 0) (p : A → Bool) (xs : List A) → AllByRecursion P xs → AllByRecursion P (filter p xs)
-each_passed P p [] all = tt
-each_passed P p (x ∷ xs) all =
-    let rest = each_passed P p xs all.1 in
-    elim (p x) as (λ b. AllByRecursion P (cond b (x ∷ filter p xs) (filter p xs))) [ true ↦ (all.0, rest) | false ↦ rest ]
+use Rattle.ostore.proofs.ListLemmas.{each_passed}
+use Rattle.ostore.proofs.DrawnLemmas.{Grows, IsNotDrawn, was_drawn_later, name_later, drawn_differs}
 
 -- ---- fresh ids
 
@@ -93,13 +86,6 @@ with_front old mode v = record { versions = v ∷ kept (replaced mode) old.versi
 kept_keeps : (P : Version → Type 0) (goes : Option VersionName) (xs : List Version) → AllByRecursion P xs → AllByRecursion P (kept goes xs)
 kept_keeps P goes xs all = each_passed P (λ v. not (is_named goes v)) xs all
 
--- adding a version leaves the state or puts it in front
-pub AddsVersion-cases :
-    (old new : KeyState) (mode : Mode) (v : Version) (done reply : Reply) → AddsVersion old mode v old.uploads done reply new
-    → ((reply ≡ done) × (new ≡ with_front old mode v)) ⊎ ((IsServed reply → ⊥) × (new ≡ old))
-AddsVersion-cases old new mode v done reply (inl (full, (refused, same))) = inr (λ served. subst IsServed refused served, same)
-AddsVersion-cases old new mode v done reply (inr (room, (is, made))) = inl (is, made)
-
 AddsVersion-keeps :
     (P : Version → Type 0) (old new : KeyState) (mode : Mode) (v : Version) (done reply : Reply) → AddsVersion old mode v old.uploads done reply new
     → AllByRecursion P old.versions → P v → AllByRecursion P new.versions
@@ -126,26 +112,6 @@ pub step_uploads :
     → Step old mode (put_act id print body) id now reply new → new.uploads ≡ old.uploads
 step_uploads old new mode id print body now reply step =
     AddsVersion-uploads old new mode (put_version mode id print body now) (Stored (record { md5 = md5 body; parts = 0 }) (told mode (new_name mode id))) reply step
-
--- a PUT is served and its version is in front, or it is refused and the state stays
-pub put_cases :
-    (old new : KeyState) (mode : Mode) (id : VersionId) (print body : List ℕ) (now : ℕ) (reply : Reply)
-    → Step old mode (put_act id print body) id now reply new
-    → ((IsServed reply) × (new ≡ with_front old mode (put_version mode id print body now))) ⊎ ((IsServed reply → ⊥) × (new ≡ old))
-put_cases old new mode id print body now reply (inl (full, (refused, same))) = inr (λ served. subst IsServed refused served, same)
-put_cases old new mode id print body now reply (inr (room, (is, made))) = inl (subst IsServed (sym is) tt, made)
-
-pub put_served :
-    (old new : KeyState) (mode : Mode) (id : VersionId) (print body : List ℕ) (now : ℕ) (reply : Reply)
-    → Step old mode (put_act id print body) id now reply new → IsServed reply → new ≡ with_front old mode (put_version mode id print body now)
-put_served old new mode id print body now reply (inl (full, (refused, same))) served = absurd (subst IsServed refused served)
-put_served old new mode id print body now reply (inr (room, (is, made))) served = made
-
-pub put_refused :
-    (old new : KeyState) (mode : Mode) (id : VersionId) (print body : List ℕ) (now : ℕ) (reply : Reply)
-    → Step old mode (put_act id print body) id now reply new → (IsServed reply → ⊥) → new ≡ old
-put_refused old new mode id print body now reply (inl (full, (refused, same))) not_served = same
-put_refused old new mode id print body now reply (inr (room, (is, made))) not_served = absurd (not_served (subst IsServed (sym is) tt))
 
 removed : (P : Version → Type 0) (old new : KeyState) (name : VersionName) → new ≡ record { versions = kept (Some name) old.versions; uploads = old.uploads } → AllByRecursion P old.versions → AllByRecursion P new.versions
 removed P old new name made all = subst (λ (s : KeyState). AllByRecursion P s.versions) (sym made) (kept_keeps P (Some name) old.versions all)
@@ -224,65 +190,11 @@ read_is_object (v ∷ older) pick.Current place h = read_first v older place (is
 read_is_object versions pick.Null place h = read_named Null versions place h
 read_is_object versions (pick.Id id) place h = read_named (Id id) versions place h
 
--- the body of a version that is no marker is there
-pub object_has_body :
-    (drawn : Drawn) (owner : List ℕ → List ℕ) (bodies : Named (List ℕ)) (key : List ℕ) (what : What)
-    → is_marker what ≡ false → HasDataOf drawn owner bodies key what → (body : List ℕ) × HasBody bodies what body
-object_has_body drawn owner bodies key Marker marker has = absurd cc
-object_has_body drawn owner bodies key (Object data_id print size md5 parts upload kind) marker has = (has.body, has.is)
-
 -- ---- later
-
--- each slot has drawn what it had drawn
-abbrev pub Grows : Drawn → Drawn → Type 0
-Grows drawn later = (slot : ℕ) → drawn slot ≤ later slot
 
 -- the owners with another one for a name
 abbrev pub with_owner : (List ℕ → List ℕ) → List ℕ → List ℕ → List ℕ → List ℕ
 with_owner owner name key = λ n. if bytes_eq name n then key else owner n
-
--- an id that its slot hasn't drawn
-abbrev pub IsNotDrawn : Drawn → VersionId → Type 0
-IsNotDrawn drawn id = drawn id.slot < id.change.0.seq
-
--- more numbers are drawn in one slot
-pub grows_with_drawn : (drawn : Drawn) (slot n : ℕ) → drawn slot ≤ n → Grows drawn (with_drawn drawn slot n)
-grows_with_drawn drawn slot n more other = step (nat_eq slot other) refl
-  where
-    step : (b : Bool) → nat_eq slot other ≡ b → drawn other ≤ (if b then n else drawn other)
-    step true h = let e : slot ≡ other = eqb-true slot other h in subst (λ s. drawn s ≤ n) e more
-    step false h = omega arith
-
-pub with_drawn_here : (drawn : Drawn) (slot n : ℕ) → with_drawn drawn slot n slot ≡ n
-with_drawn_here drawn slot n = ap (λ (b : Bool). if b then n else drawn slot) (eq-eqb slot slot refl)
-
-pub was_drawn_later : (drawn later : Drawn) (slot : ℕ) (id : VersionId) → Grows drawn later → WasDrawn drawn slot id → WasDrawn later slot id
-was_drawn_later drawn later slot id grows was =
-    record { slot_is = was.slot_is; term_is = was.term_is; low = omega (arith, was.low, grows slot) }
-
-pub name_later : (drawn later : Drawn) (slot : ℕ) (name : VersionName) → Grows drawn later → IsDrawnName drawn slot name → IsDrawnName later slot name
-name_later drawn later slot Null grows was = tt
-name_later drawn later slot (Id id) grows was = was_drawn_later drawn later slot id grows was
-
--- an id that its slot has drawn isn't one that it hasn't drawn
-pub drawn_differs : (drawn : Drawn) (slot : ℕ) (id other : VersionId) → IsNotDrawn drawn id → WasDrawn drawn slot other → id ≢ other
-drawn_differs drawn slot id other new was e =
-    let late : drawn other.slot < other.change.0.seq = subst (λ (v : VersionId). drawn v.slot < v.change.0.seq) e new in
-    let there : drawn slot < other.change.0.seq = subst (λ s. drawn s < other.change.0.seq) was.slot_is late in
-    omega (arith, was.low)
-
--- the owner and the body of data stay where those of other data are given
-pub other_owner : (owner : List ℕ → List ℕ) (name owned n : List ℕ) → bytes_eq name n ≡ false → with_owner owner name owned n ≡ owner n
-other_owner owner name owned n apart = ap (λ (b : Bool). if b then owned else owner n) apart
-
-pub other_body : (bodies : Named (List ℕ)) (name : List ℕ) (w : Option (List ℕ)) (n : List ℕ) → bytes_eq name n ≡ false → with_name bodies name w n ≡ bodies n
-other_body bodies name w n apart = update_other bytes_eq bodies name w n apart
-
-pub this_owner : (owner : List ℕ → List ℕ) (name owned : List ℕ) → with_owner owner name owned name ≡ owned
-this_owner owner name owned = ap (λ (b : Bool). if b then owned else owner name) ((bytes_eq-Decides name name).1 refl)
-
-pub this_body : (bodies : Named (List ℕ)) (name : List ℕ) (w : Option (List ℕ)) → with_name bodies name w name ≡ w
-this_body bodies name w = update_same bytes_eq bodies name w name ((bytes_eq-Decides name name).1 refl)
 
 -- Data stays where more is drawn, and an id that wasn't drawn is given an owner and a body.
 pub data_later :
@@ -294,9 +206,9 @@ data_later drawn later owner bodies key id owned body (Object data_id print size
     let apart : bytes_eq (shard_name id) (shard_name data_id) ≡ false = shard_names_differ id data_id (drawn_differs drawn (slot_of key) id data_id new has.drawn_id) in
     record {
       drawn_id = was_drawn_later drawn later (slot_of key) data_id grows has.drawn_id;
-      owned = other_owner owner (shard_name id) owned (shard_name data_id) apart ∙ has.owned;
+      owned = ap (λ (b : Bool). if b then owned else owner (shard_name data_id)) apart ∙ has.owned;
       body = has.body;
-      is = other_body bodies (shard_name id) (Some body) (shard_name data_id) apart ∙ has.is;
+      is = with_name-other bodies (shard_name id) (Some body) (shard_name data_id) apart ∙ has.is;
       printed = has.printed;
       sized = has.sized;
       few = has.few;
@@ -332,16 +244,6 @@ sound_later drawn later owner bodies key id owned body versions grows new all =
       «data» = data_later drawn later owner bodies key id owned body v.what grows new sound.data;
     }) versions all
 
--- the id that a slot draws next wasn't drawn, and is drawn later
-pub next_not_drawn : (drawn : Drawn) (slot : ℕ) (id : VersionId) → IsIdOf slot (drawn slot + 1) id → IsNotDrawn drawn id
-next_not_drawn drawn slot id next =
-    let same : drawn id.slot ≡ drawn slot = ap drawn next.slot_is in
-    omega (arith, next.number_is)
-
-pub next_was_drawn : (drawn later : Drawn) (slot : ℕ) (id : VersionId) → IsIdOf slot (drawn slot + 1) id → drawn slot + 1 ≤ later slot → WasDrawn later slot id
-next_was_drawn drawn later slot id next more =
-    record { slot_is = next.slot_is; term_is = next.term_is; low = omega (arith, next.number_is) }
-
 new_name_drawn : (drawn : Drawn) (slot : ℕ) (mode : Mode) (id : VersionId) → WasDrawn drawn slot id → IsDrawnName drawn slot (new_name mode id)
 new_name_drawn drawn slot Never id was = tt
 new_name_drawn drawn slot Enabled id was = was
@@ -356,9 +258,9 @@ put_is_sound later owner bodies key mode id print body now was printed few = rec
   named = new_name_drawn later (slot_of key) mode id was;
   «data» = record {
     drawn_id = was;
-    owned = this_owner owner (shard_name id) key;
+    owned = ap (λ (b : Bool). if b then key else owner (shard_name id)) ((bytes_eq-Decides (shard_name id) (shard_name id)).1 refl);
     body = body;
-    is = this_body bodies (shard_name id) (Some body);
+    is = with_name-here bodies (shard_name id) (Some body);
     printed = printed;
     sized = refl;
     few = few;

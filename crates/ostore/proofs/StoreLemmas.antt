@@ -20,80 +20,31 @@ use Rattle.ostore.specs.Holders.{Coding, shard_file, manifest_file, IsHeld, data
 use Rattle.ostore.specs.KeyFiles.{StandsFor, empty_state, key_file}
 use Rattle.ostore.specs.Objects.{Objects, no_objects, with_body, with_numbers, with_change, with_state}
 use Rattle.ostore.specs.Slots.{slot_of, Drawn, with_drawn, IsIdOf, WasDrawn}
-use Rattle.ostore.specs.Store.{IsDrawnName, IsSound, HasDataOf, KeepsAll, AreSound, OnlyRemoves, Ready}
-use Rattle.ostore.proofs.DataNames.{shard_names_differ, manifest_names_differ}
-use Rattle.ostore.proofs.DriveLemmas.{all_map, all_zip, kept_elsewhere, drawn_before, later_apart, above_less, drawn_more, drawn_most, drive_staged, drive_changed, state_elsewhere}
+use Rattle.ostore.specs.Store.{IsDrawnName, IsSound, HasDataOf, KeepsAll, AreSound, OnlyRemoves, Ready, IsNoneOf}
+use Rattle.ostore.proofs.NameLemmas.{shard_names_differ, manifest_names_differ, with_name-other}
+use Rattle.ostore.proofs.DriveLemmas.{kept_elsewhere, drive_staged, drive_changed, state_elsewhere}
 use Rattle.ostore.proofs.HolderLemmas.{StaysHeld, held_stays, only_less, staged_kept}
 use Rattle.ostore.proofs.GoneLemmas.{OnData, IsNotAmong, on_data}
+use Rattle.ostore.proofs.ListLemmas.{first_of, each_of_both}
+use Rattle.std.proofs.lemmas.List.{get_or_default}
+use Rattle.ostore.proofs.DrawnLemmas.{grows_with_drawn, drawn_most, above_less, drawn_differs, next_not_drawn, later_apart}
+use Rattle.ostore.proofs.StateLemmas.{with_owner, sound_later, sound_drawn_later}
+use Rattle.version_list.proofs.Distinct.{each_item}
 
 -- ---- the objects
 
--- the owners of data, with this key's for the data of an id
-abbrev pub with_owner : (List ℕ → List ℕ) → VersionId → List ℕ → List ℕ → List ℕ
-with_owner owner id key name = cond (bytes_eq (shard_name id) name) key (owner name)
-
-was_drawn_more : (drawn : Drawn) (slot n : ℕ) (other : ℕ) (d : VersionId) → drawn slot ≤ n → WasDrawn drawn other d → WasDrawn (with_drawn drawn slot n) other d
-was_drawn_more drawn slot n other d more was = record {
-  slot_is = was.slot_is;
-  term_is = was.term_is;
-  low = let up = drawn_more drawn slot n other more in omega (arith, was.low, up);
-}
-
-name_more : (drawn : Drawn) (slot n other : ℕ) (name : VersionName) → drawn slot ≤ n → IsDrawnName drawn other name → IsDrawnName (with_drawn drawn slot n) other name
-name_more drawn slot n other Null more was = tt
-name_more drawn slot n other (Id id) more was = was_drawn_more drawn slot n other id more was
-
--- a version that was sound is sound when more numbers are drawn
-sound_more : (drawn : Drawn) (owner : List ℕ → List ℕ) (bodies : Named (List ℕ)) (slot n : ℕ) (key : List ℕ) → drawn slot ≤ n
-    → (v : Version) → IsSound drawn owner bodies key v → IsSound (with_drawn drawn slot n) owner bodies key v
-sound_more drawn owner bodies slot n key more v sound = record { named = name_more drawn slot n (slot_of key) v.id more sound.named; «data» = by v.what sound.«data» }
-  where
-    by : (what : What) → HasDataOf drawn owner bodies key what → HasDataOf (with_drawn drawn slot n) owner bodies key what
-    by Marker has = tt
-    by (Object data_id print size md5 parts upload kind) has = record {
-      drawn_id = was_drawn_more drawn slot n (slot_of key) data_id more has.drawn_id;
-      owned = has.owned;
-      body = has.body;
-      is = has.is;
-      printed = has.printed;
-      sized = has.sized;
-      few = has.few;
-    }
-
--- and when the body of the slot's next id is brought
-sound_brought : (drawn : Drawn) (owner : List ℕ → List ℕ) (bodies : Named (List ℕ)) (at : List ℕ) (id : VersionId) (body : List ℕ) (key : List ℕ)
-    → IsIdOf (slot_of at) (drawn (slot_of at) + 1) id
-    → (v : Version) → IsSound drawn owner bodies key v → IsSound drawn (with_owner owner id at) (with_name bodies (shard_name id) (Some body)) key v
-sound_brought drawn owner bodies at id body key is v sound = record { named = sound.named; «data» = by v.what sound.«data» }
-  where
-    by : (what : What) → HasDataOf drawn owner bodies key what → HasDataOf drawn (with_owner owner id at) (with_name bodies (shard_name id) (Some body)) key what
-    by Marker has = tt
-    by (Object data_id print size md5 parts upload kind) has =
-        let apart : bytes_eq (shard_name id) (shard_name data_id) ≡ false = shard_names_differ id data_id (drawn_before drawn (slot_of at) id data_id is (slot_of key) has.drawn_id) in
-        record {
-          drawn_id = has.drawn_id;
-          owned = ap (λ t. cond t at (owner (shard_name data_id))) apart ∙ has.owned;
-          body = has.body;
-          is = ap (λ t. cond t (Some body) (bodies (shard_name data_id))) apart ∙ has.is;
-          printed = has.printed;
-          sized = has.sized;
-          few = has.few;
-        }
-
 pub objects_staged : (most : ℕ) (owner : List ℕ → List ℕ) (objects : Objects) (key : List ℕ) (id : VersionId) (body : List ℕ)
     → objects.drawn (slot_of key) + 1 ≤ most + 1 → AreSound most owner objects → IsIdOf (slot_of key) (objects.drawn (slot_of key) + 1) id
-    → AreSound (most + 1) (with_owner owner id key) (with_numbers (with_body objects id body) key 1)
+    → AreSound (most + 1) (with_owner owner (shard_name id) key) (with_numbers (with_body objects id body) key 1)
 objects_staged most owner objects key id body room sound is = record {
   canonical = sound.canonical;
   no_uploads = sound.no_uploads;
-  versions = λ other. all_map _ _ (objects.states other).versions
-      (λ v was. sound_more objects.drawn (with_owner owner id key) (with_name objects.bodies (shard_name id) (Some body)) (slot_of key) (objects.drawn (slot_of key) + 1) other (omega arith) v
-      (sound_brought objects.drawn owner objects.bodies key id body other is v was))
-      (sound.versions other);
+  versions = λ other. sound_later objects.drawn (with_drawn objects.drawn (slot_of key) (objects.drawn (slot_of key) + 1)) owner objects.bodies other id key body (objects.states other).versions
+      (grows_with_drawn objects.drawn (slot_of key) (objects.drawn (slot_of key) + 1) (omega arith)) (next_not_drawn objects.drawn (slot_of key) id is) (sound.versions other);
   room = λ slot. drawn_most objects.drawn (slot_of key) (objects.drawn (slot_of key) + 1) (most + 1) slot room (let low = sound.room slot in omega arith);
   none_brought = λ d above.
       let apart = later_apart objects.drawn (slot_of key) id d is above in
-      ap (λ t. cond t (Some body) (objects.bodies (shard_name d))) (shard_names_differ id d apart.0) ∙ sound.none_brought d apart.1;
+      with_name-other objects.bodies (shard_name id) (Some body) (shard_name d) (shard_names_differ id d apart.0) ∙ sound.none_brought d apart.1;
 }
 
 pub objects_numbered : (most more : ℕ) (owner : List ℕ → List ℕ) (objects : Objects) (key : List ℕ) → AreSound most owner objects
@@ -101,8 +52,8 @@ pub objects_numbered : (most more : ℕ) (owner : List ℕ → List ℕ) (object
 objects_numbered most more owner objects key sound = record {
   canonical = sound.canonical;
   no_uploads = sound.no_uploads;
-  versions = λ other. all_map _ _ (objects.states other).versions
-      (sound_more objects.drawn owner objects.bodies (slot_of key) (objects.drawn (slot_of key) + more) other (omega arith)) (sound.versions other);
+  versions = λ other. sound_drawn_later objects.drawn (with_drawn objects.drawn (slot_of key) (objects.drawn (slot_of key) + more)) owner objects.bodies other (objects.states other).versions
+      (grows_with_drawn objects.drawn (slot_of key) (objects.drawn (slot_of key) + more) (omega arith)) (sound.versions other);
   room = λ slot. drawn_most objects.drawn (slot_of key) (objects.drawn (slot_of key) + more) (most + more) slot (let low = sound.room (slot_of key) in omega arith) (let low = sound.room slot in omega arith);
   none_brought = λ d above. sound.none_brought d (above_less objects.drawn (slot_of key) (objects.drawn (slot_of key) + more) d.slot d.change.0.seq (omega arith) above);
 }
@@ -149,10 +100,6 @@ pub empty_canonical : IsCanonical empty_state
 empty_canonical = record { few_versions = omega arith; few_uploads = omega arith; distinct = tt; versions = tt; uploads = tt }
 
 module _ {D : Type 0} (files : D → Files) where
-  same_first : (xs : List D) (c d : D) → 0 < length xs → slice_index_or xs 0 c ≡ slice_index_or xs 0 d
-  same_first [] c d some = absurd (omega arith)
-  same_first (x ∷ xs) c d some = refl
-
   -- after the body of a PUT was staged, or a stage was refused
   abbrev pub ready_staged : (number most : ℕ) (objects : Objects) (key : List ℕ) (id : VersionId) (body : List ℕ) (coding : Coding body) (old new : List D)
       → 0 < length old → length new ≡ length old → Ready files number most objects old → IsIdOf (slot_of key) (objects.drawn (slot_of key) + 1) id
@@ -163,19 +110,19 @@ module _ {D : Type 0} (files : D → Files) where
         (sym (staged_kept id (manifest_file id body coding) (shard_file body coding 0) (name_of other) _ _ (each 0 d some) refl refl)) (ready.first d other);
     every = λ k d lt. let within : k < length old = omega arith in
         drive_staged number most k ready.owner objects key id body coding _ _ ready.sound is (each k d within) (ready.every k d within);
-    datas = λ other. all_zip _ _ _ (objects.states other).versions (stays other) (ready.sound.versions other) (ready.datas other);
-    owner = with_owner ready.owner id key;
+    datas = λ other. each_of_both _ _ _ (objects.states other).versions (stays other) (ready.sound.versions other) (ready.datas other);
+    owner = with_owner ready.owner (shard_name id) key;
     sound = objects_staged most ready.owner objects key id body (let low = ready.sound.room (slot_of key) in omega arith) ready.sound is;
   }
     where
       stays_at : (other : List ℕ) (d : VersionId) → WasDrawn objects.drawn (slot_of other) d
           → StaysHeld files objects.bodies (with_name objects.bodies (shard_name id) (Some body)) old new d
       stays_at other d was =
-          let differ : id ≢ d = drawn_before objects.drawn (slot_of key) id d is (slot_of other) was in
+          let differ : id ≢ d = drawn_differs objects.drawn (slot_of other) id d (next_not_drawn objects.drawn (slot_of key) id is) was in
           let shards = shard_names_differ id d differ in
           let manifests = manifest_names_differ id d differ in
           record {
-            brought = ap (λ t. cond t (Some body) (objects.bodies (shard_name d))) shards;
+            brought = with_name-other objects.bodies (shard_name id) (Some body) (shard_name d) shards;
             kept = λ k c lt. (
               staged_kept id (manifest_file id body coding) (shard_file body coding k) (shard_name d) _ _ (each k c lt) shards refl,
               staged_kept id (manifest_file id body coding) (shard_file body coding k) (manifest_name d) _ _ (each k c lt) refl manifests,
@@ -203,6 +150,40 @@ module _ {D : Type 0} (files : D → Files) where
         );
       }) v.what) held
 
+  -- what drive 0 keeps under the names of keys after a key's file was put in place there
+  first_written : (number : ℕ) (objects : Objects) (key : List ℕ) (state : KeyState) (old new : List D) → 0 < length new
+      → ((d : D) (other : List ℕ) → StandsFor ((files (slice_index_or old 0 d)).kept (name_of other)) (objects.states other))
+      → (c : D) → IsInPlace (loose_name_of number) (name_of key) (key_file state) (files (slice_index_or old 0 c)) (files (slice_index_or new 0 c))
+      → (d : D) (other : List ℕ) (t : Bool) → bytes_eq key other ≡ t
+      → StandsFor ((files (slice_index_or new 0 d)).kept (name_of other)) (with_state objects.states key state other)
+  first_written number objects key state old new some first c w d other t e =
+      subst (λ f. StandsFor f (with_state objects.states key state other)) (sym (ap (λ x. (files x).kept (name_of other)) (get_or_default new 0 d c some) ∙ ap (λ f. f (name_of other)) w.kept)) (by t e)
+    where
+      by : (t : Bool) → bytes_eq key other ≡ t
+          → StandsFor (with_name (files (slice_index_or old 0 c)).kept (name_of key) (Some (key_file state)) (name_of other)) (with_state objects.states key state other)
+      by true e = subst (λ b. StandsFor (cond b (Some (key_file state)) ((files (slice_index_or old 0 c)).kept (name_of other))) (cond b state (objects.states other))) (sym e) refl
+      by false e = subst (λ b. StandsFor (cond b (Some (key_file state)) ((files (slice_index_or old 0 c)).kept (name_of other))) (cond b state (objects.states other))) (sym e) (first c other)
+
+  -- after a write of a key's file that drive 0 has
+  ready_changed : (number most more : ℕ) (objects : Objects) (key : List ℕ) (state : KeyState) (old new : List D)
+      → number < 1000000 → 0 < length old → length new ≡ length old → (ready : Ready files number most objects old)
+      → IsCanonical state → state.uploads ≡ []
+      → AllByRecursion (IsSound (with_drawn objects.drawn (slot_of key) (objects.drawn (slot_of key) + more)) ready.owner objects.bodies key) state.versions
+      → AllByRecursion (λ v. IsHeld files objects.bodies old v.what) state.versions
+      → AtEach (λ a b. MayBeWritten (loose_name_of number) (name_of key) (key_file state) (files a) (files b)) old new
+      → (c : D) → IsInPlace (loose_name_of number) (name_of key) (key_file state) (files (slice_index_or old 0 c)) (files (slice_index_or new 0 c))
+      → Ready files (number + 1) (most + more) (with_change objects key state more) new
+  ready_changed number most more objects key state old new few some same ready canonical none sound datas each c w = record {
+    first = λ d other. first_written number objects key state old new (omega arith) ready.first c w d other (bytes_eq key other) refl;
+    every = λ k d lt. let within : k < length old = omega arith in
+        (drive_changed number k objects key state more _ _ few canonical (each k d within) (ready.every k d within)).0;
+    datas = λ other. state_elsewhere objects.states key state other (λ s. AllByRecursion (λ v. IsHeld files objects.bodies new v.what) s.versions)
+        (each_item _ _ (held_written number objects key state old new same each) state.versions datas)
+        (each_item _ _ (held_written number objects key state old new same each) (objects.states other).versions (ready.datas other));
+    owner = ready.owner;
+    sound = objects_changed most more ready.owner objects key state ready.sound canonical none sound;
+  }
+
   -- after a key's file was written on every drive
   pub ready_written : (number most more : ℕ) (objects : Objects) (key : List ℕ) (state : KeyState) (old new : List D)
       → number < 1000000 → 0 < length old → length new ≡ length old → (ready : Ready files number most objects old)
@@ -211,29 +192,9 @@ module _ {D : Type 0} (files : D → Files) where
       → AllByRecursion (λ v. IsHeld files objects.bodies old v.what) state.versions
       → AtEach (λ a b. IsInPlace (loose_name_of number) (name_of key) (key_file state) (files a) (files b)) old new
       → Ready files (number + 1) (most + more) (with_change objects key state more) new
-  ready_written number most more objects key state old new few some same ready canonical none sound datas each = record {
-    first = λ d other. written_first d other (bytes_eq key other) refl;
-    every = λ k d lt. let within : k < length old = omega arith in
-        (drive_changed number k objects key state more _ _ few canonical (inr (each k d within)) (ready.every k d within)).0;
-    datas = λ other. state_elsewhere objects.states key state other (λ s. AllByRecursion (λ v. IsHeld files objects.bodies new v.what) s.versions)
-        (all_map _ _ state.versions (held_written number objects key state old new same (λ k d lt. inr (each k d lt))) datas)
-        (all_map _ _ (objects.states other).versions (held_written number objects key state old new same (λ k d lt. inr (each k d lt))) (ready.datas other));
-    owner = ready.owner;
-    sound = objects_changed most more ready.owner objects key state ready.sound canonical none sound;
-  }
-    where
-      written_first : (d : D) (other : List ℕ) (t : Bool) → bytes_eq key other ≡ t
-          → StandsFor ((files (slice_index_or new 0 d)).kept (name_of other)) (with_state objects.states key state other)
-      written_first d other true e =
-          subst (λ t. StandsFor ((files (slice_index_or new 0 d)).kept (name_of other)) (cond t state (objects.states other))) (sym e)
-          (subst (λ f. StandsFor f state) (sym (ap (λ f. f (name_of other)) (each 0 d some).kept ∙ ap (λ t. cond t (Some (key_file state)) ((files (slice_index_or old 0 d)).kept (name_of other))) e)) refl)
-      written_first d other false e =
-          subst (λ t. StandsFor ((files (slice_index_or new 0 d)).kept (name_of other)) (cond t state (objects.states other))) (sym e)
-          (subst (λ f. StandsFor f (objects.states other)) (sym (ap (λ f. f (name_of other)) (each 0 d some).kept ∙ ap (λ t. cond t (Some (key_file state)) ((files (slice_index_or old 0 d)).kept (name_of other))) e)) (ready.first d other))
-
-  first_element : (old : List D) → 0 < length old → D
-  first_element [] some = absurd (omega arith)
-  first_element (d ∷ ds) some = d
+  ready_written number most more objects key state old new few some same ready canonical none sound datas each =
+      let c = first_of old some in
+      ready_changed number most more objects key state old new few some same ready canonical none sound datas (λ k d lt. inr (each k d lt)) c (each 0 c some)
 
   -- after a write of a key's file that was refused: the key has the new state, or all is as it was
   pub ready_refused : (number most more : ℕ) (objects : Objects) (key : List ℕ) (state : KeyState) (old new : List D)
@@ -244,49 +205,23 @@ module _ {D : Type 0} (files : D → Files) where
       → AtEach (λ a b. MayBeWritten (loose_name_of number) (name_of key) (key_file state) (files a) (files b)) old new
       → (after : Objects) × ((after ≡ with_numbers objects key more) ⊎ (after ≡ with_change objects key state more)) × Ready files (number + 1) (most + more) after new
   ready_refused number most more objects key state old new few some same ready canonical none sound datas each =
-      let c = first_element old some in by c (each 0 c some)
+      let c = first_of old some in by c (each 0 c some)
     where
-      each_changed : (k : ℕ) (d : D) → k < length old
-          → KeepsAll (number + 1) (with_change objects key state more) k (files (slice_index_or new k d)) × KeepsAll (number + 1) (with_numbers objects key more) k (files (slice_index_or new k d))
-      each_changed k d within = drive_changed number k objects key state more _ _ few canonical (each k d within) (ready.every k d within)
-
-      held_now : (v : Version) → IsHeld files objects.bodies old v.what → IsHeld files objects.bodies new v.what
-      held_now = held_written number objects key state old new same each
-
-      first_written : (c d : D) (other : List ℕ) → IsInPlace (loose_name_of number) (name_of key) (key_file state) (files (slice_index_or old 0 c)) (files (slice_index_or new 0 c)) → (t : Bool) → bytes_eq key other ≡ t
-          → StandsFor ((files (slice_index_or new 0 d)).kept (name_of other)) (with_state objects.states key state other)
-      first_written c d other w true e =
-          subst (λ t. StandsFor ((files (slice_index_or new 0 d)).kept (name_of other)) (cond t state (objects.states other))) (sym e)
-          (subst (λ f. StandsFor f state) (sym (ap (λ x. (files x).kept (name_of other)) (same_first new d c (omega arith)) ∙ ap (λ f. f (name_of other)) w.kept ∙ ap (λ t. cond t (Some (key_file state)) ((files (slice_index_or old 0 c)).kept (name_of other))) e)) refl)
-      first_written c d other w false e =
-          subst (λ t. StandsFor ((files (slice_index_or new 0 d)).kept (name_of other)) (cond t state (objects.states other))) (sym e)
-          (subst (λ f. StandsFor f (objects.states other)) (sym (ap (λ x. (files x).kept (name_of other)) (same_first new d c (omega arith)) ∙ ap (λ f. f (name_of other)) w.kept ∙ ap (λ t. cond t (Some (key_file state)) ((files (slice_index_or old 0 c)).kept (name_of other))) e)) (ready.first c other))
-
       by : (c : D) → MayBeWritten (loose_name_of number) (name_of key) (key_file state) (files (slice_index_or old 0 c)) (files (slice_index_or new 0 c))
           → (after : Objects) × ((after ≡ with_numbers objects key more) ⊎ (after ≡ with_change objects key state more)) × Ready files (number + 1) (most + more) after new
       by c (inl w) = (
         with_numbers objects key more,
         inl refl,
         record {
-          first = λ d other. subst (λ f. StandsFor f (objects.states other)) (sym (ap (λ x. (files x).kept (name_of other)) (same_first new d c (omega arith)) ∙ ap (λ f. f (name_of other)) w.kept)) (ready.first c other);
-          every = λ k d lt. (each_changed k d (omega arith)).1;
-          datas = λ other. all_map _ _ (objects.states other).versions held_now (ready.datas other);
+          first = λ d other. subst (λ f. StandsFor f (objects.states other)) (sym (ap (λ x. (files x).kept (name_of other)) (get_or_default new 0 d c (omega arith)) ∙ ap (λ f. f (name_of other)) w.kept)) (ready.first c other);
+          every = λ k d lt. let within : k < length old = omega arith in
+              (drive_changed number k objects key state more _ _ few canonical (each k d within) (ready.every k d within)).1;
+          datas = λ other. each_item _ _ (held_written number objects key state old new same each) (objects.states other).versions (ready.datas other);
           owner = ready.owner;
           sound = objects_numbered most more ready.owner objects key ready.sound;
         },
       )
-      by c (inr w) = (
-        with_change objects key state more,
-        inr refl,
-        record {
-          first = λ d other. first_written c d other w (bytes_eq key other) refl;
-          every = λ k d lt. (each_changed k d (omega arith)).0;
-          datas = λ other. state_elsewhere objects.states key state other (λ s. AllByRecursion (λ v. IsHeld files objects.bodies new v.what) s.versions)
-              (all_map _ _ state.versions held_now datas) (all_map _ _ (objects.states other).versions held_now (ready.datas other));
-          owner = ready.owner;
-          sound = objects_changed most more ready.owner objects key state ready.sound canonical none sound;
-        },
-      )
+      by c (inr w) = (with_change objects key state more, inr refl, ready_changed number most more objects key state old new few some same ready canonical none sound datas each c w)
 
   -- where the drives hold what they held
   pub ready_same : (number most : ℕ) (objects : Objects) (old new : List D)
@@ -295,12 +230,12 @@ module _ {D : Type 0} (files : D → Files) where
   ready_same number most objects old new some same ready each = record {
     first = λ d key. subst (λ f. StandsFor (f.kept (name_of key)) (objects.states key)) (sym (each 0 d some)) (ready.first d key);
     every = λ k d lt. let within : k < length old = omega arith in subst (λ f. KeepsAll number objects k f) (sym (each k d within)) (ready.every k d within);
-    datas = λ key. all_map _ _ (objects.states key).versions
+    datas = λ key. each_item _ _
         (λ v held. held_stays files objects.bodies objects.bodies old new same v.what
         (each_id (StaysHeld files objects.bodies objects.bodies old new) (λ d. record {
           brought = refl;
           kept = λ k c lt. (ap (λ f. f.kept (shard_name d)) (each k c lt), ap (λ f. f.kept (manifest_name d)) (each k c lt));
-        }) v.what) held) (ready.datas key);
+        }) v.what) held) (objects.states key).versions (ready.datas key);
     owner = ready.owner;
     sound = ready.sound;
   }
@@ -327,7 +262,11 @@ module _ {D : Type 0} (files : D → Files) where
     };
   }
 
-  no_key : (names : List VersionId) (key : List ℕ) → list_any (λ n. bytes_eq n (name_of key)) (data_names names) ≡ false
+  -- the same for the next request
+  pub ready_next : (number : ℕ) (objects : Objects) (drives : List D) → Ready files number (number + number) objects drives → Ready files (number + 1) (number + number + 2) objects drives
+  ready_next number objects drives ready = ready_later number (number + 1) (number + number) (number + number + 2) objects drives (omega arith) (omega arith) ready
+
+  no_key : (names : List VersionId) (key : List ℕ) → IsNoneOf (data_names names) (name_of key)
   no_key [] key = refl
   no_key (id ∷ ids) key = no_key ids key
 
@@ -353,7 +292,7 @@ module _ {D : Type 0} (files : D → Files) where
                 record { shard = ap (λ f. f (loose_shard_name id)) removes.loose ∙ was.shard; manifest = ap (λ f. f (loose_manifest_name id)) removes.loose ∙ was.manifest };
           };
         };
-    datas = λ key. all_zip _ _ _ (objects.states key).versions held_now (apart key) (ready.datas key);
+    datas = λ key. each_of_both _ _ _ (objects.states key).versions held_now (apart key) (ready.datas key);
     owner = ready.owner;
     sound = ready.sound;
   }

@@ -10,20 +10,8 @@ use Rattle.drive_base.specs.Files.{Files}
 use Rattle.hex.specs.Hex.{encode_lower}
 use Rattle.body_print.specs.Names.{shard_name, manifest_name}
 use Rattle.ostore.specs.Holders.{data_names}
-use Rattle.ostore.specs.Store.{OnlyRemoves}
-
--- none of the names is this one
-abbrev pub IsNoneOf : List (List ℕ) → List ℕ → Type 0
-IsNoneOf names name = list_any (λ n. bytes_eq n name) names ≡ false
-
--- a drive that is as it was lost nothing
-pub OnlyRemoves-refl : (names : List (List ℕ)) (files : Files) → OnlyRemoves names files files
-OnlyRemoves-refl names files = record {
-  kept = λ name other. refl;
-  less = λ name. inl refl;
-  shows = λ shows. shows;
-  loose = refl;
-}
+use Rattle.ostore.specs.Store.{IsNoneOf, OnlyRemoves}
+use Rattle.std.proofs.lemmas.Bool.{or_parts}
 
 less_twice : (names : List (List ℕ)) (a b c : Files) (name : List ℕ) → ((b.kept name ≡ a.kept name) ⊎ (b.kept name ≡ None)) → ((c.kept name ≡ b.kept name) ⊎ (c.kept name ≡ None))
     → (c.kept name ≡ a.kept name) ⊎ (c.kept name ≡ None)
@@ -49,21 +37,10 @@ OnlyRemoves-more few names a b within removes = record {
   loose = removes.loose;
 }
 
-pub or_false : (a b : Bool) → (a || b) ≡ false → (a ≡ false) × (b ≡ false)
-or_false false b e = (refl, e)
-or_false true b e = (e, cc)
-
 -- a name that is none of these is not the first of them, and none of the others
 abbrev pub IsNoneOf-cons : (n : List ℕ) (names : List (List ℕ)) (name : List ℕ) → IsNoneOf (n ∷ names) name
     → (bytes_eq n name ≡ false) × IsNoneOf names name
-IsNoneOf-cons n names name none = or_false (bytes_eq n name) (list_any (λ m. bytes_eq m name) names) none
-
--- after the one name and then the other, a drive lost no file but those of both
-pub OnlyRemoves-both : (one other : List ℕ) (a b c : Files) → OnlyRemoves (one ∷ []) a b → OnlyRemoves (other ∷ []) b c → OnlyRemoves (one ∷ other ∷ []) a c
-OnlyRemoves-both one other a b c first then =
-    OnlyRemoves-trans (one ∷ other ∷ []) a b c
-    (OnlyRemoves-more (one ∷ []) (one ∷ other ∷ []) a b (λ name none. ap (λ t. t || false) (IsNoneOf-cons one (other ∷ []) name none).0) first)
-    (OnlyRemoves-more (other ∷ []) (one ∷ other ∷ []) b c (λ name none. (IsNoneOf-cons one (other ∷ []) name none).1) then)
+IsNoneOf-cons n names name none = or_parts (bytes_eq n name) (list_any (λ m. bytes_eq m name) names) none
 
 -- the names of the files of the data of an id with these bytes
 abbrev pub names_of_bytes : List ℕ → List (List ℕ)
@@ -83,14 +60,6 @@ pub record AreLeft (ids : List VersionId) (left : List ℕ) : Type 0 where
   pub rest : List VersionId
   pub is : left ≡ flat_map id_bytes rest
   pub within : (name : List ℕ) → IsNoneOf (data_names ids) name → IsNoneOf (data_names rest) name
-
--- at first all are left
-pub AreLeft-all : (ids : List VersionId) (bytes : List ℕ) → bytes ≡ flat_map id_bytes ids → AreLeft ids bytes
-AreLeft-all ids bytes is = record {
-  rest = ids;
-  is = is;
-  within = λ name none. none;
-}
 
 -- a name that is none of those of ids is none of the first one's, and none of the others'
 both_none : (id : VersionId) (rest : List VersionId) (name : List ℕ) → IsNoneOf (data_names (id ∷ rest)) name

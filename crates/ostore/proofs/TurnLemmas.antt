@@ -15,13 +15,15 @@ use Rattle.ostore.specs.Store.{Ready}
 use Rattle.ostore.specs.Drives.{AllTell, AtEach, SomeDrive, NoneFell, DriveCause, DrivesCause}
 use Rattle.ostore.specs.Session.{Exchange, Step, Wires, wires, Moved, EndsSo, Gives, moment, TurnOver, Agrees}
 use Rattle.ostore.proofs.SessionLemmas.{nothing_taken, ends_later, moved_later, none_fell_same}
+use Rattle.ostore.proofs.ListLemmas.{first_of}
+
+-- where the counters are the slots' numbers, a request that draws nothing leaves room for the next
+pub room_kept : (number : ℕ) (drawn : Drawn) (objects : Objects) → Agrees drawn objects → ((slot : ℕ) → drawn slot ≤ number + number) → (slot : ℕ) → objects.drawn slot ≤ number + number + 2
+room_kept number drawn objects agrees room slot =
+    let low : objects.drawn slot ≤ number + number = subst (λ n. n ≤ number + number) (agrees slot) (room slot) in omega arith
 
 module _ {D : Type 0} (clock : Option ℕ) (mode : Mode) (tell : D → Bool) (files : D → Files) (count : D → ℕ) where
   -- ---- the drives as lists of what they tell and count
-
-  first_of : (old : List D) (k : ℕ) → k < length old → D
-  first_of [] k lt = absurd (omega arith)
-  first_of (d ∷ ds) k lt = d
 
   pub tells_each : (old : List D) → AllTell (map tell old) → (k : ℕ) (d : D) → k < length old → IsTrue (tell (slice_index_or old k d))
   tells_each old all k d lt =
@@ -33,7 +35,7 @@ module _ {D : Type 0} (clock : Option ℕ) (mode : Mode) (tell : D → Bool) (fi
     each = λ k d lt.
         let within : k < length old = subst (λ n. k < n) (length-map old count) lt in
         let there : k < length new = subst (λ n. k < n) (sym same) within in
-        let c = first_of old k within in
+        let c = first_of old (omega arith) in
         let low : slice_index_or (map count old) k d ≡ count (slice_index_or old k c) = get_or-map count old k c d within in
         let high : slice_index_or (map count new) k d ≡ count (slice_index_or new k c) = get_or-map count new k c d there in
         let le : count (slice_index_or old k c) ≤ count (slice_index_or new k c) = each k c within in
@@ -43,7 +45,7 @@ module _ {D : Type 0} (clock : Option ℕ) (mode : Mode) (tell : D → Bool) (fi
   pub cause_of_some : (old new : List D) → length new ≡ length old → SomeDrive (λ a b. DriveCause (tell a) (count a) (count b)) old new
       → DrivesCause (map tell old) (map count old) (map count new)
   cause_of_some old new same (k, lt, cause) =
-      let c = first_of old k lt in
+      let c = first_of old (omega arith) in
       let there : k < length new = subst (λ n. k < n) (sym same) lt in
       elim (cause c) [
         | inl rose ↦ inl (

@@ -1,5 +1,5 @@
 -- The data of a body on the four drives: its shards and its manifest, and which drives keep them.
-use Rattle.std.specs.Prelude.{◌≡◌, ◌≢◌, ◌⊎◌, ◌<◌, ◌^◌, ℕ, List, [], ◌∷◌, length, map, replicate, slice_index_or, Some, None, ⊤}
+use Rattle.std.specs.Prelude.{◌≡◌, ◌≢◌, ◌⊎◌, ◌<◌, ◌^◌, ℕ, List, [], ◌∷◌, length, map, replicate, slice_index_or, Option, Some, None, ⊤}
 use Rattle.std.specs.List.{flat_map}
 use Rattle.std.proofs.Common.{lit≤}
 use Rattle.stamp_id.specs.declared.version.VersionId.{VersionId}
@@ -52,12 +52,14 @@ pub record Holds (id : VersionId) (body : List ℕ) (coding : Coding body) (numb
   pub shard : files.kept (shard_name id) ≡ Some (shard_file body coding number)
   pub manifest : files.kept (manifest_name id) ≡ Some (manifest_file id body coding)
 
+-- there is nothing, or the file that is made of the body that was brought for an id
+abbrev pub IsNothingOr : ((body : List ℕ) → Coding body → List ℕ) → Named (List ℕ) → VersionId → Option (List ℕ) → Type 0
+IsNothingOr file_for bodies id there = (there ≡ None) ⊎ ((body : List ℕ) × (coding : Coding body) × (bodies (shard_name id) ≡ Some body) × (there ≡ Some (file_for body coding)))
+
 -- under the two names of an id is nothing, or the file of the body that was brought for it
 pub record HasOnly (bodies : Named (List ℕ)) (number : ℕ) (id : VersionId) (named : Named (List ℕ)) : Type 0 where
-  pub shard : (named (shard_name id) ≡ None)
-      ⊎ ((body : List ℕ) × (coding : Coding body) × (bodies (shard_name id) ≡ Some body) × (named (shard_name id) ≡ Some (shard_file body coding number)))
-  pub manifest : (named (manifest_name id) ≡ None)
-      ⊎ ((body : List ℕ) × (coding : Coding body) × (bodies (shard_name id) ≡ Some body) × (named (manifest_name id) ≡ Some (manifest_file id body coding)))
+  pub shard : IsNothingOr (λ body coding. shard_file body coding number) bodies id (named (shard_name id))
+  pub manifest : IsNothingOr (manifest_file id) bodies id (named (manifest_name id))
 
 -- the names of the files of the data of some ids
 abbrev pub data_names : List VersionId → List (List ℕ)

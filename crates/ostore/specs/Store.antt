@@ -71,9 +71,13 @@ pub record AreSound (most : ℕ) (owner : List ℕ → List ℕ) (objects : Obje
   pub room : (slot : ℕ) → objects.drawn slot ≤ most
   pub none_brought : (id : VersionId) → objects.drawn id.slot < id.change.0.seq → objects.bodies (shard_name id) ≡ None
 
+-- none of the names is this one
+abbrev pub IsNoneOf : List (List ℕ) → List ℕ → Type 0
+IsNoneOf names name = list_any (λ n. bytes_eq n name) names ≡ false
+
 -- a drive loses no file but those of these names, gets none, and goes on showing what it keeps
 pub record OnlyRemoves (names : List (List ℕ)) (old new : Files) : Type 0 where
-  pub kept : (name : List ℕ) → list_any (λ n. bytes_eq n name) names ≡ false → new.kept name ≡ old.kept name
+  pub kept : (name : List ℕ) → IsNoneOf names name → new.kept name ≡ old.kept name
   pub less : (name : List ℕ) → (new.kept name ≡ old.kept name) ⊎ (new.kept name ≡ None)
   pub shows : old.shown ≡ old.kept → new.shown ≡ new.kept
   pub loose : new.loose ≡ old.loose

@@ -2,7 +2,8 @@ use Rattle.std.proofs.Common.{◌≡◌, inr, IsTrue, false, slice_index_or, ari
 use Rattle.version_list.specs.declared.state.KeyState.{KeyState}
 use Rattle.version_list.specs.Naming.{has_id}
 use Rattle.ostore.specs.KeyFiles.{StandsFor}
-use Rattle.ostore.proofs.CommitLemmas.{first_of, change_is_prepared}
+use Rattle.ostore.proofs.CommitLemmas.{change_is_prepared}
+use Rattle.ostore.proofs.ListLemmas.{first_of}
 use Rattle.ostore.proofs.commit.prepare.Goals as goal
 
 -- the state that was read names the id

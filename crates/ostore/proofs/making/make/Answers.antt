@@ -5,7 +5,7 @@ use Rattle.drive_files.specs.Writing.{IsInPlace}
 use Rattle.ostore.specs.Drives.{MayBeWritten}
 use Rattle.ostore.specs.Leaves.{LookCause, Shows, WritesMaybe, WritesAll}
 use Rattle.ostore.specs.Session.{Gives}
-use Rattle.ostore.proofs.MakingLemmas.{writes_after_look, writes_and_removes, tells_later, counts_later, cause_later, prepared_all, look_cause_all}
+use Rattle.ostore.proofs.MakingLemmas.{writes_after_look, writes_and_removes, tells_later, counts_later, cause_later, look_cause_all, prepared_so}
 use Rattle.ostore.proofs.making.make.Goals as goal
 
 pub returns-in-Err-Refused-clause-leaves : goal.returns-in-Err-Refused-clause-leaves
@@ -23,15 +23,11 @@ returns-in-Err-Refused-clause-leaves g c =
 
 pub returns-in_default-clause-leaves : goal.returns-in_default-clause-leaves
 returns-in_default-clause-leaves g c =
-    let prepared = prepared_all g.D.Drive.tells g.D.Drive.files g.D.Drive.count c.args.mode c.args.change.now.act c.args.change.now.id c.args.change.now.moment c.args.drives.now c.as_str.result.now
-    c.in-Ok.prepared.text.items (option_map (λ f. f.items) c.in-Ok.prepared.file) c.in-Ok.prepared.gone c.requires.some c.in-Ok.ensures.ok in
     inr (inr (inl (record {
       text = c.in-Ok.prepared.text.items;
       gone = c.in-Ok.prepared.gone;
-      prepared = subst (λ (n : List ℕ). IsPrepared c.args.mode c.args.change.now.act c.args.change.now.id c.args.change.now.moment (Shows g.D.Drive.tells g.D.Drive.files g.D.Drive.count c.args.drives.now n) c.in-Ok.prepared.text.items None c.in-Ok.prepared.gone)
-          c.as_str.ensures.value
-          (subst (λ (f : Option (List ℕ)). IsPrepared c.args.mode c.args.change.now.act c.args.change.now.id c.args.change.now.moment (Shows g.D.Drive.tells g.D.Drive.files g.D.Drive.count c.args.drives.now c.as_str.result.now) c.in-Ok.prepared.text.items f c.in-Ok.prepared.gone)
-          (ap (option_map (λ f. f.items)) c.in_default.is) prepared);
+      prepared = prepared_so g.D.Drive.tells g.D.Drive.files g.D.Drive.count c.args.mode c.args.change.now.act c.args.change.now.id c.args.change.now.moment c.args.drives.now c.as_str.result.now (string_bytes c.args.change.now.name)
+          c.in-Ok.prepared.text.items (option_map (λ f. f.items) c.in-Ok.prepared.file) None c.in-Ok.prepared.gone c.requires.some c.as_str.ensures.value (ap (option_map (λ f. f.items)) c.in_default.is) c.in-Ok.ensures.ok;
       gives = subst (λ (t : List ℕ). Gives t c.answer-in_default.result (g.K.Sink.given c.args.sink.now) (g.K.Sink.given c.answer-in_default.new.sink) (g.K.Sink.faults c.args.sink.now) (g.K.Sink.faults c.answer-in_default.new.sink))
           c.as_slice.ensures.value c.answer-in_default.ensures;
       stays = c.prepare.ensures.files;
@@ -49,12 +45,8 @@ returns-in-Ok-write_all-clause-leaves g c =
       text = c.in-Ok.prepared.text.items;
       file = c.in-Some.file.items;
       gone = c.in-Ok.prepared.gone;
-      prepared = subst (λ (n : List ℕ). IsPrepared c.args.mode c.args.change.now.act c.args.change.now.id c.args.change.now.moment (Shows g.D.Drive.tells g.D.Drive.files g.D.Drive.count c.args.drives.now n) c.in-Ok.prepared.text.items (Some c.in-Some.file.items) c.in-Ok.prepared.gone)
-          c.as_str.ensures.value
-          (subst (λ (f : Option (List ℕ)). IsPrepared c.args.mode c.args.change.now.act c.args.change.now.id c.args.change.now.moment (Shows g.D.Drive.tells g.D.Drive.files g.D.Drive.count c.args.drives.now c.as_str.result.now) c.in-Ok.prepared.text.items f c.in-Ok.prepared.gone)
-          (ap (option_map (λ f. f.items)) c.in-Some.is)
-          (prepared_all g.D.Drive.tells g.D.Drive.files g.D.Drive.count c.args.mode c.args.change.now.act c.args.change.now.id c.args.change.now.moment c.args.drives.now c.as_str.result.now
-          c.in-Ok.prepared.text.items (option_map (λ f. f.items) c.in-Ok.prepared.file) c.in-Ok.prepared.gone c.requires.some c.in-Ok.ensures.ok));
+      prepared = prepared_so g.D.Drive.tells g.D.Drive.files g.D.Drive.count c.args.mode c.args.change.now.act c.args.change.now.id c.args.change.now.moment c.args.drives.now c.as_str.result.now (string_bytes c.args.change.now.name)
+          c.in-Ok.prepared.text.items (option_map (λ f. f.items) c.in-Ok.prepared.file) (Some c.in-Some.file.items) c.in-Ok.prepared.gone c.requires.some c.as_str.ensures.value (ap (option_map (λ f. f.items)) c.in-Some.is) c.in-Ok.ensures.ok;
       writes =
           subst (λ (l : List ℕ). WritesAll g.D.Drive.tells g.D.Drive.files g.D.Drive.count l (string_bytes c.args.change.now.name) c.in-Some.file.items c.in-Ok.prepared.gone c.args.drives.now c.remove_data.new.drives) c.as_str-2.ensures.value
           (subst (λ (n : List ℕ). WritesAll g.D.Drive.tells g.D.Drive.files g.D.Drive.count c.as_str-2.result.now n c.in-Some.file.items c.in-Ok.prepared.gone c.args.drives.now c.remove_data.new.drives) c.as_str-3.ensures.value
@@ -83,12 +75,8 @@ returns-clause-leaves g c =
       text = c.in-Ok.prepared.text.items;
       file = c.in-Some.file.items;
       gone = c.in-Ok.prepared.gone;
-      prepared = subst (λ (n : List ℕ). IsPrepared c.args.mode c.args.change.now.act c.args.change.now.id c.args.change.now.moment (Shows g.D.Drive.tells g.D.Drive.files g.D.Drive.count c.args.drives.now n) c.in-Ok.prepared.text.items (Some c.in-Some.file.items) c.in-Ok.prepared.gone)
-          c.as_str.ensures.value
-          (subst (λ (f : Option (List ℕ)). IsPrepared c.args.mode c.args.change.now.act c.args.change.now.id c.args.change.now.moment (Shows g.D.Drive.tells g.D.Drive.files g.D.Drive.count c.args.drives.now c.as_str.result.now) c.in-Ok.prepared.text.items f c.in-Ok.prepared.gone)
-          (ap (option_map (λ f. f.items)) c.in-Some.is)
-          (prepared_all g.D.Drive.tells g.D.Drive.files g.D.Drive.count c.args.mode c.args.change.now.act c.args.change.now.id c.args.change.now.moment c.args.drives.now c.as_str.result.now
-          c.in-Ok.prepared.text.items (option_map (λ f. f.items) c.in-Ok.prepared.file) c.in-Ok.prepared.gone c.requires.some c.in-Ok.ensures.ok));
+      prepared = prepared_so g.D.Drive.tells g.D.Drive.files g.D.Drive.count c.args.mode c.args.change.now.act c.args.change.now.id c.args.change.now.moment c.args.drives.now c.as_str.result.now (string_bytes c.args.change.now.name)
+          c.in-Ok.prepared.text.items (option_map (λ f. f.items) c.in-Ok.prepared.file) (Some c.in-Some.file.items) c.in-Ok.prepared.gone c.requires.some c.as_str.ensures.value (ap (option_map (λ f. f.items)) c.in-Some.is) c.in-Ok.ensures.ok;
       cause = cause_later g.D.Drive.tells g.D.Drive.files g.D.Drive.count c.args.drives.now c.prepare.new.drives c.write_all.new.drives c.prepare.auto.drives c.prepare.ensures.tells c.prepare.ensures.counts c.in-Err.ensures.cause;
       writes =
           subst (λ (l : List ℕ). WritesMaybe g.D.Drive.tells g.D.Drive.files g.D.Drive.count l (string_bytes c.args.change.now.name) c.in-Some.file.items c.args.drives.now c.write_all.new.drives) c.as_str-2.ensures.value

@@ -1,5 +1,5 @@
 use Rattle.std.proofs.Common.{◌≡◌, ◌<◌, inr, length, slice_index_or, subst, arith}
-use Rattle.ostore.proofs.CommitLemmas.{first_of}
+use Rattle.ostore.proofs.ListLemmas.{first_of}
 use Rattle.ostore.proofs.FindingLemmas.{version_at, found_is, lost_so}
 use Rattle.ostore.proofs.reads.read_key.Goals as goal
 
