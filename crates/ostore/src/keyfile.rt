@@ -122,8 +122,8 @@ fn earliest(index: usize, before: KeyState, now: KeyState) -> KeyState
 #[cfg(test)]
 mod tests {
     use super::*;
+    use crate::files::write_all;
     use call_types::{Version, VersionName, What};
-    use drive_base::LONGEST_NAME;
     use drive_memory::MemDrive;
     use std::alloc::AllocError;
     use std::test::Fail;
@@ -134,15 +134,6 @@ mod tests {
         0x45, 0x70, 0x2a, 0x1e, 0x60, 0x11, 0x3a, 0x2e, 0x6e, 0x7d, 0x09, 0xdb, 0xda, 0x94, 0x18,
         0x5e, 0x11,
     ];
-
-    /// Writes a file as the store does: under a loose name, synced, then put in place.
-    fn place<D: Drive>(drive: &mut D, name: &str, bytes: &[u8]) -> Result<(), DriveFault>
-        requires { length name.now ≤ LONGEST_NAME }
-    {
-        drive.append("w1", bytes)?;
-        drive.sync("w1")?;
-        drive.rename("w1", name)
-    }
 
     /// The state of a key with one delete marker.
     fn one_marker(alloc: Global) -> Result<KeyState, AllocError>
@@ -166,7 +157,8 @@ mod tests {
         let body = version_list::write(rt.alloc(), &state)?;
         let file = seal_file::seal(rt.alloc(), *b"OKEY", body.as_slice())?;
         let mut drives = [MemDrive::new(rt.alloc()), MemDrive::new(rt.alloc())];
-        place(&mut drives[0], "k/a", file.as_slice())?;
+        let written = write_all(&mut drives[..1], "w1", "k/a", file.as_slice());
+        assert!(rt; written.is_ok());
         let read = read_states(rt.alloc(), &mut drives, "k/a")?;
         assert!(rt; read.versions == state.versions && read.uploads == state.uploads);
         let absent = read_states(rt.alloc(), &mut drives, "k/b")?;
@@ -183,8 +175,10 @@ mod tests {
         file.extend_from_slice(&[0; 32])?;
         let misspelled = seal_file::seal(rt.alloc(), *b"OKEY", b"\0\0")?;
         let mut drives = [MemDrive::new(rt.alloc())];
-        place(&mut drives[0], "k/a", file.as_slice())?;
-        place(&mut drives[0], "k/b", misspelled.as_slice())?;
+        let written = write_all(&mut drives, "w1", "k/a", file.as_slice());
+        assert!(rt; written.is_ok());
+        let written = write_all(&mut drives, "w1", "k/b", misspelled.as_slice());
+        assert!(rt; written.is_ok());
         let damage = Damage::Digest {
             stored: [0; 32],
             computed: KIND_DIGEST,

@@ -17,47 +17,34 @@ fn body_of(alloc: Global, size: u32) -> Result<Vec<u8>, AllocError> {
 const STORED: &[u8] =
     b"HTTP/1.1 200 OK\r\nContent-Length: 0\r\nETag: \"d41d8cd98f00b204e9800998ecf8427e\"\r\n\r\n";
 
+/// The replies to a PUT and to a GET of a body of this many bytes, with this entity tag, up to the body.
+fn both_replies(alloc: Global, size: u32, etag: &str) -> Result<String, AllocError> {
+    format!(in alloc;
+        "HTTP/1.1 200 OK\r\nContent-Length: 0\r\nETag: \"{etag}\"\r\n\r\nHTTP/1.1 200 OK\r\nContent-Length: {size}\r\nETag: \"{etag}\"\r\n\r\n"
+    )
+}
+
 /// The entity tags are MD5 digests computed by Python's hashlib.
 #[test]
 fn bodies_are_stored_and_found(rt: HostRuntime) -> Result<(), Fail> {
-    let table: [(u32, &[u8], &[u8]); 6] = [
-        (
-            0,
-            b"PUT /pic/a HTTP/1.1\r\nContent-Length: 0\r\n\r\n",
-            b"HTTP/1.1 200 OK\r\nContent-Length: 0\r\nETag: \"d41d8cd98f00b204e9800998ecf8427e\"\r\n\r\nHTTP/1.1 200 OK\r\nContent-Length: 0\r\nETag: \"d41d8cd98f00b204e9800998ecf8427e\"\r\n\r\n",
-        ),
-        (
-            5,
-            b"PUT /pic/a HTTP/1.1\r\nContent-Length: 00000005\r\n\r\n",
-            b"HTTP/1.1 200 OK\r\nContent-Length: 0\r\nETag: \"d05374dc381d9b52806446a71c8e79b1\"\r\n\r\nHTTP/1.1 200 OK\r\nContent-Length: 5\r\nETag: \"d05374dc381d9b52806446a71c8e79b1\"\r\n\r\n",
-        ),
-        (
-            1000,
-            b"PUT /pic/a HTTP/1.1\r\nContent-Length: 1000\r\n\r\n",
-            b"HTTP/1.1 200 OK\r\nContent-Length: 0\r\nETag: \"a24f1e3ef66950e1327f210e3997ba2c\"\r\n\r\nHTTP/1.1 200 OK\r\nContent-Length: 1000\r\nETag: \"a24f1e3ef66950e1327f210e3997ba2c\"\r\n\r\n",
-        ),
-        (
-            65_535,
-            b"PUT /pic/a HTTP/1.1\r\nContent-Length: 65535\r\n\r\n",
-            b"HTTP/1.1 200 OK\r\nContent-Length: 0\r\nETag: \"89378be93d51bbd3a9aa65e920103692\"\r\n\r\nHTTP/1.1 200 OK\r\nContent-Length: 65535\r\nETag: \"89378be93d51bbd3a9aa65e920103692\"\r\n\r\n",
-        ),
-        (
-            65_536,
-            b"PUT /pic/a HTTP/1.1\r\nContent-Length: 65536\r\n\r\n",
-            b"HTTP/1.1 200 OK\r\nContent-Length: 0\r\nETag: \"9cc60713923528a1dd94e1c1ab0ebc9e\"\r\n\r\nHTTP/1.1 200 OK\r\nContent-Length: 65536\r\nETag: \"9cc60713923528a1dd94e1c1ab0ebc9e\"\r\n\r\n",
-        ),
-        (
-            1_048_577,
-            b"PUT /pic/a HTTP/1.1\r\nContent-Length: 1048577\r\n\r\n",
-            b"HTTP/1.1 200 OK\r\nContent-Length: 0\r\nETag: \"79b67c7fbf43b76e5b7f182328bdc4b6\"\r\n\r\nHTTP/1.1 200 OK\r\nContent-Length: 1048577\r\nETag: \"79b67c7fbf43b76e5b7f182328bdc4b6\"\r\n\r\n",
-        ),
+    let table = [
+        (0, "0", "d41d8cd98f00b204e9800998ecf8427e"),
+        (5, "00000005", "d05374dc381d9b52806446a71c8e79b1"),
+        (1000, "1000", "a24f1e3ef66950e1327f210e3997ba2c"),
+        (65_535, "65535", "89378be93d51bbd3a9aa65e920103692"),
+        (65_536, "65536", "9cc60713923528a1dd94e1c1ab0ebc9e"),
+        (1_048_577, "1048577", "79b67c7fbf43b76e5b7f182328bdc4b6"),
     ];
-    for (size, head, replies) in table {
+    for (size, digits, etag) in table {
         let body = body_of(rt.alloc(), size)?;
-        let mut input = head.to_vec(rt.alloc())?;
+        let head = format!(in rt.alloc();
+            "PUT /pic/a HTTP/1.1\r\nContent-Length: {digits}\r\n\r\n"
+        )?;
+        let mut input = head.as_bytes().to_vec(rt.alloc())?;
         input.extend_from_slice(&body)?;
         input.extend_from_slice(b"GET /pic/a HTTP/1.1\r\n\r\n")?;
-        let mut given = replies.to_vec(rt.alloc())?;
+        let replies = both_replies(rt.alloc(), size, etag)?;
+        let mut given = replies.as_bytes().to_vec(rt.alloc())?;
         given.extend_from_slice(&body)?;
         let outcome = pipe(&rt, &input)?;
         assert_eq!(rt; outcome.status, 0, "{size}");

@@ -57,7 +57,7 @@ fn a_marker_hides_the_versions_until_it_is_removed(rt: HostRuntime) -> Result<()
 
 #[test]
 fn each_put_makes_a_version(rt: HostRuntime) -> Result<(), Fail> {
-    let table: [(&[u8], &[u8]); 11] = [
+    let table: [(&[u8], &[u8]); 7] = [
         (
             b"PUT /pic/a HTTP/1.1\r\nContent-Length: 3\r\n\r\none",
             b"HTTP/1.1 200 OK\r\nContent-Length: 0\r\nETag: \"f97c5d29941bfb1b2fdab0874906ab82\"\r\nx-amz-version-id: 00000000-0001-801c-8000-000000000001\r\n\r\n",
@@ -86,6 +86,24 @@ fn each_put_makes_a_version(rt: HostRuntime) -> Result<(), Fail> {
             b"GET /pic/a?versionId=00000000-0001-801c-8000-000000000003 HTTP/1.1\r\n\r\n",
             b"HTTP/1.1 404 Not Found\r\nContent-Length: 0\r\n\r\n",
         ),
+    ];
+    let (given, wanted) = run_table(&rt, "on", &table)?;
+    assert_eq!(rt; given.as_slice(), wanted.as_slice());
+    Ok(())
+}
+
+/// What the key doesn't have isn't found, and taking it away draws no number.
+#[test]
+fn versions_that_are_not_there(rt: HostRuntime) -> Result<(), Fail> {
+    let table: [(&[u8], &[u8]); 6] = [
+        (
+            b"PUT /pic/a HTTP/1.1\r\nContent-Length: 3\r\n\r\none",
+            b"HTTP/1.1 200 OK\r\nContent-Length: 0\r\nETag: \"f97c5d29941bfb1b2fdab0874906ab82\"\r\nx-amz-version-id: 00000000-0001-801c-8000-000000000001\r\n\r\n",
+        ),
+        (
+            b"GET /pic/a?versionId=00000000-0001-801c-8000-000000000003 HTTP/1.1\r\n\r\n",
+            b"HTTP/1.1 404 Not Found\r\nContent-Length: 0\r\n\r\n",
+        ),
         (
             b"DELETE /pic/a?versionId=00000000-0001-801c-8000-000000000003 HTTP/1.1\r\n\r\n",
             b"HTTP/1.1 204 No Content\r\nx-amz-version-id: 00000000-0001-801c-8000-000000000003\r\n\r\n",
@@ -100,7 +118,7 @@ fn each_put_makes_a_version(rt: HostRuntime) -> Result<(), Fail> {
         ),
         (
             b"PUT /pic/a HTTP/1.1\r\nContent-Length: 3\r\n\r\ntwo",
-            b"HTTP/1.1 200 OK\r\nContent-Length: 0\r\nETag: \"b8a9f715dbb64fd5c56e7783c6820a61\"\r\nx-amz-version-id: 00000000-0001-801c-8000-000000000007\r\n\r\n",
+            b"HTTP/1.1 200 OK\r\nContent-Length: 0\r\nETag: \"b8a9f715dbb64fd5c56e7783c6820a61\"\r\nx-amz-version-id: 00000000-0001-801c-8000-000000000003\r\n\r\n",
         ),
     ];
     let (given, wanted) = run_table(&rt, "on", &table)?;
