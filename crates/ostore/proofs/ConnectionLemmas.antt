@@ -1,7 +1,7 @@
 -- What the reading of a head leads to, and connections from turns.
 use Rattle.std.proofs.Common.{◌≡◌, inl, inr, ℕ, ◌+◌, ◌<◌, ◌≤◌, Bool, true, false, List, [], ◌∷◌, ◌++◌, length, take, map, Option, refl, sym, ap, ◌∙◌, subst, arith, append_assoc, append-nil, length-append, ◌==◌, drop}
 use Rattle.std.proofs.Math.Seq.{take-append_seam}
-use Rattle.std.specs.Io.KnownBytes.{prepend_known, IsAtEnd}
+use Rattle.std.specs.Io.KnownBytes.{prepend_known, IsAtEnd, append_known}
 use Rattle.io_base.specs.Count.{CountRose}
 use Rattle.call_types.specs.declared.names.Mode.{Mode}
 use Rattle.drive_base.specs.Files.{Files}
@@ -15,7 +15,7 @@ use Rattle.ostore.specs.Replies.{bad_request}
 use Rattle.ostore.specs.Slots.{Drawn}
 use Rattle.ostore.specs.Store.{Keeps, Ready}
 use Rattle.ostore.specs.Drives.{AllTell}
-use Rattle.ostore.specs.Session.{Run, bytes_of, texts_of, Wires, wires, Moved, Refuses, Agrees, moment, TurnOver, Served, SoFar}
+use Rattle.ostore.specs.Session.{Run, bytes_of, texts_of, Wires, wires, Moved, Refuses, Agrees, moment, TurnOver, Served, SoFar, EndsSo}
 use Rattle.ostore.proofs.StoreLemmas.{ready_next}
 use Rattle.ostore.proofs.BodyLemmas.{unread}
 use Rattle.ostore.proofs.SessionLemmas.{none_fell_same, nothing_taken, nothing_given, moved_later, ends_later, ends_after, run_append, bytes_of-append, texts_of-append}
@@ -26,6 +26,31 @@ pub keeps_of : {D : Type 0} (files : D → Files) (number most : ℕ) (objects :
 keeps_of files number most objects drives ready = record { first = ready.first; datas = ready.datas }
 
 module _ {D : Type 0} (clock : Option ℕ) (mode : Mode) (tell : D → Bool) (files : D → Files) (count : D → ℕ) where
+  -- the connection ends with the refusal of a head, of which so much was given
+  refusal_given : (number : ℕ) (head out : List ℕ) (objects : Objects) (drives : List D) (end : ConnectionEnd) (left given now : Option (List ℕ)) (reads writes more : ℕ) (drawn : Drawn)
+      → (AllTell (map tell drives) → Ready files number (number + number) objects drives) → Agrees drawn objects → ((slot : ℕ) → drawn slot ≤ number + number)
+      → now ≡ append_known given out → writes ≤ more → EndsSo mode end [] head out (wires left given reads writes) (wires left now reads more)
+      → TurnOver clock mode tell files count number head objects drives (wires left given reads writes) (Ended end) drives (wires left now reads more) drawn
+  refusal_given number head out objects drives end left given now reads writes more drawn ready agrees room gave low ends = record {
+    objects_after = objects;
+    agrees = agrees;
+    room = room_kept number drawn objects agrees room;
+    ready = λ all. ready_next files number objects drives (ready all);
+    turns = record {
+      exchanges = [];
+      tail = head;
+      part = [];
+      out = out;
+      stop = moment clock mode tell files count objects drives;
+      run = refl;
+      rests = record { states = refl; counts = none_fell_same (map count drives) };
+      is = sym (append-nil head);
+      moved = record { took = nothing_taken left; gave = gave; reads = omega arith; writes = low };
+      ends = ends;
+      few = omega arith;
+    };
+  }
+
   -- a head that is refused
   pub refused : (number : ℕ) (head : List ℕ) (objects : Objects) (drives : List D) (turn : Turn) (left given now : Option (List ℕ)) (reads writes more : ℕ) (drawn : Drawn)
       → IsRefusedHead head → (AllTell (map tell drives) → Ready files number (number + number) objects drives) → Agrees drawn objects → ((slot : ℕ) → drawn slot ≤ number + number)
@@ -36,44 +61,10 @@ module _ {D : Type 0} (clock : Option ℕ) (mode : Mode) (tell : D → Bool) (fi
   refused number head objects drives (Ended InputCut) left given now reads writes more drawn is ready agrees room refuses = absurd refuses
   refused number head objects drives (Ended ReadFault) left given now reads writes more drawn is ready agrees room refuses = absurd refuses
   refused number head objects drives (Ended NoMemory) left given now reads writes more drawn is ready agrees room refuses = absurd refuses
-  refused number head objects drives (Ended Closed) left given now reads writes more drawn is ready agrees room (gave, low) = record {
-    objects_after = objects;
-    agrees = agrees;
-    room = room_kept number drawn objects agrees room;
-    ready = λ all. ready_next files number objects drives (ready all);
-    turns = record {
-      exchanges = [];
-      tail = head;
-      part = [];
-      out = bad_request;
-      stop = moment clock mode tell files count objects drives;
-      run = refl;
-      rests = record { states = refl; counts = none_fell_same (map count drives) };
-      is = sym (append-nil head);
-      moved = record { took = nothing_taken left; gave = gave; reads = omega arith; writes = low };
-      ends = (is, refl);
-      few = omega arith;
-    };
-  }
-  refused number head objects drives (Ended WriteFault) left given now reads writes more drawn is ready agrees room ((n, gave), rose, low) = record {
-    objects_after = objects;
-    agrees = agrees;
-    room = room_kept number drawn objects agrees room;
-    ready = λ all. ready_next files number objects drives (ready all);
-    turns = record {
-      exchanges = [];
-      tail = head;
-      part = [];
-      out = take n bad_request;
-      stop = moment clock mode tell files count objects drives;
-      run = refl;
-      rests = record { states = refl; counts = none_fell_same (map count drives) };
-      is = sym (append-nil head);
-      moved = record { took = nothing_taken left; gave = gave; reads = omega arith; writes = low };
-      ends = (rose, inr (record { n = n; refused = is; given = refl }));
-      few = omega arith;
-    };
-  }
+  refused number head objects drives (Ended Closed) left given now reads writes more drawn is ready agrees room (gave, low) =
+      refusal_given number head bad_request objects drives Closed left given now reads writes more drawn ready agrees room gave low (is, refl)
+  refused number head objects drives (Ended WriteFault) left given now reads writes more drawn is ready agrees room ((n, gave), rose, low) =
+      refusal_given number head (take n bad_request) objects drives WriteFault left given now reads writes more drawn ready agrees room gave low (rose, inr (record { n = n; refused = is; given = refl }))
 
   -- a turn that began with reading a head
   pub head_read : (number : ℕ) (head : List ℕ) (objects : Objects) (old new : List D) (turn : Turn) (left now after given gave : Option (List ℕ)) (reads more most writes wrote : ℕ) (drawn : Drawn)

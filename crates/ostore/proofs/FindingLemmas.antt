@@ -15,8 +15,8 @@ use Rattle.version_list.specs.State.{IsCanonical}
 use Rattle.version_list.specs.Naming.{is_marker}
 use Rattle.version_list.specs.Reads.{Reads}
 use Rattle.body_print.specs.Clashes.{Clash, IsShown, WasRead}
-use Rattle.ostore.specs.declared.reads.Unread.{Unread}
-use Rattle.ostore.specs.declared.reads.Unread.TheVariants.{Refused}
+use Rattle.ostore.specs.declared.undone.Undone.{Undone}
+use Rattle.ostore.specs.declared.undone.Undone.TheVariants.{Refused}
 use Rattle.ostore.specs.Drives.{AtEach, DriveView, views_of}
 use Rattle.ostore.specs.Finding.{LacksBody, GivesVersion, IsFound, UnreadCause}
 use Rattle.get_read.specs.Outcomes.{AreOfSpan}
@@ -116,7 +116,7 @@ module _ {D : Type 0} (tell : D → Bool) (files : D → Files) (count : D → �
   -- ---- what is found
 
   -- a version of the state that drive 0 showed is found
-  pub found_is : (mode : Mode) (pick : Pick) (name : List ℕ) (state : KeyState) (place : ℕ) (version : Version) (result : Result (Vec ℕ Global) Unread) (old mid new : List D)
+  pub found_is : (mode : Mode) (pick : Pick) (name : List ℕ) (state : KeyState) (place : ℕ) (version : Version) (result : Result (Vec ℕ Global) Undone) (old mid new : List D)
       → length mid ≡ length old → AtEach (λ a b. tell b ≡ tell a) old mid → FilesStay tell files count old mid
       → IsCanonical state → Shows tell files count old name state
       → Reads state.versions pick (Ok place) → slice_get state.versions place ≡ Some version
@@ -137,7 +137,7 @@ module _ {D : Type 0} (tell : D → Bool) (files : D → Files) (count : D → �
   found_is mode pick name state place version (Err why) old mid new same tells stays canonical stands reads there gives = tt
 
   -- the data of a version of the state that drive 0 showed wasn't read
-  pub lost_so : (pick : Pick) (name : List ℕ) (state : KeyState) (place : ℕ) (version : Version) (result : Result (Vec ℕ Global) Unread) (old mid new : List D)
+  pub lost_so : (pick : Pick) (name : List ℕ) (state : KeyState) (place : ℕ) (version : Version) (result : Result (Vec ℕ Global) Undone) (old mid new : List D)
       → length mid ≡ length old → AtEach (λ a b. tell b ≡ tell a) old mid → FilesStay tell files count old mid → AtEach (λ a b. count b ≡ count a) old mid
       → IsCanonical state → Shows tell files count old name state
       → Reads state.versions pick (Ok place) → slice_get state.versions place ≡ Some version

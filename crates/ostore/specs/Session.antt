@@ -1,5 +1,5 @@
 -- A connection: the requests that were read, the replies that were given, and how it ended.
-use Rattle.std.specs.Prelude.{⊤, map, Bool, ◌≡◌, ◌⊎◌, ◌+◌, ◌<◌, ◌≤◌, ℕ, List, [], ◌∷◌, ◌++◌, length, take, Option, slice_index_or}
+use Rattle.std.specs.Prelude.{⊤, map, Bool, ◌≡◌, ◌⊎◌, ◌+◌, ◌<◌, ◌≤◌, ℕ, List, [], ◌∷◌, ◌++◌, length, take, Option, IfSome, slice_index_or}
 use Rattle.std.specs.Io.KnownBytes.{prepend_known, append_known, IsAtEnd}
 use Rattle.drive_base.specs.Files.{Files}
 use Rattle.io_base.specs.Count.{CountRose}
@@ -272,3 +272,12 @@ module _ {D : Type 0} (clock : Option ℕ) (mode : Mode) (tell : D → Bool) (fi
     pub run : Run clock mode (map tell old) (moment objects old) exchanges (moment objects_after new)
     pub moved : Moved (bytes_of exchanges) (texts_of mode exchanges) before after
     pub many : length exchanges ≡ number
+
+module _ {D : Type 0} (mode : Mode) (tell : D → Bool) (files : D → Files) (count : D → ℕ) where
+  -- One turn that begins at a moment, where the clock told it if it tells, over drives that are ready for the request of
+  -- this number and keep whatever objects the counters agree with
+  abbrev pub TurnAt : (now number : ℕ) (front : List ℕ) (drawn : Drawn) (old : List D) (before : Wires) (turn : Turn) (new : List D) (after : Wires) (counters : Drawn) → Type 0
+  TurnAt now number front drawn old before turn new after counters =
+      (clock : Option ℕ) → IfSome clock (λ told. now ≡ told) → (objects : Objects) → Agrees drawn objects
+      → (AllTell (map tell old) → Ready files number (number + number) objects old)
+      → TurnOver clock mode tell files count number front objects old before turn new after counters

@@ -1,22 +1,20 @@
 //! Serving the requests that change a key: PUT and DELETE.
 
-ghost use Rattle.std.specs.Prelude.{ℕ, List, Option, ◌++◌, ◌≡◌, ◌+◌, ◌^◌, ◌≤◌, ◌<◌, length, map, IfSome, IfOk, string_bytes, string_len};
+ghost use Rattle.std.specs.Prelude.{ℕ, List, Option, ◌++◌, ◌≡◌, ◌+◌, ◌^◌, ◌≤◌, ◌<◌, length, map, IfOk, string_bytes, string_len};
 ghost use Rattle.version_list.specs.State.{IsMoment};
 ghost use Rattle.ostore.specs.Counters.{drawn_in};
 ghost use Rattle.ostore.specs.Heads.{IsKey, SpellsPut, SpellsDelete};
 ghost use Rattle.call_types.specs.declared.act.Act.TheVariants as act;
-ghost use Rattle.ostore.specs.Objects.{Objects};
-ghost use Rattle.ostore.specs.Drives.{AllTell, name_of, loose_name_of};
-ghost use Rattle.ostore.specs.Session.{TurnOver, Agrees, wires};
-ghost use Rattle.ostore.specs.Store.{Ready};
+ghost use Rattle.ostore.specs.Drives.{name_of, loose_name_of};
+ghost use Rattle.ostore.specs.Session.{TurnAt, wires};
 
-use crate::bodies::{self, Unstaged};
 use crate::connection::{ConnectionEnd, Turn};
-use crate::files;
 use crate::making::{Change, answer, make};
 use crate::reading::{BodyFault, read_body};
 use crate::reply::unavailable;
 use crate::slots::{Counters, slot_of};
+use crate::undone::Undone;
+use crate::{bodies, files};
 use call_types::{Act, Mode, Pick};
 use drive_base::Drive;
 use io_base::{Sink, Source};
@@ -80,12 +78,8 @@ fn put<K: Sink, D: Drive>(
     requires room { (slot : ℕ) → drawn_in counters.old slot ≤ number + number }
     requires is_key { IsKey key.now }
     requires small { length body.now ≤ 16777216 }
-    ensures turn { (clock : Option ℕ) → IfSome clock (λ told. now ≡ told)
-        → (head : List ℕ) → SpellsPut key.now (length body.now) head
-        → (objects : Objects) → Agrees (drawn_in counters.old) objects
-        → (AllTell (map D.tells drives.old) → Ready D.files number (number + number) objects drives.old)
-        → (left : Option (List ℕ)) (reads : ℕ)
-        → TurnOver clock mode D.tells D.files D.count number (head ++ body.now) objects
+    ensures turn { (head : List ℕ) → SpellsPut key.now (length body.now) head → (left : Option (List ℕ)) (reads : ℕ)
+        → TurnAt mode D.tells D.files D.count now number (head ++ body.now) (drawn_in counters.old)
         drives.old (wires left (K.given sink.old) reads (K.faults sink.old)) result
         drives.new (wires left (K.given sink.new) reads (K.faults sink.new)) (drawn_in counters.new) }
     ensures tells { map D.tells drives.new ≡ map D.tells drives.old }
@@ -113,11 +107,11 @@ fn put<K: Sink, D: Drive>(
             };
             make(alloc, mode, sink, drives, counters, &change)
         }
-        Err(Unstaged::Refused) => {
+        Err(Undone::Refused) => {
             counters.draw(slot, 1);
             answer(sink, unavailable())
         }
-        Err(Unstaged::NoMemory) => Turn::Ended(ConnectionEnd::NoMemory),
+        Err(Undone::NoMemory) => Turn::Ended(ConnectionEnd::NoMemory),
     }
 }
 
@@ -140,11 +134,8 @@ pub fn serve_put<S: Source, K: Sink, D: Drive>(
     requires room { (slot : ℕ) → drawn_in counters.old slot ≤ number + number }
     requires is_key { IsKey key.now }
     requires small { size ≤ 16777216 }
-    ensures turn { (clock : Option ℕ) → IfSome clock (λ told. now ≡ told)
-        → (head : List ℕ) → SpellsPut key.now size head
-        → (objects : Objects) → Agrees (drawn_in counters.old) objects
-        → (AllTell (map D.tells drives.old) → Ready D.files number (number + number) objects drives.old)
-        → TurnOver clock mode D.tells D.files D.count number head objects
+    ensures turn { (head : List ℕ) → SpellsPut key.now size head
+        → TurnAt mode D.tells D.files D.count now number head (drawn_in counters.old)
         drives.old (wires (S.left source.old) (K.given sink.old) (S.faults source.old) (K.faults sink.old)) result
         drives.new (wires (S.left source.new) (K.given sink.new) (S.faults source.new) (K.faults sink.new)) (drawn_in counters.new) }
     ensures tells { map D.tells drives.new ≡ map D.tells drives.old }
@@ -185,12 +176,8 @@ pub fn serve_delete<K: Sink, D: Drive>(
     requires moment { IsMoment now }
     requires room { (slot : ℕ) → drawn_in counters.old slot ≤ number + number }
     requires is_key { IsKey key.now }
-    ensures turn { (clock : Option ℕ) → IfSome clock (λ told. now ≡ told)
-        → (head : List ℕ) → SpellsDelete key.now pick head
-        → (objects : Objects) → Agrees (drawn_in counters.old) objects
-        → (AllTell (map D.tells drives.old) → Ready D.files number (number + number) objects drives.old)
-        → (left : Option (List ℕ)) (reads : ℕ)
-        → TurnOver clock mode D.tells D.files D.count number head objects
+    ensures turn { (head : List ℕ) → SpellsDelete key.now pick head → (left : Option (List ℕ)) (reads : ℕ)
+        → TurnAt mode D.tells D.files D.count now number head (drawn_in counters.old)
         drives.old (wires left (K.given sink.old) reads (K.faults sink.old)) result
         drives.new (wires left (K.given sink.new) reads (K.faults sink.new)) (drawn_in counters.new) }
     ensures tells { map D.tells drives.new ≡ map D.tells drives.old }

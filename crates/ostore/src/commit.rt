@@ -9,10 +9,11 @@ ghost use Rattle.version_list.specs.Answers.{refusal_of};
 ghost use Rattle.ostore.specs.Drives.{AtEach, SomeDrive};
 ghost use Rattle.ostore.specs.KeyFiles.{key_file, StandsFor, KeyCause};
 ghost use Rattle.ostore.specs.Commits.{Changes, IsPrepared, NamesId};
-ghost use Rattle.ostore.specs.declared.commit.Unprepared.TheVariants.{NoMemory as TheNoMemory, Refused};
+ghost use Rattle.ostore.specs.declared.undone.Undone.TheVariants.{NoMemory as TheNoMemory, Refused};
 
 use crate::keyfile::{Trouble, read_states};
 use crate::reply;
+use crate::undone::Undone;
 use call_types::{Act, Brief, KeyRefusal, Mode, Refusal, Reply};
 use drive_base::Drive;
 use seal_file::{Bytes, seal};
@@ -30,23 +31,6 @@ pub struct Prepared {
     pub text: Vec<u8>,
     pub file: Option<Vec<u8>>,
     pub gone: Bytes,
-}
-
-/// Why a change wasn't prepared.
-#[derive(Clone, Copy, Debug, PartialEq, Eq)]
-pub enum Unprepared {
-    /// Some drive failed, or showed no state, or one that names the change's id already.
-    Refused,
-    /// No memory was found.
-    NoMemory,
-}
-
-impl From<NoMemory> for Unprepared {
-    ghost from_gives = { λ _ why. why ≡ TheNoMemory };
-
-    fn from(_error: NoMemory) -> Unprepared {
-        Unprepared::NoMemory
-    }
 }
 
 /// A refusal of a key as that of a call.
@@ -74,7 +58,7 @@ fn change(
     state: &KeyState,
     id: VersionId,
     act: &Act,
-) -> Result<Prepared, Unprepared>
+) -> Result<Prepared, Undone>
     requires canonical { IsCanonical state.now }
     requires fresh { has_id id state.now ≡ false }
     requires moment { IsMoment now }
@@ -91,7 +75,7 @@ fn change(
             } = applied;
             // A change that is done has a reply: no other brief comes.
             let Brief::Answer(reply) = done else {
-                return Err(Unprepared::NoMemory);
+                return Err(Undone::NoMemory);
             };
             let text = reply::text(alloc, mode, &reply, b"")?;
             let file = state_file(alloc, &made)?;
@@ -106,7 +90,7 @@ fn change(
                 gone: Bytes::empty(alloc),
             })
         }
-        Err(ActFault::NoMemory) => Err(Unprepared::NoMemory),
+        Err(ActFault::NoMemory) => Err(Undone::NoMemory),
     }
 }
 
@@ -125,7 +109,8 @@ fn state_file(alloc: Global, made: &Option<KeyState>) -> Result<Option<Vec<u8>>,
     }
 }
 
-/// What a change makes of the state that the drives show under a key's name.
+/// What a change makes of the state that the drives show under a key's name. It is refused where some drive failed, or
+/// showed no state, or one that names the change's id already.
 pub fn prepare<D: Drive>(
     alloc: Global,
     mode: Mode,
@@ -134,7 +119,7 @@ pub fn prepare<D: Drive>(
     name: &str,
     id: VersionId,
     act: &Act,
-) -> Result<Prepared, Unprepared>
+) -> Result<Prepared, Undone>
     requires some { 0 < length drives.old }
     requires moment { IsMoment now }
     requires lawful { IsLawful act.now }
@@ -150,11 +135,11 @@ pub fn prepare<D: Drive>(
 {
     let state = match read_states(alloc, drives, name) {
         Ok(state) => state,
-        Err(Trouble::NoMemory) => return Err(Unprepared::NoMemory),
-        Err(_) => return Err(Unprepared::Refused),
+        Err(Trouble::NoMemory) => return Err(Undone::NoMemory),
+        Err(_) => return Err(Undone::Refused),
     };
     if has_id(&state, id) {
-        return Err(Unprepared::Refused);
+        return Err(Undone::Refused);
     }
     change(alloc, mode, now, &state, id, act)
 }

@@ -1,13 +1,13 @@
 //! One connection: requests are read from a source one after another, and each is answered in full
 //! before the next is read.
 
-ghost use Rattle.std.specs.Prelude.{ℕ, List, Option, ◌++◌, ◌≡◌, ◌+◌, ◌^◌, ◌≤◌, ◌<◌, length, map, [], IfSome};
+ghost use Rattle.std.specs.Prelude.{ℕ, List, Option, ◌++◌, ◌≡◌, ◌+◌, ◌^◌, ◌≤◌, ◌<◌, length, map, []};
 ghost use Rattle.version_list.specs.State.{IsMoment};
 ghost use Rattle.ostore.specs.Counters.{drawn_in};
 ghost use Rattle.ostore.specs.Heads.{IsKey, SpellsPut, SpellsGet, SpellsDelete, EndsAtBlankLine};
 ghost use Rattle.ostore.specs.Objects.{Objects};
 ghost use Rattle.ostore.specs.Drives.{AllTell};
-ghost use Rattle.ostore.specs.Session.{Refuses, TurnOver, Served, Agrees, wires};
+ghost use Rattle.ostore.specs.Session.{Refuses, TurnAt, Served, Agrees, wires};
 ghost use Rattle.ostore.specs.Slots.{Drawn};
 ghost use Rattle.ostore.specs.Store.{Ready};
 
@@ -78,10 +78,7 @@ fn serve_head<S: Source, K: Sink, D: Drive>(
     requires moment { IsMoment now }
     requires room { (slot : ℕ) → drawn_in counters.old slot ≤ number + number }
     requires ends { EndsAtBlankLine head.now }
-    ensures turn { (clock : Option ℕ) → IfSome clock (λ told. now ≡ told)
-        → (objects : Objects) → Agrees (drawn_in counters.old) objects
-        → (AllTell (map D.tells drives.old) → Ready D.files number (number + number) objects drives.old)
-        → TurnOver clock mode D.tells D.files D.count number head.now objects
+    ensures turn { TurnAt mode D.tells D.files D.count now number head.now (drawn_in counters.old)
         drives.old (wires (S.left source.old) (K.given sink.old) (S.faults source.old) (K.faults sink.old)) result
         drives.new (wires (S.left source.new) (K.given sink.new) (S.faults source.new) (K.faults sink.new)) (drawn_in counters.new) }
     ensures tells { map D.tells drives.new ≡ map D.tells drives.old }
@@ -116,10 +113,7 @@ fn serve_one<S: Source, K: Sink, D: Drive>(
     requires few { number < 1000000 }
     requires moment { IsMoment now }
     requires room { (slot : ℕ) → drawn_in counters.old slot ≤ number + number }
-    ensures turn { (clock : Option ℕ) → IfSome clock (λ told. now ≡ told)
-        → (objects : Objects) → Agrees (drawn_in counters.old) objects
-        → (AllTell (map D.tells drives.old) → Ready D.files number (number + number) objects drives.old)
-        → TurnOver clock mode D.tells D.files D.count number [] objects
+    ensures turn { TurnAt mode D.tells D.files D.count now number [] (drawn_in counters.old)
         drives.old (wires (S.left source.old) (K.given sink.old) (S.faults source.old) (K.faults sink.old)) result
         drives.new (wires (S.left source.new) (K.given sink.new) (S.faults source.new) (K.faults sink.new)) (drawn_in counters.new) }
     ensures tells { map D.tells drives.new ≡ map D.tells drives.old }

@@ -5,7 +5,8 @@
 //! one connection by `connection`, which reads requests by `reading` and `head`. `reads` serves a GET: it reads the
 //! key's file by `keyfile` and the version's data by `bodies`. `changes` serves a PUT and a DELETE: it stages the body by
 //! `bodies`, and `making` prepares the key's new state by `commit`, writes it by `files`, and removes the data that is
-//! gone by `trash`. Ids come from the numbers that `slots` draws, and replies are written by `reply`.
+//! gone by `trash`. Ids come from the numbers that `slots` draws, and replies are written by `reply`. `undone` says why a
+//! step of a request wasn't done.
 #![tactic(auto)]
 
 mod bodies;
@@ -25,6 +26,7 @@ mod slots;
 #[cfg(test)]
 mod tests;
 mod trash;
+mod undone;
 
 use io_base::{StdSink, StdSource, SystemClock};
 use program::run;

@@ -8,12 +8,13 @@ ghost use Rattle.ostore.specs.Drives.{AtEach};
 ghost use Rattle.ostore.specs.Leaves.{CommitLeaves, sides};
 ghost use Rattle.ostore.specs.Session.{Gives};
 
-use crate::commit::{Unprepared, prepare};
+use crate::commit::prepare;
 use crate::connection::{ConnectionEnd, Turn};
 use crate::files::{Refused, write_all};
 use crate::reply::unavailable;
 use crate::slots::Counters;
 use crate::trash::remove_data;
+use crate::undone::Undone;
 use call_types::{Act, Mode};
 use drive_base::Drive;
 use io_base::Sink;
@@ -75,8 +76,8 @@ pub fn make<K: Sink, D: Drive>(
         &change.act,
     ) {
         Ok(prepared) => prepared,
-        Err(Unprepared::Refused) => return answer(sink, unavailable()),
-        Err(Unprepared::NoMemory) => return Turn::Ended(ConnectionEnd::NoMemory),
+        Err(Undone::Refused) => return answer(sink, unavailable()),
+        Err(Undone::NoMemory) => return Turn::Ended(ConnectionEnd::NoMemory),
     };
     let Some(file) = &prepared.file else {
         return answer(sink, prepared.text.as_slice());

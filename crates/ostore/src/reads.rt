@@ -9,7 +9,7 @@ ghost use Rattle.ostore.specs.Objects.{Objects};
 ghost use Rattle.ostore.specs.Session.{TurnOver, Agrees, wires};
 ghost use Rattle.ostore.specs.Slots.{Drawn};
 ghost use Rattle.ostore.specs.Store.{Ready};
-ghost use Rattle.ostore.specs.declared.reads.Unread.TheVariants.{NoMemory as TheNoMemory, Refused};
+ghost use Rattle.ostore.specs.declared.undone.Undone.TheVariants.{Refused};
 ghost use Rattle.ostore.specs.Replies.{reply_text};
 ghost use Rattle.version_list.specs.Answers.{refusal_of};
 ghost use Rattle.call_types.specs.declared.reply.Reply.TheVariants.{Refused as ReplyRefused};
@@ -19,6 +19,7 @@ use crate::connection::{ConnectionEnd, Turn};
 use crate::keyfile::{Trouble, read_states};
 use crate::making::answer;
 use crate::reply::{self, unavailable};
+use crate::undone::Undone;
 use crate::{bodies, files};
 use call_types::{KeyRefusal, Mode, Pick, Reply, Version, What};
 use drive_base::Drive;
@@ -27,30 +28,13 @@ use stamp_id::NoMemory;
 use std::alloc::Global;
 use version_list::find;
 
-/// Why a key wasn't read.
-#[derive(Clone, Copy, Debug, PartialEq, Eq)]
-pub enum Unread {
-    /// Some drive failed, or showed no state, or too few drives gave the data of the version.
-    Refused,
-    /// No memory was found.
-    NoMemory,
-}
-
-impl From<NoMemory> for Unread {
-    ghost from_gives = { λ _ why. why ≡ TheNoMemory };
-
-    fn from(_error: NoMemory) -> Unread {
-        Unread::NoMemory
-    }
-}
-
 /// The text of the reply to a GET of this version.
 fn found<D: Drive>(
     alloc: Global,
     mode: Mode,
     drives: &mut [D],
     version: &Version,
-) -> Result<Vec<u8>, Unread>
+) -> Result<Vec<u8>, Undone>
     requires four { length drives.old ≡ 4 }
     requires object { is_marker version.now.what ≡ false }
     ensures ok { IfOk result (λ text. GivesVersion mode (views_of D.tells D.files drives.old) version.now text.items) }
@@ -80,14 +64,15 @@ fn refused(alloc: Global, mode: Mode, why: KeyRefusal) -> Result<Vec<u8>, NoMemo
     reply::text(alloc, mode, &Reply::Refused(refusal_of(why)), b"")
 }
 
-/// The text of the reply to a GET of the key whose file has this name.
+/// The text of the reply to a GET of the key whose file has this name. It is refused where some drive failed, or showed
+/// no state, or too few drives gave the data of the version.
 fn read_key<D: Drive>(
     alloc: Global,
     mode: Mode,
     drives: &mut [D],
     name: &str,
     pick: &Pick,
-) -> Result<Vec<u8>, Unread>
+) -> Result<Vec<u8>, Undone>
     requires four { length drives.old ≡ 4 }
     ensures ok { IfOk result (λ text. IsFound D.tells D.files D.count mode pick.now name.now text.items drives.old drives.new) }
     ensures refused { result ≡ Err Refused → (d : D) → UnreadCause D.tells D.files D.count pick.now name.now drives.old drives.new }
@@ -97,8 +82,8 @@ fn read_key<D: Drive>(
 {
     let state = match read_states(alloc, drives, name) {
         Ok(state) => state,
-        Err(Trouble::NoMemory) => return Err(Unread::NoMemory),
-        Err(_) => return Err(Unread::Refused),
+        Err(Trouble::NoMemory) => return Err(Undone::NoMemory),
+        Err(_) => return Err(Undone::Refused),
     };
     match find(&state, pick) {
         Ok(place) => found(alloc, mode, drives, &state.versions.as_slice()[place]),
@@ -131,7 +116,7 @@ pub fn serve_get<K: Sink, D: Drive>(
     };
     match read_key(alloc, mode, drives, name.as_str(), &pick) {
         Ok(text) => answer(sink, text.as_slice()),
-        Err(Unread::Refused) => answer(sink, unavailable()),
-        Err(Unread::NoMemory) => Turn::Ended(ConnectionEnd::NoMemory),
+        Err(Undone::Refused) => answer(sink, unavailable()),
+        Err(Undone::NoMemory) => Turn::Ended(ConnectionEnd::NoMemory),
     }
 }

@@ -14,7 +14,7 @@ use Rattle.ostore.proofs.TurnLemmas.{tells_same}
 use Rattle.ostore.proofs.changes.put.Goals as goal
 
 pub returns-in_default-clause-turn : goal.returns-in_default-clause-turn
-returns-in_default-clause-turn g c clock told head spells objects agrees ready left reads =
+returns-in_default-clause-turn g c head spells left reads clock told objects agrees ready =
     starved_at_once clock c.args.mode g.D.Drive.tells g.D.Drive.files g.D.Drive.count c.args.number c.args.key.now objects c.next-id.result c.args.now c.args.drives.now
     left (g.K.Sink.given c.args.sink.now) reads (g.K.Sink.faults c.args.sink.now) (drawn_in c.args.counters.now) (put c.args.key.now c.args.body.now) (head ++ c.args.body.now)
     (begins_so clock c.args.mode g.D.Drive.tells g.D.Drive.files g.D.Drive.count c.args.number c.args.key.now objects c.next-id.result c.args.now c.args.drives.now c.args.drives.now (drawn_in c.args.counters.now) c.slot_of-slot.result
@@ -22,7 +22,7 @@ returns-in_default-clause-turn g c clock told head spells objects agrees ready l
     (head, spells, refl)
 
 pub returns-in_default-from_slice-clause-turn : goal.returns-in_default-from_slice-clause-turn
-returns-in_default-from_slice-clause-turn g c clock told head spells objects agrees ready left reads =
+returns-in_default-from_slice-clause-turn g c head spells left reads clock told objects agrees ready =
     starved_at_once clock c.args.mode g.D.Drive.tells g.D.Drive.files g.D.Drive.count c.args.number c.args.key.now objects c.next-id.result c.args.now c.args.drives.now
     left (g.K.Sink.given c.args.sink.now) reads (g.K.Sink.faults c.args.sink.now) (drawn_in c.args.counters.now) (put c.args.key.now c.args.body.now) (head ++ c.args.body.now)
     (begins_so clock c.args.mode g.D.Drive.tells g.D.Drive.files g.D.Drive.count c.args.number c.args.key.now objects c.next-id.result c.args.now c.args.drives.now c.args.drives.now (drawn_in c.args.counters.now) c.slot_of-slot.result
@@ -30,7 +30,7 @@ returns-in_default-from_slice-clause-turn g c clock told head spells objects agr
     (head, spells, refl)
 
 pub returns-clause-turn : goal.returns-clause-turn
-returns-clause-turn g c clock told head spells objects agrees ready left reads =
+returns-clause-turn g c head spells left reads clock told objects agrees ready =
     starved clock c.args.mode g.D.Drive.tells g.D.Drive.files g.D.Drive.count c.args.number c.args.key.now objects c.next-id.result c.args.now c.args.drives.now c.stage.new.drives _
     left (g.K.Sink.given c.args.sink.now) (g.K.Sink.given c.args.sink.now) reads (g.K.Sink.faults c.args.sink.now) (g.K.Sink.faults c.args.sink.now)
     (drawn_in c.args.counters.now) (drawn_in c.args.counters.now) (put c.args.key.now c.args.body.now) (head ++ c.args.body.now)
@@ -39,7 +39,7 @@ returns-clause-turn g c clock told head spells objects agrees ready left reads =
     (record { ended = refl; stays = λ k d lt tells. ap (λ drives. g.D.Drive.files (slice_index_or drives k d)) (c.in-Err-NoMemory.ensures.starved (ap Err c.in-Err-NoMemory.field-0-is)); given = refl; faults = refl; draws = λ other. refl })
 
 pub returns-in-Ok-stage-clause-turn : goal.returns-in-Ok-stage-clause-turn
-returns-in-Ok-stage-clause-turn g c clock told head spells objects agrees ready left reads =
+returns-in-Ok-stage-clause-turn g c head spells left reads clock told objects agrees ready =
     let staged = c.in-Ok-stage.staged in
     let s = subst (λ (n : List ℕ). IsStaged g.D.Drive.tells g.D.Drive.files g.D.Drive.count the_set c.next-id.result n c.args.body.now None staged c.args.drives.now c.stage.new.drives) (c.as_str.ensures.value ∙ c.in-Ok.ensures.name) c.in-Ok-stage.ensures.ok in
     put_staged clock c.args.mode g.D.Drive.tells g.D.Drive.files g.D.Drive.count c.args.number c.args.key.now c.args.body.now objects c.next-id.result c.args.now c.args.drives.now c.stage.new.drives c.make.new.drives c.make.result
@@ -62,7 +62,7 @@ returns-in-Ok-stage-clause-tells g c =
     (tells_later g.D.Drive.tells g.D.Drive.files g.D.Drive.count c.args.drives.now c.stage.new.drives c.make.new.drives c.stage.auto.drives c.stage.ensures.tells c.make.ensures.tells)
 
 pub returns-in-Err-Refused-clause-turn : goal.returns-in-Err-Refused-clause-turn
-returns-in-Err-Refused-clause-turn g c clock told head spells objects agrees ready left reads =
+returns-in-Err-Refused-clause-turn g c head spells left reads clock told objects agrees ready =
     let short = c.in-Err-Refused.ensures.refused (ap Err c.in-Err-Refused.field-0-is) in
     put_short clock c.args.mode g.D.Drive.tells g.D.Drive.files g.D.Drive.count c.args.number c.args.key.now c.args.body.now objects c.next-id.result c.args.now c.args.drives.now c.stage.new.drives c.answer.result
     left (g.K.Sink.given c.args.sink.now) (g.K.Sink.given c.answer.new.sink) reads (g.K.Sink.faults c.args.sink.now) (g.K.Sink.faults c.answer.new.sink)

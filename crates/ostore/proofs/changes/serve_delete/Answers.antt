@@ -12,7 +12,7 @@ use Rattle.ostore.specs.Objects.{delete}
 use Rattle.ostore.specs.Slots.{slot_of}
 
 pub returns-in_default-clause-turn : goal.returns-in_default-clause-turn
-returns-in_default-clause-turn g c clock told head asks objects agrees ready left reads =
+returns-in_default-clause-turn g c head asks left reads clock told objects agrees ready =
     starved_at_once clock c.args.mode g.D.Drive.tells g.D.Drive.files g.D.Drive.count c.args.number c.args.key.now objects c.next-id.result c.args.now c.args.drives.now
     left (g.K.Sink.given c.args.sink.now) reads (g.K.Sink.faults c.args.sink.now) (drawn_in c.args.counters.now) (delete c.args.key.now c.args.pick) head
     (begins_so clock c.args.mode g.D.Drive.tells g.D.Drive.files g.D.Drive.count c.args.number c.args.key.now objects c.next-id.result c.args.now c.args.drives.now c.args.drives.now (drawn_in c.args.counters.now) c.slot_of-slot.result
@@ -20,7 +20,7 @@ returns-in_default-clause-turn g c clock told head asks objects agrees ready lef
     asks
 
 pub returns-clause-turn : goal.returns-clause-turn
-returns-clause-turn g c clock told head asks objects agrees ready left reads =
+returns-clause-turn g c head asks left reads clock told objects agrees ready =
     delete_turn clock c.args.mode g.D.Drive.tells g.D.Drive.files g.D.Drive.count c.args.number c.args.key.now c.args.pick objects c.next-id.result c.args.now c.args.drives.now c.make.new.drives c.make.result
     left (g.K.Sink.given c.args.sink.now) (g.K.Sink.given c.make.new.sink) reads (g.K.Sink.faults c.args.sink.now) (g.K.Sink.faults c.make.new.sink)
     (drawn_in c.args.counters.now) (drawn_in c.make.new.counters) head
