@@ -1,5 +1,5 @@
 -- What a DELETE leads to.
-use Rattle.std.proofs.Common.{◌≡◌, ◌⊎◌, inl, inr, ℕ, ◌+◌, ◌<◌, ◌≤◌, Bool, List, [], length, map, slice_index_or, Option, Some, None, refl, sym, ap, ◌∙◌, subst, arith, ◌≢◌}
+use Rattle.std.proofs.Common.{◌≡◌, ◌⊎◌, inl, inr, ℕ, ◌+◌, ◌≤◌, Bool, List, [], map, Option, Some, None, refl, sym, ap, ◌∙◌, subst, arith, ◌≢◌}
 use Rattle.std.specs.List.{AllByRecursion}
 use Rattle.stamp_id.specs.declared.version.VersionId.{VersionId}
 use Rattle.call_types.specs.declared.names.Mode.{Mode}
@@ -22,7 +22,7 @@ use Rattle.ostore.specs.Store.{Ready, IsSound}
 use Rattle.ostore.proofs.ChangeLemmas.{Begins, is_next, room_now, room_drawn, agrees_none, agrees_drawn, ready_stays, starved, drawn_of, step_of, made_ready, refused_ready}
 use Rattle.ostore.proofs.StandsLemmas.{all_or_not, shown_is, shows_only, look_cause}
 use Rattle.ostore.proofs.StateLemmas.{delete_step_keeps, delete_step_uploads, sound_drawn_later, marker_is_sound}
-use Rattle.ostore.proofs.TurnLemmas.{tells_each, counts_each, cause_of_some, answered}
+use Rattle.ostore.proofs.TurnLemmas.{counts_each, cause_of_some, answered}
 use Rattle.ostore.proofs.DrawnLemmas.{grows_with_drawn, with_drawn_here, next_was_drawn}
 
 -- the exchange of a DELETE

@@ -1,9 +1,7 @@
 -- What stages and writes leave of what one drive keeps of the objects.
-use Rattle.std.proofs.Common.{◌≡◌, ◌≢◌, inl, inr, ℕ, ◌+◌, ◌<◌, ◌≤◌, Bool, true, false, cond, List, [], ◌∷◌, Some, None, refl, sym, ap, ◌∙◌, subst, arith, bytes_eq, nat_eq}
-use Rattle.std.specs.List.{AllByRecursion}
+use Rattle.std.proofs.Common.{◌≡◌, ◌≢◌, inl, inr, ℕ, ◌+◌, ◌<◌, Bool, true, false, cond, List, Some, None, refl, sym, ap, ◌∙◌, subst, arith, bytes_eq}
 use Rattle.stamp_id.specs.declared.version.VersionId.{VersionId}
 use Rattle.std.proofs.lemmas.Slice.Eq.{bytes_eq-Decides}
-use Rattle.std.proofs.lemmas.Bool.{eqb-true, eq-eqb}
 use Rattle.drive_base.specs.Files.{Files, with_name}
 use Rattle.version_list.specs.declared.state.KeyState.{KeyState}
 use Rattle.version_list.specs.State.{IsCanonical}
@@ -13,7 +11,7 @@ use Rattle.ostore.specs.Drives.{name_of, loose_name_of, MayBeWritten}
 use Rattle.ostore.specs.Holders.{Coding, shard_file, manifest_file, HasOnly}
 use Rattle.ostore.specs.KeyFiles.{StandsFor, key_file}
 use Rattle.ostore.specs.Objects.{Objects, with_body, with_numbers, with_change, with_state}
-use Rattle.ostore.specs.Slots.{slot_of, Drawn, with_drawn, IsIdOf, WasDrawn}
+use Rattle.ostore.specs.Slots.{slot_of, with_drawn, IsIdOf}
 use Rattle.ostore.specs.Store.{KeepsSomeState, IsUnused, KeepsAll, AreSound}
 use Rattle.ostore.proofs.HolderLemmas.{only_less, only_staged, staged_shows, staged_loose, staged_kept}
 use Rattle.ostore.proofs.NameLemmas.{shard_name-injective, loose_names_differ, loose_shards_differ, loose_manifests_differ}

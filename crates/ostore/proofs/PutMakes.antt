@@ -1,5 +1,5 @@
 -- What a PUT leads to whose change is written.
-use Rattle.std.proofs.Common.{◌≡◌, ◌⊎◌, inl, inr, ℕ, ◌+◌, ◌<◌, ◌≤◌, Bool, cond, nat_eq, IsTrue, List, [], length, map, slice_index_or, Option, Some, refl, sym, ap, ◌∙◌, subst, arith}
+use Rattle.std.proofs.Common.{◌≡◌, ◌⊎◌, inl, inr, ℕ, ◌+◌, ◌≤◌, Bool, List, [], map, Option, Some, refl, sym, ap, ◌∙◌, subst, arith}
 use Rattle.std.specs.List.{AllByRecursion}
 use Rattle.stamp_id.specs.declared.version.VersionId.{VersionId}
 use Rattle.call_types.specs.declared.names.Mode.{Mode}
@@ -21,7 +21,7 @@ use Rattle.ostore.proofs.MakingLemmas.{cause_later}
 use Rattle.ostore.proofs.PutLemmas.{Staged, putting, staged_ready, all_mid, some_mid, same_mid, put_shown, put_starves, put_looks, put_nothing, twice_drawn, numbers_twice, change_twice, put_steps}
 use Rattle.ostore.proofs.StandsLemmas.{all_or_not, shows_only}
 use Rattle.ostore.proofs.StateLemmas.{step_keeps, step_uploads, sound_drawn_later, put_is_sound}
-use Rattle.ostore.proofs.TurnLemmas.{tells_each, counts_each, cause_of_some, answered}
+use Rattle.ostore.proofs.TurnLemmas.{counts_each, cause_of_some, answered}
 use Rattle.ostore.proofs.DrawnLemmas.{grows_with_drawn, with_drawn_here, next_was_drawn}
 use Rattle.ostore.proofs.NameLemmas.{with_name-here}
 

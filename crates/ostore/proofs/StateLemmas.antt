@@ -1,10 +1,8 @@
 -- What steps, reads and draws keep of a key's versions.
-use Rattle.std.proofs.Common.{◌≡◌, ◌≢◌, ◌⊎◌, inl, inr, ◌+◌, ◌≤◌, ◌<◌, ℕ, zero, suc, Bool, true, false, not, cond, ◌||◌, filter, nat_eq, length, List, [], ◌∷◌, Option, Some, None, Result, Ok, Err, refl, sym, ap, ◌∙◌, subst, arith}
+use Rattle.std.proofs.Common.{◌≡◌, inl, inr, ◌+◌, ◌≤◌, ◌<◌, ℕ, zero, suc, Bool, true, false, not, ◌||◌, length, List, [], ◌∷◌, Option, Some, None, Result, Ok, Err, refl, sym, ap, ◌∙◌, subst, arith}
 use Rattle.std.specs.Prelude.{MatchBool, MatchOption, slice_get, position, bytes_eq, if◌then◌else◌}
 use Rattle.std.specs.List.{AllByRecursion, list_any}
-use Rattle.std.proofs.lemmas.Bool.{eqb-true, eq-eqb}
 use Rattle.std.proofs.lemmas.Bool.Decides.{nat_tests}
-use Rattle.std.proofs.lemmas.Map.{update_same, update_other}
 use Rattle.std.proofs.lemmas.Slice.Eq.{bytes_eq-Decides}
 use Rattle.md5.specs.Md5.{md5}
 use Rattle.stamp_id.specs.declared.version.VersionId.{VersionId}
@@ -26,13 +24,12 @@ use Rattle.drive_base.specs.Files.{Named, with_name}
 use Rattle.version_list.specs.declared.state.KeyState.{KeyState}
 use Rattle.version_list.specs.Naming.{same_id, same_name, has_name, has_id, is_upload, is_named, kept, is_marker}
 use Rattle.version_list.specs.Step.{Step, AddsVersion, new_name, replaced, told}
-use Rattle.version_list.specs.Answers.{IsServed}
 use Rattle.version_list.proofs.Distinct.{each_item}
 use Rattle.version_list.specs.Reads.{Reads, ReadsAt, ReadsNamed}
 use Rattle.body_print.specs.Names.{shard_name}
 use Rattle.ostore.specs.Holders.{IsPrintOf}
-use Rattle.ostore.specs.Slots.{slot_of, Drawn, with_drawn, IsIdOf, WasDrawn}
-use Rattle.ostore.specs.Objects.{put_act, usual_kind, HasBody}
+use Rattle.ostore.specs.Slots.{slot_of, Drawn, IsIdOf, WasDrawn}
+use Rattle.ostore.specs.Objects.{put_act, usual_kind}
 use Rattle.ostore.proofs.NameLemmas.{shard_names_differ, with_name-here, with_name-other}
 use Rattle.ostore.specs.Store.{IsDrawnName, HasDataOf, IsSound}
 use Rattle.ostore.proofs.ListLemmas.{each_passed}

@@ -1,11 +1,9 @@
 -- What stages, writes, removals and reads leave of the objects on the drives.
 use Rattle.std.proofs.Common.{◌≡◌, ◌≢◌, ◌⊎◌, inl, inr, ℕ, ◌+◌, ◌<◌, ◌≤◌, Bool, true, false, cond, List, [], ◌∷◌, length, slice_index_or, Some, refl, sym, ap, ◌∙◌, subst, arith, bytes_eq}
 use Rattle.std.specs.Prelude.{All}
-use Rattle.std.specs.List.{AllByRecursion, list_any}
+use Rattle.std.specs.List.{AllByRecursion}
 use Rattle.stamp_id.specs.declared.version.VersionId.{VersionId}
 use Rattle.std.proofs.lemmas.Slice.Eq.{bytes_eq-Decides}
-use Rattle.call_types.specs.declared.names.VersionName.{VersionName}
-use Rattle.call_types.specs.declared.names.VersionName.TheVariants.{Null, Id}
 use Rattle.call_types.specs.declared.version.Version.{Version}
 use Rattle.call_types.specs.declared.version.What.{What}
 use Rattle.call_types.specs.declared.version.What.TheVariants.{Marker, Object}
@@ -20,7 +18,7 @@ use Rattle.ostore.specs.Holders.{Coding, shard_file, manifest_file, IsHeld, data
 use Rattle.ostore.specs.KeyFiles.{StandsFor, empty_state, key_file}
 use Rattle.ostore.specs.Objects.{Objects, no_objects, with_body, with_numbers, with_change, with_state}
 use Rattle.ostore.specs.Slots.{slot_of, Drawn, with_drawn, IsIdOf, WasDrawn}
-use Rattle.ostore.specs.Store.{IsDrawnName, IsSound, HasDataOf, KeepsAll, AreSound, OnlyRemoves, Ready, IsNoneOf}
+use Rattle.ostore.specs.Store.{IsSound, HasDataOf, KeepsAll, AreSound, OnlyRemoves, Ready, IsNoneOf}
 use Rattle.ostore.proofs.NameLemmas.{shard_names_differ, manifest_names_differ, with_name-other}
 use Rattle.ostore.proofs.DriveLemmas.{kept_elsewhere, drive_staged, drive_changed, state_elsewhere}
 use Rattle.ostore.proofs.HolderLemmas.{StaysHeld, held_stays, only_less, staged_kept}

@@ -1,6 +1,6 @@
 //! Serving the requests that change a key: PUT and DELETE.
 
-ghost use Rattle.std.specs.Prelude.{ℕ, List, Option, ◌++◌, ◌≡◌, ◌+◌, ◌^◌, ◌≤◌, ◌<◌, length, map, IfOk, string_bytes, string_len};
+ghost use Rattle.std.specs.Prelude.{ℕ, List, Option, ◌++◌, ◌≡◌, ◌+◌, ◌≤◌, ◌<◌, length, map, IfOk, string_bytes, string_len};
 ghost use Rattle.version_list.specs.State.{IsMoment};
 ghost use Rattle.ostore.specs.Counters.{drawn_in};
 ghost use Rattle.ostore.specs.Heads.{IsKey, SpellsPut, SpellsDelete};

@@ -1,14 +1,13 @@
 //! One connection: requests are read from a source one after another, and each is answered in full
 //! before the next is read.
 
-ghost use Rattle.std.specs.Prelude.{ℕ, List, Option, ◌++◌, ◌≡◌, ◌+◌, ◌^◌, ◌≤◌, ◌<◌, length, map, []};
+ghost use Rattle.std.specs.Prelude.{ℕ, ◌≡◌, ◌+◌, ◌≤◌, ◌<◌, length, map, []};
 ghost use Rattle.version_list.specs.State.{IsMoment};
 ghost use Rattle.ostore.specs.Counters.{drawn_in};
-ghost use Rattle.ostore.specs.Heads.{IsKey, SpellsPut, SpellsGet, SpellsDelete, EndsAtBlankLine};
+ghost use Rattle.ostore.specs.Heads.{EndsAtBlankLine};
 ghost use Rattle.ostore.specs.Objects.{Objects};
 ghost use Rattle.ostore.specs.Drives.{AllTell};
 ghost use Rattle.ostore.specs.Session.{Refuses, TurnAt, Served, Agrees, wires};
-ghost use Rattle.ostore.specs.Slots.{Drawn};
 ghost use Rattle.ostore.specs.Store.{Ready};
 
 use crate::changes::{serve_delete, serve_put};

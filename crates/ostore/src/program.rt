@@ -1,6 +1,6 @@
 //! What the program does with its words, its input and its drives.
 
-ghost use Rattle.std.specs.Prelude.{◌≡◌, ◌↔◌, ◌<◌, IsTrue, Some, length, map, ℕ};
+ghost use Rattle.std.specs.Prelude.{◌≡◌, ◌↔◌, Some};
 ghost use Rattle.ostore.specs.Objects.{no_objects};
 ghost use Rattle.ostore.specs.Program.{IsPipe, AreFresh, mode_word, usage, status_of};
 ghost use Rattle.ostore.specs.Session.{Served, wires};

@@ -1,6 +1,6 @@
 //! Serving the requests that read a key: GET.
 
-ghost use Rattle.std.specs.Prelude.{ℕ, List, Option, ◌++◌, ◌≡◌, ◌+◌, ◌≤◌, ◌<◌, length, map, [], IfOk, IsTrue, Err, false};
+ghost use Rattle.std.specs.Prelude.{ℕ, List, Option, ◌≡◌, ◌+◌, ◌≤◌, length, map, [], IfOk, IsTrue, Err, false};
 ghost use Rattle.version_list.specs.Naming.{is_marker};
 ghost use Rattle.ostore.specs.Drives.{AllTell, AtEach, views_of};
 ghost use Rattle.ostore.specs.Finding.{GivesVersion, LacksBody, IsFound, UnreadCause};

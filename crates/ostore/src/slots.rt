@@ -1,6 +1,6 @@
 //! Slots and the numbers that they draw for ids.
 
-ghost use Rattle.std.specs.Prelude.{◌≡◌, ◌+◌, ◌<◌, ◌≤◌, ◌^◌, ℕ, slice_index};
+ghost use Rattle.std.specs.Prelude.{◌≡◌, ◌+◌, ◌<◌, ◌^◌, ℕ};
 ghost use Rattle.ostore.specs.Slots.{slot_of, slot_after, with_drawn, IsIdOf};
 ghost use Rattle.ostore.specs.Counters.{drawn_in};
 

@@ -1,4 +1,4 @@
-use Rattle.std.proofs.Common.{◌≡◌, None, inl, length, refl, subst, arith, string_bytes}
+use Rattle.std.proofs.Common.{None, refl, arith, string_bytes}
 use Rattle.call_types.specs.declared.act.Act.TheVariants as act
 use Rattle.ostore.specs.Counters.{drawn_in}
 use Rattle.ostore.specs.Drives.{name_of, loose_name_of}

@@ -1,9 +1,8 @@
-use Rattle.std.proofs.Common.{ℕ, List, inl, inr, refl, ap, ◌∙◌, subst, Some, None, Err, string_bytes, Option}
+use Rattle.std.proofs.Common.{ℕ, List, inl, inr, refl, ap, ◌∙◌, subst, Some, None, Err, string_bytes}
 use Rattle.std.specs.Option.{option_map}
-use Rattle.ostore.specs.Commits.{IsPrepared}
 use Rattle.drive_files.specs.Writing.{IsInPlace}
 use Rattle.ostore.specs.Drives.{MayBeWritten}
-use Rattle.ostore.specs.Leaves.{LookCause, Shows, WritesMaybe, WritesAll}
+use Rattle.ostore.specs.Leaves.{LookCause, WritesMaybe, WritesAll}
 use Rattle.ostore.specs.Session.{Gives}
 use Rattle.ostore.proofs.MakingLemmas.{writes_after_look, writes_and_removes, tells_later, counts_later, cause_later, look_cause_all, prepared_so}
 use Rattle.ostore.proofs.making.make.Goals as goal
