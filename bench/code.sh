@@ -7,24 +7,12 @@
 # number: the mean of that many.
 set -euo pipefail
 
-top="$(cd "$(dirname "$(readlink -f "${BASH_SOURCE[0]}")")/.." && pwd)"
+source "$(dirname "$(readlink -f "${BASH_SOURCE[0]}")")/common.sh"
 rounds="${1:-50}"
-work="$(mktemp -d)"
-trap 'rm -rf "$work"' EXIT
+[[ "$rounds" =~ ^[1-9][0-9]{0,3}$ ]] || fail 2 "the number of calls is 1 to 9999"
 
-[[ "$rounds" =~ ^[1-9][0-9]{0,3}$ ]] || { echo "code.sh: the number of calls is 1 to 9999" >&2; exit 2; }
-
-for crate in gf256 drive_base poly_code; do
-    mkdir -p "$work/crates/$crate"
-    for part in src specs proofs; do
-        if [[ -d "$top/crates/$crate/$part" ]]; then cp -r "$top/crates/$crate/$part" "$work/crates/$crate/"; fi
-    done
-done
-cp "$top/HANDLES" "$work/"
-grep -E '^(gf256|drive_base|poly_code):' "$top/crates.txt" >"$work/crates.txt"
-echo 'code_bench: gf256 drive_base poly_code' >>"$work/crates.txt"
-
-mkdir -p "$work/crates/code_bench/src" "$work/crates/code_bench/proofs"
+new_program code_bench gf256 drive_base poly_code
+mkdir "$work/crates/code_bench/proofs"
 cat >"$work/crates/code_bench/src/main.rt" <<'END'
 //! Times `encode` and `rebuild` of stripes of 1 MiB.
 #![tactic(auto)]
@@ -209,12 +197,7 @@ abbrev pub invariant-loop-index : goal.invariant-loop-index
 invariant-loop-index l = (i j : ℕ) → i < j → j < l.index → get_or l.rows i 0 ≢ get_or l.rows j 0
 END
 
-cd "$work/crates/code_bench"
-if ! rt run >"$work/out" 2>"$work/log"; then
-    cat "$work/out" "$work/log" >&2
-    echo "code.sh: the program was not proved, built or run" >&2
-    exit 1
-fi
+run_program code_bench
 
 if ! cc -O2 -o "$work/isal" "$top/bench/code_isal.c" -lisal 2>"$work/cc.log" || ! "$work/isal" "$rounds" >"$work/beside"; then
     echo "code.sh: ISA-L is not there (apt-get install libisal-dev), so nothing stands beside" >&2

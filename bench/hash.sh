@@ -7,15 +7,9 @@
 # `bench/hash.sh --cpu=x86-64-v3`.
 set -euo pipefail
 
-top="$(cd "$(dirname "$(readlink -f "${BASH_SOURCE[0]}")")/.." && pwd)"
-work="$(mktemp -d)"
-trap 'rm -rf "$work"' EXIT
+source "$(dirname "$(readlink -f "${BASH_SOURCE[0]}")")/common.sh"
 
-mkdir -p "$work/crates/hash_lanes" "$work/crates/hash_bench/src"
-cp -r "$top/crates/hash_lanes"/{src,specs,proofs} "$work/crates/hash_lanes/"
-cp "$top/HANDLES" "$work/"
-printf 'hash_bench: hash_lanes sha2\nhash_lanes: sha2\n' >"$work/crates.txt"
-
+new_program hash_bench hash_lanes sha2
 cat >"$work/crates/hash_bench/src/main.rt" <<'END'
 //! Times the digests of several blocks, by hash_lanes and by sha2 block after block.
 #![tactic(auto)]
@@ -145,12 +139,7 @@ fn time_single(rt: &HostRuntime, bytes: &[u8], size: usize, digests: &mut [[u8; 
 }
 END
 
-cd "$work/crates/hash_bench"
-if ! rt run "$@" >"$work/out" 2>"$work/log"; then
-    cat "$work/out" "$work/log" >&2
-    echo "hash.sh: the program was not proved, built or run" >&2
-    exit 1
-fi
+run_program hash_bench "$@"
 
 # MB/s of OpenSSL over messages of so many bytes, the best of what the file of its speeds has of them.
 best() {
@@ -166,7 +155,7 @@ speeds() {
 
 # OpenSSL is timed before the program and after it, so that a load on the machine bears on both.
 speeds
-./out/hash_bench >"$work/out"
+"$work/crates/hash_bench/out/hash_bench" >"$work/out"
 speeds
 echo "blocks   bytes  hash_equal_blocks  hash_blocks  sha2  OpenSSL  to sha2  to OpenSSL"
 awk -v small="$(best 65536)" -v large="$(best 262144)" '{

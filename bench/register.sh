@@ -6,23 +6,9 @@
 # microseconds: the mean of 200 changes, each over the value of the one before.
 set -euo pipefail
 
-top="$(cd "$(dirname "$(readlink -f "${BASH_SOURCE[0]}")")/.." && pwd)"
-work="$(mktemp -d)"
-trap 'rm -rf "$work"' EXIT
+source "$(dirname "$(readlink -f "${BASH_SOURCE[0]}")")/common.sh"
 
-crates=(stamp_id seal_file field_reader id_field call_types drive_base drive_memory drive_files hash_lanes shard_file gf256
-    poly_code manifest_file body_print put_stage register_file vote_core register_core)
-for crate in "${crates[@]}"; do
-    mkdir -p "$work/crates/$crate"
-    for part in src specs proofs; do
-        [[ ! -d "$top/crates/$crate/$part" ]] || cp -r "$top/crates/$crate/$part" "$work/crates/$crate/"
-    done
-    grep -E "^$crate:" "$top/crates.txt" >>"$work/crates.txt"
-done
-cp "$top/HANDLES" "$work/"
-echo 'register_bench: stamp_id seal_file call_types drive_base drive_memory register_file register_core' >>"$work/crates.txt"
-
-mkdir -p "$work/crates/register_bench/src"
+new_program register_bench stamp_id seal_file call_types drive_base drive_memory register_file register_core
 cat >"$work/crates/register_bench/src/main.rt" <<'END'
 //! Times the calls of one change of a register over four memory drives, and counts the calls of the drives.
 #![tactic(auto)]
@@ -329,10 +315,5 @@ impl Drive for Counted {
 }
 END
 
-cd "$work/crates/register_bench"
-if ! rt run >"$work/out" 2>"$work/log"; then
-    cat "$work/out" "$work/log" >&2
-    echo "register.sh: the program was not proved, built or run" >&2
-    exit 1
-fi
+run_program register_bench
 grep -E ' bytes: ' "$work/out"

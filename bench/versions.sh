@@ -6,22 +6,11 @@
 # that time (MB = 10^6 bytes). With a number: the mean of that many calls, in place of 200.
 set -euo pipefail
 
-top="$(cd "$(dirname "$(readlink -f "${BASH_SOURCE[0]}")")/.." && pwd)"
+source "$(dirname "$(readlink -f "${BASH_SOURCE[0]}")")/common.sh"
 rounds="${1:-200}"
-work="$(mktemp -d)"
-trap 'rm -rf "$work"' EXIT
+[[ "$rounds" =~ ^[1-9][0-9]{0,3}$ ]] || fail 2 "the number of calls is 1 to 9999"
 
-[[ "$rounds" =~ ^[1-9][0-9]{0,3}$ ]] || { echo "versions.sh: the number of calls is 1 to 9999" >&2; exit 2; }
-
-for crate in stamp_id seal_file field_reader id_field call_types version_list; do
-    mkdir -p "$work/crates/$crate"
-    cp -r "$top/crates/$crate"/{src,specs,proofs} "$work/crates/$crate/"
-done
-cp "$top/HANDLES" "$work/"
-grep -E '^(stamp_id|seal_file|field_reader|id_field|call_types|version_list):' "$top/crates.txt" >"$work/crates.txt"
-echo 'versions_bench: stamp_id seal_file field_reader call_types version_list' >>"$work/crates.txt"
-
-mkdir -p "$work/crates/versions_bench/src"
+new_program versions_bench stamp_id seal_file field_reader call_types version_list
 cat >"$work/crates/versions_bench/src/main.rt" <<'END'
 //! Times `apply`, `write` and `read` of a key with 10,000 versions.
 #![tactic(auto)]
@@ -192,10 +181,5 @@ fn report(rt: &HostRuntime, name: &str, time: Duration, bytes: usize) -> Option<
 END
 sed -i "s/^const ROUNDS: u32 = 200;/const ROUNDS: u32 = $rounds;/" "$work/crates/versions_bench/src/main.rt"
 
-cd "$work/crates/versions_bench"
-if ! rt run >"$work/out" 2>"$work/log"; then
-    cat "$work/out" "$work/log" >&2
-    echo "versions.sh: the program was not proved, built or run" >&2
-    exit 1
-fi
+run_program versions_bench
 grep -E '^(apply|write|read) ' "$work/out"

@@ -4,29 +4,15 @@
 # alone: SHA-256 of the blocks (twice the body in a PUT, once in a GET), MD5 of the body, and the code. Each is timed in
 # a small program, which is proved and built in a temporary repository with copies of the crates; the first time that
 # takes some minutes. With a number: so many PUTs and GETs.
-# It stops before it measures: one bound in that program, of a slice of the blocks, is not proved yet.
 set -euo pipefail
 
-top="$(cd "$(dirname "$(readlink -f "${BASH_SOURCE[0]}")")/.." && pwd)"
+source "$(dirname "$(readlink -f "${BASH_SOURCE[0]}")")/common.sh"
 count="${1:-4}"
 size=16777216
-work="$(mktemp -d)"
-trap 'rm -rf "$work"' EXIT
 
-[[ "$count" =~ ^[1-9][0-9]?$ ]] || { echo "whole.sh: the number of bodies is 1 to 99" >&2; exit 2; }
+[[ "$count" =~ ^[1-9][0-9]?$ ]] || fail 2 "the number of bodies is 1 to 99"
 
-crates="gf256 drive_base poly_code hash_lanes"
-for crate in $crates; do
-    mkdir -p "$work/crates/$crate"
-    for part in src specs proofs; do
-        if [[ -d "$top/crates/$crate/$part" ]]; then cp -r "$top/crates/$crate/$part" "$work/crates/$crate/"; fi
-    done
-done
-cp "$top/HANDLES" "$work/"
-grep -E '^(gf256|drive_base|poly_code|hash_lanes):' "$top/crates.txt" >"$work/crates.txt"
-echo 'whole_bench: drive_base poly_code hash_lanes sha2 md5' >>"$work/crates.txt"
-
-mkdir -p "$work/crates/whole_bench/src"
+new_program whole_bench drive_base poly_code hash_lanes sha2 md5
 cat >"$work/crates/whole_bench/src/main.rt" <<'END'
 //! Times the parts of a PUT and of a GET of a stripe of 1 MiB over four drives, two of them parity.
 #![tactic(auto)]
@@ -42,7 +28,9 @@ use std::time::{CpuClock, Duration};
 
 const ROUNDS: u32 = 32;
 
-/// The bytes of a stripe, and of one of its blocks.
+/// The bytes of a stripe with its parity, of a stripe, and of one of its blocks.
+const BLOCKS: usize = 2_097_152;
+
 const STRIPE: usize = 1_048_576;
 
 const BLOCK: usize = 524_288;
@@ -58,9 +46,15 @@ fn main(rt: HostRuntime) -> ExitCode {
 }
 
 fn measure(rt: &HostRuntime) -> Option<()> {
-    let blocks = filled(rt.alloc(), 4 * BLOCK)?;
+    let blocks = filled(rt.alloc(), BLOCKS)?;
+    let stripe = filled(rt.alloc(), STRIPE)?;
+    let block = filled(rt.alloc(), BLOCK)?;
     let mut parity = filled(rt.alloc(), STRIPE)?;
-    if blocks.len() != 4 * BLOCK || parity.len() != STRIPE {
+    let mut rebuilt = filled(rt.alloc(), BLOCK)?;
+    if blocks.len() != BLOCKS || stripe.len() != STRIPE || block.len() != BLOCK {
+        return None;
+    }
+    if parity.len() != STRIPE || rebuilt.len() != BLOCK {
         return None;
     }
     let mut digests = [[0u8; 32]; 4];
@@ -71,29 +65,38 @@ fn measure(rt: &HostRuntime) -> Option<()> {
     report(rt, "lanes", 2, since(rt, from)?)?;
     let from = rt.thread_cpu_time().ok()?;
     for _ in 0..ROUNDS {
-        digests[0] = Sha256::digest(&blocks[..BLOCK]);
-        digests[1] = Sha256::digest(&blocks[BLOCK..STRIPE]);
+        digests[0] = Sha256::digest(block.as_slice());
+        digests[1] = Sha256::digest(block.as_slice());
     }
     report(rt, "sha2", 1, since(rt, from)?)?;
     let from = rt.thread_cpu_time().ok()?;
     let mut tag = [0u8; 16];
     for _ in 0..ROUNDS {
-        tag = Md5::digest(&blocks[..STRIPE]);
+        tag = Md5::digest(stripe.as_slice());
     }
     report(rt, "md5", 1, since(rt, from)?)?;
     let set = SetPlan::new([0; 16], 4, 2);
     let from = rt.thread_cpu_time().ok()?;
     for _ in 0..ROUNDS {
-        encode(set, &blocks[..STRIPE], parity.as_mut_slice());
+        encoded(set, stripe.as_slice(), parity.as_mut_slice())?;
     }
     report(rt, "encode", 1, since(rt, from)?)?;
     let from = rt.thread_cpu_time().ok()?;
     for _ in 0..ROUNDS {
-        rebuild(set, &[0, 1], &blocks[..STRIPE], 0, &mut parity[..BLOCK]);
-        rebuild(set, &[0, 1], &blocks[..STRIPE], 1, &mut parity[BLOCK..STRIPE]);
+        rebuild(set, &[0, 1], stripe.as_slice(), 0, rebuilt.as_mut_slice());
+        rebuild(set, &[0, 1], stripe.as_slice(), 1, rebuilt.as_mut_slice());
     }
     report(rt, "rebuild", 1, since(rt, from)?)?;
-    println!(rt; "check {} {} {}", digests[0][0], tag[0], parity[0]).ok()
+    println!(rt; "check {} {} {}", digests[0][0], tag[0], parity.len()).ok()
+}
+
+/// Makes the parity of a stripe, where the lengths are those of the set.
+fn encoded(set: SetPlan, stripe: &[u8], parity: &mut [u8]) -> Option<()> {
+    if stripe.len() != set.read_quorum() as usize * BLOCK || parity.len() != set.parity as usize * BLOCK {
+        return None;
+    }
+    encode(set, stripe, parity);
+    Some(())
 }
 
 /// So many bytes, not all the same.
@@ -118,7 +121,7 @@ fn report(rt: &HostRuntime, name: &str, stripes: u64, time: Duration) -> Option<
 }
 END
 
-(cd "$work/crates/whole_bench" && rt run >"$work/out" 2>"$work/log") || { cat "$work/out" "$work/log" >&2; echo "whole.sh: the program was not proved, built or run" >&2; exit 1; }
+run_program whole_bench
 
 requests() {
     for ((i = 0; i < count; i++)); do
@@ -144,7 +147,7 @@ requests put >"$work/puts"
 { cat "$work/puts"; requests get; } >"$work/both"
 puts="$(seconds "$work/puts")"
 both="$(seconds "$work/both")"
-[[ "$(grep -ac '^HTTP/1.1 200 OK' "$work/replies")" -ge 1 ]] || { echo "whole.sh: no body was found" >&2; exit 1; }
+[[ "$(grep -ao 'HTTP/1.1 200 OK' "$work/replies" | wc -l)" == "$((2 * count))" ]] || fail 1 "a request was refused"
 "$work/crates/whole_bench/out/whole_bench" >"$work/parts"
 awk -v puts="$puts" -v both="$both" -v megabytes="$(awk -v n="$count" -v size="$size" 'BEGIN { print n * size / 1e6 }')" '
     { rate[$1] = $2 }
