@@ -12,7 +12,7 @@ use Rattle.version_list.specs.declared.state.KeyState.{KeyState}
 use Rattle.ostore.specs.Commits.{IsPrepared, NamesId}
 use Rattle.ostore.specs.Holders.{data_names}
 use Rattle.ostore.specs.KeyFiles.{StandsFor, KeyCause}
-use Rattle.ostore.specs.Store.{OnlyRemoves}
+use Rattle.ostore.specs.Store.{OnlyRemoves, HasRemoved}
 use Rattle.ostore.specs.Leaves.{FilesStay, WritesAll, Shows, LookCause, Sides, CommitLeaves}
 use Rattle.ostore.proofs.ListLemmas.{first_of}
 use Rattle.ostore.proofs.SessionLemmas.{rose_later}
@@ -35,14 +35,16 @@ module _ {D : Type 0} (tell : D → Bool) (files : D → Files) (count : D → �
       → length mid ≡ length old → length new ≡ length mid → AtEach (λ a b. tell b ≡ tell a) old mid
       → AtEach (λ a b. IsTrue (tell a) → (files a).loose loose ≡ None → IsInPlace loose name file (files a) (files b)) old mid
       → ((ids : List VersionId) → gone ≡ flat_map id_bytes ids → AtEach (λ a b. IsTrue (tell a) → OnlyRemoves (data_names ids) (files a) (files b)) mid new)
+      → ((ids : List VersionId) → gone ≡ flat_map id_bytes ids → AtEach (λ a b. IsTrue (tell a) → HasRemoved (data_names ids) (files b) (count a) (count b)) mid new)
       → WritesAll tell files count loose name file gone old new
-  writes_and_removes loose name file gone old mid new same later tells writes removes = record {
+  writes_and_removes loose name file gone old mid new same later tells writes removes removed = record {
     mid = mid;
     same = same;
     later = later;
     tells = tells;
     writes = writes;
     removes = removes;
+    removed = removed;
   }
 
   pub tells_later : (old mid new : List D) → length mid ≡ length old → AtEach (λ a b. tell b ≡ tell a) old mid → AtEach (λ a b. tell b ≡ tell a) mid new → AtEach (λ a b. tell b ≡ tell a) old new

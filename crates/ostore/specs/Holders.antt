@@ -1,6 +1,7 @@
 -- The data of a body on the four drives: its shards and its manifest, and which drives keep them.
-use Rattle.std.specs.Prelude.{◌≡◌, ◌≢◌, ◌⊎◌, ◌<◌, ◌^◌, ℕ, List, [], ◌∷◌, length, map, replicate, slice_index_or, Option, Some, None, ⊤}
+use Rattle.std.specs.Prelude.{◌++◌, codes, ◌≡◌, ◌≢◌, ◌⊎◌, ◌<◌, ◌^◌, ℕ, List, [], ◌∷◌, length, map, replicate, slice_index_or, Option, Some, None, ⊤}
 use Rattle.std.specs.List.{flat_map}
+use Rattle.hex.specs.Hex.{encode_lower}
 use Rattle.std.proofs.Common.{lit≤}
 use Rattle.stamp_id.specs.declared.version.VersionId.{VersionId}
 use Rattle.call_types.specs.declared.version.What.{What}
@@ -60,6 +61,10 @@ IsNothingOr file_for bodies id there = (there ≡ None) ⊎ ((body : List ℕ) �
 pub record HasOnly (bodies : Named (List ℕ)) (number : ℕ) (id : VersionId) (named : Named (List ℕ)) : Type 0 where
   pub shard : IsNothingOr (λ body coding. shard_file body coding number) bodies id (named (shard_name id))
   pub manifest : IsNothingOr (manifest_file id) bodies id (named (manifest_name id))
+
+-- the names of the files of the data of the id with these bytes
+abbrev pub names_of_bytes : List ℕ → List (List ℕ)
+names_of_bytes id = (codes "s/" ++ encode_lower id) ∷ (codes "m/" ++ encode_lower id) ∷ []
 
 -- the names of the files of the data of some ids
 abbrev pub data_names : List VersionId → List (List ℕ)

@@ -18,7 +18,7 @@ use Rattle.ostore.specs.KeyFiles.{KeyCause, StandsFor}
 use Rattle.ostore.specs.Replies.{unavailable_text}
 use Rattle.ostore.specs.Session.{Gives}
 use Rattle.ostore.specs.Slots.{Drawn, with_drawn}
-use Rattle.ostore.specs.Store.{OnlyRemoves}
+use Rattle.ostore.specs.Store.{OnlyRemoves, HasRemoved}
 
 -- the sink and the counters before and after
 pub record Sides : Type 0 where
@@ -63,6 +63,7 @@ module _ {D : Type 0} (tell : D → Bool) (files : D → Files) (count : D → �
     pub tells : AtEach (λ a b. tell b ≡ tell a) old mid
     pub writes : AtEach (λ a b. IsTrue (tell a) → (files a).loose loose ≡ None → IsInPlace loose name file (files a) (files b)) old mid
     pub removes : (ids : List VersionId) → gone ≡ flat_map id_bytes ids → AtEach (λ a b. IsTrue (tell a) → OnlyRemoves (data_names ids) (files a) (files b)) mid new
+    pub removed : (ids : List VersionId) → gone ≡ flat_map id_bytes ids → AtEach (λ a b. IsTrue (tell a) → HasRemoved (data_names ids) (files b) (count a) (count b)) mid new
 
   -- no memory was found before anything was written
   pub record Starves (turn : Turn) (old : List D) (before : Sides) (new : List D) (after : Sides) : Type 0 where

@@ -7,6 +7,7 @@ use Rattle.call_types.specs.declared.names.VersionName.TheVariants.{Null, Id}
 use Rattle.call_types.specs.declared.version.Version.{Version}
 use Rattle.call_types.specs.declared.version.What.{What}
 use Rattle.call_types.specs.declared.version.What.TheVariants.{Marker, Object}
+use Rattle.drive_base.specs.Faults.{Rose}
 use Rattle.drive_base.specs.Files.{Files, Named}
 use Rattle.version_list.specs.declared.state.KeyState.{KeyState}
 use Rattle.version_list.specs.State.{IsCanonical}
@@ -75,12 +76,17 @@ pub record AreSound (most : ℕ) (owner : List ℕ → List ℕ) (objects : Obje
 abbrev pub IsNoneOf : List (List ℕ) → List ℕ → Type 0
 IsNoneOf names name = list_any (λ n. bytes_eq n name) names ≡ false
 
--- a drive loses no file but those of these names, gets none, and goes on showing what it keeps
+-- a drive loses no file but those of these names, gets and shows none that it hadn't, and goes on showing what it keeps
 pub record OnlyRemoves (names : List (List ℕ)) (old new : Files) : Type 0 where
   pub kept : (name : List ℕ) → IsNoneOf names name → new.kept name ≡ old.kept name
   pub less : (name : List ℕ) → (new.kept name ≡ old.kept name) ⊎ (new.kept name ≡ None)
+  pub less_shown : (name : List ℕ) → (new.shown name ≡ old.shown name) ⊎ (new.shown name ≡ None)
   pub shows : old.shown ≡ old.kept → new.shown ≡ new.kept
   pub loose : new.loose ≡ old.loose
+
+-- after these names were removed a drive shows none of them, or its count of faults rose
+abbrev pub HasRemoved : List (List ℕ) → Files → ℕ → ℕ → Type 0
+HasRemoved names files old new = Rose old new ⊎ AllByRecursion (λ name. files.shown name ≡ None) names
 
 module _ {D : Type 0} (files : D → Files) where
   -- drive 0 keeps each key's state, and as many drives as a write needs keep the files of each version's data

@@ -91,7 +91,7 @@ pub fn make<K: Sink, D: Drive>(
     ) {
         Ok(()) => {
             let turn = answer(sink, prepared.text.as_slice());
-            remove_data(alloc, drives, prepared.gone.as_slice());
+            remove_data(drives, prepared.gone.as_slice());
             turn
         }
         Err(Refused) => answer(sink, unavailable()),

@@ -1,74 +1,90 @@
 //! Takes data that no version names any more off the drives.
 
-ghost use Rattle.std.specs.Prelude.{◌≡◌, ◌≤◌, ◌++◌, ◌∷◌, [], IsTrue, IfOk, List, codes};
+ghost use Rattle.std.specs.Prelude.{◌≡◌, ◌<◌, ◌≤◌, ◌∷◌, [], IsTrue, List};
 ghost use Rattle.std.specs.List.{flat_map};
-ghost use Rattle.std.specs.String.{string_bytes};
 ghost use Rattle.hex.specs.Hex.{encode_lower};
 ghost use Rattle.stamp_id.specs.VersionId.{id_bytes};
 ghost use Rattle.stamp_id.specs.declared.version.VersionId.{VersionId};
 ghost use Rattle.ostore.specs.Drives.{AtEach};
-ghost use Rattle.ostore.specs.Holders.{data_names};
-ghost use Rattle.ostore.specs.Store.{OnlyRemoves};
+ghost use Rattle.ostore.specs.Holders.{data_names, names_of_bytes};
+ghost use Rattle.ostore.specs.Store.{OnlyRemoves, HasRemoved};
 
 use drive_base::Drive;
-use std::alloc::{AllocError, Global};
+use std::str;
 
-/// The name of a file of the data of the id with these bytes: `s/` or `m/`, and the bytes in hex.
-fn name_of_id(alloc: Global, front: &str, id: &[u8; 16]) -> Result<String, AllocError>
-    ensures { IfOk result (λ name. string_bytes name ≡ front.now ++ encode_lower id.now) }
+/// The letters of the name of a file of the data of the id with these bytes: `s` or `m`, a slash, and the bytes in hex.
+fn letters_of(front: u8, id: &[u8; 16]) -> [u8; 34]
+    ensures { result ≡ front ∷ 47 ∷ encode_lower id.now }
 {
-    let digits = hex::encode(alloc, *id)?;
-    let mut name = String::from_str(alloc, front)?;
-    name.push_str(digits.as_str())?;
-    Ok(name)
+    let mut letters = [b'/'; 34];
+    letters[0] = front;
+    let _ = hex::encode_to_slice(*id, &mut letters[2..]);
+    letters
+}
+
+/// Removes the file of this name from a drive, and passes a failure over.
+fn remove_from<D: Drive>(drive: &mut D, name: &str)
+    ensures removes { IsTrue (D.tells drive.old) → OnlyRemoves (name.now ∷ []) (D.files drive.old) (D.files drive.new) }
+    ensures removed { IsTrue (D.tells drive.old) → HasRemoved (name.now ∷ []) (D.files drive.new) (D.count drive.old) (D.count drive.new) }
+    ensures tells { D.tells drive.new ≡ D.tells drive.old }
+    ensures count { D.count drive.old ≤ D.count drive.new }
+{
+    let _ = drive.remove(name);
 }
 
 /// Removes the file of this name from every drive, and passes failures over.
 fn remove_all<D: Drive>(drives: &mut [D], name: &str)
     ensures removes { AtEach (λ old new. IsTrue (D.tells old) → OnlyRemoves (name.now ∷ []) (D.files old) (D.files new)) drives.old drives.new }
+    ensures removed { AtEach (λ old new. IsTrue (D.tells old) → HasRemoved (name.now ∷ []) (D.files new) (D.count old) (D.count new)) drives.old drives.new }
     ensures tells { AtEach (λ old new. D.tells new ≡ D.tells old) drives.old drives.new }
     ensures counts { AtEach (λ old new. D.count old ≤ D.count new) drives.old drives.new }
 {
     for drive in drives.iter_mut() {
-        let _ = drive.remove(name);
+        remove_from(drive, name);
     }
 }
 
-/// Removes one file of the data of the id with these bytes from every drive. Without memory for its name it removes nothing.
-fn remove_named<D: Drive>(alloc: Global, drives: &mut [D], front: &str, id: &[u8; 16])
+/// Removes one file of the data of the id with these bytes from every drive, and passes failures over.
+fn remove_file<D: Drive>(drives: &mut [D], front: u8, id: &[u8; 16])
+    requires { front < 128 }
     ensures removes { AtEach (λ old new. IsTrue (D.tells old)
-        → OnlyRemoves ((front.now ++ encode_lower id.now) ∷ []) (D.files old) (D.files new)) drives.old drives.new }
+        → OnlyRemoves ((front ∷ 47 ∷ encode_lower id.now) ∷ []) (D.files old) (D.files new)) drives.old drives.new }
+    ensures removed { AtEach (λ old new. IsTrue (D.tells old)
+        → HasRemoved ((front ∷ 47 ∷ encode_lower id.now) ∷ []) (D.files new) (D.count old) (D.count new)) drives.old drives.new }
     ensures tells { AtEach (λ old new. D.tells new ≡ D.tells old) drives.old drives.new }
     ensures counts { AtEach (λ old new. D.count old ≤ D.count new) drives.old drives.new }
 {
-    match name_of_id(alloc, front, id) {
-        Ok(name) => remove_all(drives, name.as_str()),
-        Err(_) => (),
+    let letters = letters_of(front, id);
+    match str::from_utf8(&letters) {
+        Ok(name) => remove_all(drives, name),
+        Err(_) => unreachable!(),
     }
 }
 
 /// Removes the data of the id with these bytes: its shard file from every drive, and then its manifest.
-fn remove_one<D: Drive>(alloc: Global, drives: &mut [D], id: &[u8; 16])
-    ensures removes { AtEach (λ old new. IsTrue (D.tells old)
-        → OnlyRemoves ((codes "s/" ++ encode_lower id.now) ∷ (codes "m/" ++ encode_lower id.now) ∷ []) (D.files old) (D.files new)) drives.old drives.new }
+fn remove_one<D: Drive>(drives: &mut [D], id: &[u8; 16])
+    ensures removes { AtEach (λ old new. IsTrue (D.tells old) → OnlyRemoves (names_of_bytes id.now) (D.files old) (D.files new)) drives.old drives.new }
+    ensures removed { AtEach (λ old new. IsTrue (D.tells old) → HasRemoved (names_of_bytes id.now) (D.files new) (D.count old) (D.count new)) drives.old drives.new }
     ensures tells { AtEach (λ old new. D.tells new ≡ D.tells old) drives.old drives.new }
     ensures counts { AtEach (λ old new. D.count old ≤ D.count new) drives.old drives.new }
 {
-    remove_named(alloc, drives, "s/", id);
-    remove_named(alloc, drives, "m/", id);
+    remove_file(drives, b's', id);
+    remove_file(drives, b'm', id);
 }
 
-/// Removes the data of these ids, 16 bytes each, from every drive. A failure is passed over, also want of memory: what is
-/// left then is no longer named by any version.
-pub fn remove_data<D: Drive>(alloc: Global, drives: &mut [D], gone: &[u8])
+/// Removes the data of these ids, 16 bytes each, from every drive. A failure is passed over: what is left then is no longer
+/// named by any version.
+pub fn remove_data<D: Drive>(drives: &mut [D], gone: &[u8])
     ensures removes { (ids : List VersionId) → gone.now ≡ flat_map id_bytes ids
         → AtEach (λ old new. IsTrue (D.tells old) → OnlyRemoves (data_names ids) (D.files old) (D.files new)) drives.old drives.new }
+    ensures removed { (ids : List VersionId) → gone.now ≡ flat_map id_bytes ids
+        → AtEach (λ old new. IsTrue (D.tells old) → HasRemoved (data_names ids) (D.files new) (D.count old) (D.count new)) drives.old drives.new }
     ensures tells { AtEach (λ old new. D.tells new ≡ D.tells old) drives.old drives.new }
     ensures counts { AtEach (λ old new. D.count old ≤ D.count new) drives.old drives.new }
 {
     let mut left = gone;
     while let Some((id, rest)) = left.split_first_chunk::<16>() {
-        remove_one(alloc, drives, id);
+        remove_one(drives, id);
         left = rest;
     }
 }
@@ -129,7 +145,7 @@ mod tests {
             let written = write_all(&mut drives, "w1", name, b"abc");
             assert!(rt; written.is_ok());
         }
-        remove_data(rt.alloc(), &mut drives, &gone());
+        remove_data(&mut drives, &gone());
         let absent = Err(DriveFault::Absent);
         let want = [absent, absent, absent, absent, Ok(3), Ok(3)];
         assert_eq!(rt; sizes(&mut drives[0]), want);
@@ -146,7 +162,7 @@ mod tests {
             assert!(rt; written.is_ok());
         }
         drives[0].lose();
-        remove_data(rt.alloc(), &mut drives, &gone());
+        remove_data(&mut drives, &gone());
         drives[0].back();
         let absent = Err(DriveFault::Absent);
         assert_eq!(rt;
