@@ -203,7 +203,7 @@ if ! cc -O2 -o "$work/isal" "$top/bench/code_isal.c" -lisal 2>"$work/cc.log" || 
     echo "code.sh: ISA-L is not there (apt-get install libisal-dev), so nothing stands beside" >&2
     : >"$work/beside"
 fi
-awk 'NR == FNR { rate[$1, $2] = $3; digest[$1, $2] = $4; next }
+awk 'FILENAME == ARGV[1] { rate[$1, $2] = $3; digest[$1, $2] = $4; next }
     $1 == "encode" || $1 == "rebuild" {
         line = sprintf("%-7s N=%-2d P=%d %6d MB/s", $1, 2 * $2, $2, $3)
         if (($1, $2) in rate) line = line sprintf("   ISA-L %6d MB/s, %.2f of it", rate[$1, $2], $3 / rate[$1, $2])
