@@ -1,16 +1,19 @@
 -- From what a shard file is to why a drive gave no block.
-use Rattle.std.proofs.Common.{◌≡◌, ℕ, ◌≤◌, ◌∙◌, List, Some, ap, sym, refl, subst, arith}
+use Rattle.std.proofs.Common.{◌≡◌, ◌≢◌, ℕ, ◌<◌, ◌≤◌, ◌∙◌, List, Some, length, ap, sym, refl, subst, inr, arith}
+use Rattle.std.proofs.lemmas.Option.{same_Some}
 use Rattle.std.specs.Prelude.{Bool, IsTrue}
+use Rattle.sha2.specs.Sha256.{sha256}
 use Rattle.seal_file.specs.declared.damage.Damage.{Damage}
+use Rattle.seal_file.specs.declared.damage.Damage.TheVariants.{Digest}
+use Rattle.shard_file.specs.Stripes.{stripe_count}
 use Rattle.call_types.specs.declared.why.FileKind.TheVariants.{Format, Register, Manifest, Shard}
 use Rattle.call_types.specs.declared.why.Why.TheVariants.{Good, Failed, Damaged, Behind, Lacks}
 use Rattle.drive_base.specs.Files.{Files}
 use Rattle.manifest_file.specs.declared.manifest.ManifestPart.{ManifestPart}
 use Rattle.body_print.specs.Names.{shard_name}
-use Rattle.get_read.specs.Blocks.{IsNoBlock}
-use Rattle.get_read.specs.Causes.{IsShardDamage}
+use Rattle.get_read.specs.Blocks.{IsFetched, IsNoBlock, ShowsBlock}
+use Rattle.get_read.specs.Causes.{IsShardDamage, IsTableOf, NoBlock}
 use Rattle.drive_files.specs.Reading.{IsRefusedBy}
-use Rattle.get_read.specs.Steps.{ShowsPiece}
 use Rattle.drive_files.specs.declared.cause.NotGiven.{NotGiven}
 use Rattle.drive_files.specs.declared.cause.NotGiven.TheVariants.{Because, NoMemory}
 use Rattle.get_read.proofs.Widening.{Widens}
@@ -21,12 +24,36 @@ shown_before : (name other : List ℕ) (files later : Files) (file : List ℕ) �
 shown_before name other files later file named kept is =
     sym (ap (λ (f : Files). f.shown other) kept) ∙ ap later.shown (sym named) ∙ is
 
--- the pieces that a drive shows later, it showed before
-pub piece_before : (name other : List ℕ) (tells tells_later : Bool) (files later : Files) (bytes : List ℕ) → name ≡ other → tells_later ≡ tells
-    → (IsTrue tells → later ≡ files) → (IsTrue tells_later → ShowsPiece later name bytes) → IsTrue tells → ShowsPiece files other bytes
-piece_before name other tells tells_later files later bytes named same kept shows told =
-    let piece = shows (subst IsTrue (sym same) told) in
-    (piece.0, (piece.1.0, shown_before name other files later piece.1.0 named (kept told) piece.1.1, piece.1.2))
+-- the blocks that a drive shows later, it showed before
+pub block_before : (d n i : ℕ) (name other : List ℕ) (tells tells_later : Bool) (files later : Files) (block : List ℕ) → name ≡ other → tells_later ≡ tells
+    → (IsTrue tells → later ≡ files) → (IsTrue tells_later → ShowsBlock d n i later name block) → IsTrue tells → ShowsBlock d n i files other block
+block_before d n i name other tells tells_later files later block named same kept shows told =
+    let shown = shows (subst IsTrue (sym same) told) in
+    (shown.0, shown_before name other files later shown.0 named (kept told) shown.1, shown.2)
+
+-- a block that was fetched and hasn't its stored digest is damage of its drive's file
+pub fetched_damage : (d : ℕ) (part : ManifestPart) (i : ℕ) (root : List ℕ) (out : Type 0) (tells : Bool) (files : Files) (old new : ℕ) (stored block : List ℕ)
+    → i < stripe_count part.length → IsFetched d part i root tells files stored block → stored ≢ sha256 block
+    → NoBlock d part root (Damaged (Digest stored (sha256 block))) out tells files old new
+fetched_damage d part i root out tells files old new stored block within is differs = λ told.
+    let table = is.is_table.shown told in
+    let shown = is.shown told in
+    let same : table.0 ≡ shown.0 = same_Some table.0 shown.0 (sym table.1 ∙ shown.1) in (
+      shown.0,
+      shown.1,
+      inr (
+        is.table,
+        i,
+        is.is_table.digest,
+        within,
+        subst (λ (file : List ℕ). IsTableOf d part.length file is.table) same table.2,
+        (
+          is.stored,
+          (λ equal. differs (is.stored ∙ equal)),
+          (shown.2.0, length block, shown.2.1, ap sha256 shown.2.2),
+        ),
+      ),
+    )
 
 -- a drive that gave nothing of a shard file gave no block
 pub refused_block : (d : ℕ) (part : ManifestPart) (root : List ℕ) (A : List ℕ → Damage → Type 0) (fault : NotGiven) (out : Type 0) (name : List ℕ)

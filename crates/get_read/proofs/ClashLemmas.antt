@@ -82,7 +82,8 @@ module _ {D : Type 0} (tells : D → Bool) (files : D → Files) where
       (files (slice_index_or drives k d)) block
       → (block ≡ slice_index_or (slice_index_or roots.0 k []) i [])
       ⊎ PartClash tells files set.drives (data_drives set.drives set.parity) bytes drives
-  verified_or_clash set part i k drives d block bytes low all long within roots is =
+  verified_or_clash set part i k drives d block bytes low all long within roots verified =
+      let is = verified.fetched in
       let dd = data_drives set.drives set.parity in
       let shards = roots.0 in
       let are : AreShards set.drives dd bytes shards = roots.1 in
@@ -95,7 +96,7 @@ module _ {D : Type 0} (tells : D → Bool) (files : D → Files) where
       elim (one_or_two is.table (table_of shard)) [
         | inl one ↦
             let digest : sha256 block ≡ sha256 (slice_index_or shard i []) =
-            sym is.digest ∙ ap (λ (table : List ℕ). digest_in table i) one ∙ digest_of_block shard i has in
+            sym verified.same ∙ is.stored ∙ ap (λ (table : List ℕ). digest_in table i) one ∙ digest_of_block shard i has in
             elim (one_or_two block (slice_index_or shard i [])) [
               | inl same ↦ inl same
               | inr differ ↦ inr (record {
@@ -103,7 +104,7 @@ module _ {D : Type 0} (tells : D → Bool) (files : D → Files) where
                 other = slice_index_or shard i [];
                 differ = differ;
                 same = digest;
-                was_read = piece_read drives part k d block inside is.shown;
+                was_read = piece_read drives part k d block inside (λ told. let b = is.shown told in (b.2.0, (b.0, b.1, b.2.2)));
                 is = record { shards = shards; are = are; r = k; within = low; is = inr (i, has, refl) };
               })
             ]

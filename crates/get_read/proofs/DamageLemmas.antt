@@ -6,7 +6,8 @@ use Rattle.sha2.proofs.Facts256.{length-sha256}
 use Rattle.shard_file.proofs.ShardLemmas.{length-shard, length-shard_block, length-table_of}
 use Rattle.shard_file.specs.Shards.{AreShardBlocks, HoldsBlock, shard_bytes, table_of}
 use Rattle.shard_file.specs.Stripes.{block_size, stripe_count, stripe_length, stripe_lengths}
-use Rattle.get_read.specs.Causes.{IsBlockDamage, IsTableDamage, IsTablePlace, digest_in}
+use Rattle.get_read.specs.Causes.{IsBlockDamage, IsBlockPlace, IsTableDamage, IsTablePlace}
+use Rattle.drive_files.specs.Reading.{EndsBefore}
 use Rattle.get_read.specs.Steps.{IsPieceDamage}
 use Rattle.get_read.proofs.Widening.{Widens}
 
@@ -83,11 +84,14 @@ block_before_end d n i at long digest_at blocks apart holds fit =
     ap (length {A = ℕ}) (holds blocks fit).digest ∙ length-sha256 (slice_index_or blocks i []) in
     omega (arith, apart, digest, length-take 32 (drop digest_at file), length-drop digest_at file)
 
-pub block_widens : (d n i at long digest_at : ℕ) (table stored : List ℕ) → stored ≡ digest_in table i → at + long ≤ digest_at
-    → HoldBlocks d n i at long digest_at → Widens (IsPieceDamage at long stored) (IsBlockDamage d n i table)
-block_widens d n i at long digest_at table stored is apart holds file (Short told) damage =
+pub block_widens : (d n i at long digest_at : ℕ) (table : List ℕ) → at + long ≤ digest_at → HoldBlocks d n i at long digest_at
+    → Widens (EndsBefore at long) (IsBlockDamage d n i table)
+block_widens d n i at long digest_at table apart holds file (Short told) damage =
     ((λ blocks fit. omega (arith, damage.0, block_before_end d n i at long digest_at blocks apart holds fit)), damage.1)
-block_widens d n i at long digest_at table stored is apart holds file (Digest told computed) damage =
-    (damage.0 ∙ is, (λ same. damage.1 (is ∙ same)), (at, long, (λ blocks fit. (holds blocks fit).block), damage.2))
-block_widens d n i at long digest_at table stored is apart holds file (Kind found) damage = damage
-block_widens d n i at long digest_at table stored is apart holds file (Spelling place) damage = damage
+block_widens d n i at long digest_at table apart holds file (Digest told computed) damage = absurd damage
+block_widens d n i at long digest_at table apart holds file (Kind found) damage = damage
+block_widens d n i at long digest_at table apart holds file (Spelling place) damage = damage
+
+-- where the block of a stripe stands in each shard file
+pub block_place : (d n i at long digest_at : ℕ) → HoldBlocks d n i at long digest_at → IsBlockPlace d n i at long
+block_place d n i at long digest_at holds blocks fit = (holds blocks fit).block

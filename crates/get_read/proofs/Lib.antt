@@ -6,7 +6,9 @@ pub mod FoundLemmas
 pub mod KeepingLemmas
 pub mod ManifestLemmas
 pub mod PartLemmas
+pub mod PieceLemmas
 pub mod RebuildLemmas
+pub mod SiftLemmas
 pub mod TableLemmas
 pub mod WholeLemmas
 pub mod Widening

@@ -3,10 +3,9 @@ use Rattle.std.proofs.Common.{◌≡◌, ℕ, List, Vec, length, sym, subst}
 use Rattle.std.specs.Prelude.{Bool, IsTrue, Result, Ok, Err, IfOk}
 use Rattle.std.specs.Global.{Global}
 use Rattle.drive_base.specs.Files.{Files}
-use Rattle.get_read.specs.Blocks.{ShowsTable}
-use Rattle.get_read.specs.Causes.{IsTablePlace}
+use Rattle.get_read.specs.Blocks.{ShowsBlock, ShowsTable}
+use Rattle.get_read.specs.Causes.{IsBlockPlace, IsTablePlace}
 use Rattle.drive_files.specs.Reading.{IsPieceAt}
-use Rattle.get_read.specs.Steps.{ShowsPiece}
 use Rattle.drive_files.specs.declared.cause.NotGiven.{NotGiven}
 
 -- bytes that were read at the place of the table
@@ -17,8 +16,9 @@ shown_table d n at size (Ok table) tells files name place long shows =
     λ told. let piece = shows told in (piece.0, piece.1, (at, subst (λ (l : ℕ). IsTablePlace d n at l) (sym long) place, piece.2))
 shown_table d n at size (Err fault) tells files name place long shows = tt
 
--- bytes that were read at some place
-pub shown_piece : (at : ℕ) (result : Result (Vec ℕ Global) NotGiven) (tells : Bool) (files : Files) (name : List ℕ)
-    → IfOk result (λ bytes. IsTrue tells → IsPieceAt files name at bytes.items) → IfOk result (λ bytes. IsTrue tells → ShowsPiece files name bytes.items)
-shown_piece at (Ok bytes) tells files name shows = λ told. (at, shows told)
-shown_piece at (Err fault) tells files name shows = tt
+-- bytes that were read at the place of a block
+pub shown_block : (d n i at size : ℕ) (block : List ℕ) (tells : Bool) (files : Files) (name : List ℕ) → IsBlockPlace d n i at size
+    → length block ≡ size → (IsTrue tells → IsPieceAt files name at block) → IsTrue tells → ShowsBlock d n i files name block
+shown_block d n i at size block tells files name place long shows told =
+    let piece = shows told in
+    (piece.0, piece.1, (at, subst (λ (l : ℕ). IsBlockPlace d n i at l) (sym long) place, piece.2))

@@ -23,10 +23,14 @@ widen_why kind name A B (Damaged damage) tells files old new wider is =
 widen_why kind name A B (Behind ballot) tells files old new wider is = is
 widen_why kind name A B (Lacks lacked) tells files old new wider is = is
 
+pub widen_cause : (kind : FileKind) (name : List ℕ) (A B : List ℕ → Damage → Type 0) (fault : NotGiven) (tells : Bool) (files : Files) (old new : ℕ)
+    → Widens A B → IsRefusedBy kind name A fault tells files old new → IsRefusedBy kind name B fault tells files old new
+widen_cause kind name A B (Because why) tells files old new wider is = widen_why kind name A B why tells files old new wider is
+widen_cause kind name A B NoMemory tells files old new wider is = is
+
 pub widen : {T : Type 0} (kind : FileKind) (name : List ℕ) (A B : List ℕ → Damage → Type 0) (result : Result T NotGiven) (tells : Bool)
     (files : Files) (old new : ℕ) → Widens A B
     → IfErr result (λ fault. IsRefusedBy kind name A fault tells files old new)
     → IfErr result (λ fault. IsRefusedBy kind name B fault tells files old new)
 widen kind name A B (Ok value) tells files old new wider is = is
-widen kind name A B (Err (Because why)) tells files old new wider is = widen_why kind name A B why tells files old new wider is
-widen kind name A B (Err NoMemory) tells files old new wider is = is
+widen kind name A B (Err fault) tells files old new wider is = widen_cause kind name A B fault tells files old new wider is

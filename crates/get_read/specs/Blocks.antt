@@ -12,8 +12,7 @@ use Rattle.manifest_file.specs.declared.manifest.ManifestPart.{ManifestPart}
 use Rattle.shard_file.specs.Stripes.{piece, stripe_count, stripe_length, block_size}
 use Rattle.poly_code.specs.Codeword.{AreDistinct}
 use Rattle.body_print.specs.Names.{shard_name}
-use Rattle.get_read.specs.Causes.{IsTableOf, NoBlock, digest_in}
-use Rattle.get_read.specs.Steps.{ShowsPiece}
+use Rattle.get_read.specs.Causes.{IsBlockOf, IsTableOf, NoBlock, digest_in}
 use Rattle.drive_files.specs.declared.cause.NotGiven.{NotGiven}
 use Rattle.drive_files.specs.declared.cause.NotGiven.TheVariants.{Because, NoMemory}
 use Rattle.get_read.specs.declared.faults.ReadFaultKind.{ReadFaultKind}
@@ -33,13 +32,24 @@ pub record IsTableFor (d : ℕ) (part : ManifestPart) (root : List ℕ) (tells :
 abbrev pub IsHeld : ℕ → ManifestPart → List ℕ → Bool → Files → List ℕ → Type 0
 IsHeld d part root tells files table = (table ≡ []) ⊎ IsTableFor d part root tells files table
 
--- a block of a stripe whose digest is that of a table that has the root; a drive that tells shows both
-pub record IsVerified (d : ℕ) (part : ManifestPart) (i : ℕ) (root : List ℕ) (tells : Bool) (files : Files) (block : List ℕ) : Type 0 where
+-- the shown file of this name has these bytes at the place of the block of a stripe
+abbrev pub ShowsBlock : ℕ → ℕ → ℕ → Files → List ℕ → List ℕ → Type 0
+ShowsBlock d n i files name block = (file : List ℕ) × (files.shown name ≡ Some file) × IsBlockOf d n i file block
+
+-- a block of a stripe, not compared yet, and the digest that a table which has the root has for it; a drive that tells
+-- shows both
+pub record IsFetched (d : ℕ) (part : ManifestPart) (i : ℕ) (root : List ℕ) (tells : Bool) (files : Files) (digest block : List ℕ) : Type 0 where
   pub table : List ℕ
   pub is_table : IsTableFor d part root tells files table
   pub size : length block ≡ block_size d (stripe_length part.length i)
-  pub digest : digest_in table i ≡ sha256 block
-  pub shown : IsTrue tells → ShowsPiece files (shard_name part.id) block
+  pub stored : digest ≡ digest_in table i
+  pub shown : IsTrue tells → ShowsBlock d part.length i files (shard_name part.id) block
+
+-- a block of a stripe whose digest is that of a table that has the root; a drive that tells shows both
+pub record IsVerified (d : ℕ) (part : ManifestPart) (i : ℕ) (root : List ℕ) (tells : Bool) (files : Files) (block : List ℕ) : Type 0 where
+  pub digest : List ℕ
+  pub fetched : IsFetched d part i root tells files digest block
+  pub same : digest ≡ sha256 block
 
 -- why a drive gave no block, or there was not enough memory
 abbrev pub IsNoBlock : ℕ → ManifestPart → List ℕ → NotGiven → Type 0 → Bool → Files → ℕ → ℕ → Type 0

@@ -91,6 +91,10 @@ IsBlockDamage d n i table file (Spelling _) = ⊥
 abbrev pub IsTableOf : ℕ → ℕ → List ℕ → List ℕ → Type 0
 IsTableOf d n file table = (at : ℕ) × IsTablePlace d n at (length table) × (table ≡ take (length table) (drop at file))
 
+-- these bytes are a file's at the place of the block of a stripe
+abbrev pub IsBlockOf : ℕ → ℕ → ℕ → List ℕ → List ℕ → Type 0
+IsBlockOf d n i file block = (at : ℕ) × IsBlockPlace d n i at (length block) × (block ≡ take (length block) (drop at file))
+
 -- the damage of a shard file of a part of n bytes: of its digest table, or of a block by its table, which has the root
 abbrev pub IsShardDamage : ℕ → ℕ → List ℕ → List ℕ → Damage → Type 0
 IsShardDamage d n root file damage = IsTableDamage d n root file damage

@@ -4,4 +4,5 @@ pub mod Keeping
 pub mod Manifests
 pub mod Outcomes
 pub mod Parts
+pub mod Sifting
 pub mod Steps

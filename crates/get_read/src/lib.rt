@@ -6,10 +6,12 @@
 //! clause names both. Where the read is refused, each drive's cause is told.
 //!
 //! A digest table is read and verified once for each drive and part. A block is rebuilt only from blocks whose digests
-//! were compared. The crate stands on `body_print` for the print and the names, on `manifest_file` and `shard_file` for
+//! were compared; those of a stripe are computed together, once there are as many blocks as it has data blocks, or all
+//! drives were tried. The crate stands on `body_print` for the print and the names, on `manifest_file` and `shard_file` for
 //! the files, and on `poly_code` for the code.
 #![tactic(auto)]
 
+mod blocks;
 mod faults;
 mod manifests;
 mod parts;

@@ -98,9 +98,9 @@ fn stripe_at<D: Drive>(
     ensures few { IfErr result (λ fault. AreFew D.tells D.files D.count set part.now fault drives.old drives.new) }
     ensures kept { AreKept D.tells D.files D.count set.out drives.old drives.new }
 {
-    let blocks = blocks_of(alloc, set, part, name, stripe, tables, drives)?;
     let long = (part.length - stripe * STRIPE).min(STRIPE);
     let size = block_len(&set, long) as usize;
+    let blocks = blocks_of(alloc, set, part, name, stripe, size, tables, drives)?;
     add_stripe(alloc, set, &blocks, size, long as usize, body)?;
     Ok(())
 }

@@ -1,6 +1,6 @@
 //! A stripe from verified blocks.
 
-ghost use Rattle.std.specs.Prelude.{◌≡◌, ◌≢◌, ◌<◌, ◌≤◌, ◌+◌, ◌*◌, ◌++◌, ℕ, List, [], ◌∷◌, All, IsTrue, IsOk, IsErr, IfOk, IfErr, length, slice_index, slice_index_or};
+ghost use Rattle.std.specs.Prelude.{◌≡◌, ◌≢◌, ◌<◌, ◌≤◌, ◌+◌, ◌*◌, ◌++◌, ℕ, List, [], All, IsTrue, IsOk, IsErr, IfOk, IfErr, length, slice_index, slice_index_or};
 ghost use Rattle.std.specs.Int.{IsBitSet};
 ghost use Rattle.drive_base.specs.Plan.{data_drives};
 ghost use Rattle.shard_file.specs.Stripes.{piece, stripe_count, stripe_length, block_size};
@@ -11,25 +11,17 @@ ghost use Rattle.call_types.specs.declared.why.FileKind.TheVariants.{Shard};
 ghost use Rattle.get_read.specs.Causes.{IsTableDamage};
 ghost use Rattle.drive_files.specs.Reading.{IsRefusedBy};
 ghost use Rattle.get_read.specs.Keeping.{AreKept};
-ghost use Rattle.get_read.specs.Blocks.{IsHeld, IsTableFor, AreHeld, IsVerified, IsNoBlock, AreEnough, AreFew};
+ghost use Rattle.get_read.specs.Blocks.{IsHeld, IsTableFor, AreHeld, IsFetched, IsNoBlock, AreEnough, AreFew};
 
+use crate::blocks::{Blocks, add_block, are_enough, sift};
 use crate::faults::ReadFaultKind;
-use crate::tables::{block_on, table_on};
+use crate::tables::{Fetched, block_on, table_on};
 use call_types::{FileKind, Why, Whys};
 use drive_base::{Drive, SetPlan};
 use drive_files::NotGiven;
 use manifest_file::ManifestPart;
 use poly_code::rebuild;
 use std::alloc::{AllocError, Global};
-
-/// Verified blocks of a stripe: the numbers of their drives, and the blocks joined.
-#[derive(Debug, Drop)]
-pub struct Blocks {
-    /// The numbers of the drives, rising.
-    pub rows: Vec<u8>,
-    /// The blocks, in the order of the drives.
-    pub bytes: Vec<u8>,
-}
 
 /// As many verified blocks of a stripe as it has data blocks. All drives are tried before it is refused.
 pub fn blocks_of<D: Drive>(
@@ -38,6 +30,7 @@ pub fn blocks_of<D: Drive>(
     part: &ManifestPart,
     name: &str,
     stripe: u64,
+    size: usize,
     tables: &mut [Vec<u8>],
     drives: &mut [D],
 ) -> Result<Blocks, ReadFaultKind>
@@ -45,6 +38,7 @@ pub fn blocks_of<D: Drive>(
     requires tables { length tables.old ≡ set.drives }
     requires roots { length part.now.roots ≡ set.drives }
     requires within { stripe < stripe_count part.now.length }
+    requires size { size ≡ block_size (data_drives set.drives set.parity) (stripe_length part.now.length stripe) }
     requires name { name.now ≡ shard_name part.now.id }
     requires held { AreHeld D.tells D.files (data_drives set.drives set.parity) part.now tables.old drives.old }
     ensures held { AreHeld D.tells D.files (data_drives set.drives set.parity) part.now tables.new drives.new }
@@ -55,32 +49,26 @@ pub fn blocks_of<D: Drive>(
 {
     let mut found = Blocks {
         rows: Vec::new(alloc),
+        stored: Vec::new(alloc),
         bytes: Vec::new(alloc),
     };
     let mut whys = Whys::all_good(set.drives);
+    let wanted = set.read_quorum() as usize;
     for index in 0..set.drives {
-        if found.rows.len() == set.read_quorum() as usize {
+        if are_enough(&mut found, &mut whys, size, wanted) {
             return Ok(found);
         }
         match block_at(alloc, set, part, index, name, stripe, tables, drives) {
-            Ok(block) => add_block(&mut found, index, block.as_slice())?,
+            Ok(fetched) => add_block(&mut found, index, &fetched)?,
             Err(NotGiven::Because(why)) => whys.set(index as usize, why),
             Err(NotGiven::NoMemory) => return Err(ReadFaultKind::NoMemory),
         }
     }
-    if found.rows.len() == set.read_quorum() as usize {
+    sift(&mut found, &mut whys, size);
+    if found.rows.len() == wanted {
         return Ok(found);
     }
     Err(ReadFaultKind::ShardQuorum(whys))
-}
-
-/// Adds the block of one more drive.
-fn add_block(blocks: &mut Blocks, index: u8, block: &[u8]) -> Result<(), AllocError>
-    ensures rows { IsOk result → blocks.new.rows.items ≡ blocks.old.rows.items ++ index ∷ [] }
-    ensures bytes { IsOk result → blocks.new.bytes.items ≡ blocks.old.bytes.items ++ block.now }
-{
-    blocks.rows.push(index)?;
-    blocks.bytes.extend_from_slice(block)
 }
 
 /// The block of a stripe on the drive of this number. Its table is held from then on.
@@ -93,7 +81,7 @@ fn block_at<D: Drive>(
     stripe: u64,
     tables: &mut [Vec<u8>],
     drives: &mut [D],
-) -> Result<Vec<u8>, NotGiven>
+) -> Result<Fetched, NotGiven>
     requires index { index < set.drives }
     requires drives { length drives.old ≡ set.drives }
     requires tables { length tables.old ≡ set.drives }
@@ -103,18 +91,18 @@ fn block_at<D: Drive>(
     requires held { AreHeld D.tells D.files (data_drives set.drives set.parity) part.now tables.old drives.old }
     ensures held { AreHeld D.tells D.files (data_drives set.drives set.parity) part.now tables.new drives.new }
     ensures tables { length tables.new ≡ length tables.old }
-    ensures block { IfOk result (λ block. (d : D) → IsVerified (data_drives set.drives set.parity) part.now stripe (slice_index_or part.now.roots index []) (D.tells (slice_index_or drives.old index d)) (D.files (slice_index_or drives.old index d)) block.items) }
+    ensures fetched { IfOk result (λ fetched. (d : D) → IsFetched (data_drives set.drives set.parity) part.now stripe (slice_index_or part.now.roots index []) (D.tells (slice_index_or drives.old index d)) (D.files (slice_index_or drives.old index d)) fetched.stored fetched.block.items) }
     ensures cause { IfErr result (λ fault. (d : D) → IsNoBlock (data_drives set.drives set.parity) part.now (slice_index_or part.now.roots index []) fault (IsBitSet set.out index) (D.tells (slice_index_or drives.old index d)) (D.files (slice_index_or drives.old index d)) (D.count (slice_index_or drives.old index d)) (D.count (slice_index_or drives.new index d))) }
     ensures others { (k : ℕ) (d : D) → k ≢ index → slice_index_or drives.new k d ≡ slice_index_or drives.old k d }
     ensures kept { AreKept D.tells D.files D.count set.out drives.old drives.new }
 {
     let table = &mut tables[index as usize];
     let drive = &mut drives[index as usize];
-    verified(alloc, set, part, index, name, stripe, table, drive)
+    fetched(alloc, set, part, index, name, stripe, table, drive)
 }
 
-/// The block of a stripe on a drive that isn't out, if its table and its digest verify. The table is held from then on.
-fn verified<D: Drive>(
+/// The block of a stripe on a drive that isn't out, if its table verifies. The table is held from then on.
+fn fetched<D: Drive>(
     alloc: Global,
     set: SetPlan,
     part: &ManifestPart,
@@ -123,14 +111,14 @@ fn verified<D: Drive>(
     stripe: u64,
     table: &mut Vec<u8>,
     drive: &mut D,
-) -> Result<Vec<u8>, NotGiven>
+) -> Result<Fetched, NotGiven>
     requires index { index < set.drives }
     requires roots { length part.now.roots ≡ set.drives }
     requires within { stripe < stripe_count part.now.length }
     requires name { name.now ≡ shard_name part.now.id }
     requires held { IsHeld (data_drives set.drives set.parity) part.now (slice_index_or part.now.roots index []) (D.tells drive.old) (D.files drive.old) table.old.items }
     ensures held { IsHeld (data_drives set.drives set.parity) part.now (slice_index_or part.now.roots index []) (D.tells drive.old) (D.files drive.old) table.new.items }
-    ensures block { IfOk result (λ block. IsVerified (data_drives set.drives set.parity) part.now stripe (slice_index_or part.now.roots index []) (D.tells drive.old) (D.files drive.old) block.items) }
+    ensures fetched { IfOk result (λ fetched. IsFetched (data_drives set.drives set.parity) part.now stripe (slice_index_or part.now.roots index []) (D.tells drive.old) (D.files drive.old) fetched.stored fetched.block.items) }
     ensures cause { IfErr result (λ fault. IsNoBlock (data_drives set.drives set.parity) part.now (slice_index_or part.now.roots index []) fault (IsBitSet set.out index) (D.tells drive.old) (D.files drive.old) (D.count drive.old) (D.count drive.new)) }
     ensures alone { IsBitSet set.out index → drive.new ≡ drive.old }
     ensures files { IsTrue (D.tells drive.old) → D.files drive.new ≡ D.files drive.old }

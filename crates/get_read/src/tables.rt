@@ -7,8 +7,8 @@ ghost use Rattle.drive_base.specs.Plan.{data_drives};
 ghost use Rattle.shard_file.specs.Stripes.{stripe_count, stripe_length, block_size};
 ghost use Rattle.get_read.specs.Causes.{IsTableDamage, IsBlockDamage, digest_in};
 ghost use Rattle.drive_files.specs.Reading.{IsPieceAt, IsRefusedBy};
-ghost use Rattle.get_read.specs.Steps.{IsPieceDamage, ShowsPiece};
-ghost use Rattle.get_read.specs.Blocks.{ShowsTable};
+ghost use Rattle.get_read.specs.Steps.{IsPieceDamage};
+ghost use Rattle.get_read.specs.Blocks.{ShowsBlock, ShowsTable};
 
 use call_types::{FileKind, Why};
 use drive_base::{Drive, SetPlan};
@@ -17,7 +17,7 @@ use shard_file::{STRIPE, check_block, layout};
 use std::alloc::Global;
 
 /// So many bytes of a shard file from a place on, if the digest is theirs.
-pub fn digested_at<D: Drive>(
+fn digested_at<D: Drive>(
     alloc: Global,
     drive: &mut D,
     name: &str,
@@ -66,7 +66,16 @@ pub fn table_on<D: Drive>(
     digested_at(alloc, drive, name, first, size, root)
 }
 
-/// The block of a stripe of a part of so many bytes, if it is the one whose digest the table has.
+/// A block as its drive shows it, and the digest that the drive's table has for it. They are not compared yet.
+#[derive(Debug, Drop)]
+pub struct Fetched {
+    /// The digest in the table.
+    pub stored: [u8; 32],
+    /// The bytes of the block.
+    pub block: Vec<u8>,
+}
+
+/// The block of a stripe of a part of so many bytes, with the digest that the table has for it.
 pub fn block_on<D: Drive>(
     alloc: Global,
     set: SetPlan,
@@ -75,12 +84,12 @@ pub fn block_on<D: Drive>(
     long: u64,
     stripe: u64,
     table: &[u8],
-) -> Result<Vec<u8>, NotGiven>
+) -> Result<Fetched, NotGiven>
     requires within { stripe < stripe_count long }
     requires table { length table.now ≡ 32 * stripe_count long }
-    ensures size { IfOk result (λ block. length block.items ≡ block_size (data_drives set.drives set.parity) (stripe_length long stripe)) }
-    ensures digest { IfOk result (λ block. digest_in table.now stripe ≡ sha256 block.items) }
-    ensures shown { IfOk result (λ block. IsTrue (D.tells drive.old) → ShowsPiece (D.files drive.old) name.now block.items) }
+    ensures size { IfOk result (λ fetched. length fetched.block.items ≡ block_size (data_drives set.drives set.parity) (stripe_length long stripe)) }
+    ensures stored { IfOk result (λ fetched. fetched.stored ≡ digest_in table.now stripe) }
+    ensures shown { IfOk result (λ fetched. IsTrue (D.tells drive.old) → ShowsBlock (data_drives set.drives set.parity) long stripe (D.files drive.old) name.now fetched.block.items) }
     ensures cause { IfErr result (λ fault. IsRefusedBy Shard name.now (IsBlockDamage (data_drives set.drives set.parity) long stripe table.now) fault (D.tells drive.old) (D.files drive.old) (D.count drive.old) (D.count drive.new)) }
     ensures files { IsTrue (D.tells drive.old) → D.files drive.new ≡ D.files drive.old }
     ensures tells { D.tells drive.new ≡ D.tells drive.old }
@@ -88,7 +97,17 @@ pub fn block_on<D: Drive>(
 {
     let place = layout(&set, long, stripe);
     let stored = digest_of(table, stripe);
-    digested_at(alloc, drive, name, place.block, place.length, stored)
+    match bytes_at(
+        alloc,
+        drive,
+        FileKind::Shard,
+        name,
+        place.block,
+        place.length,
+    ) {
+        Ok(block) => Ok(Fetched { stored, block }),
+        Err(fault) => Err(fault),
+    }
 }
 
 /// The digest that a table has for a stripe.

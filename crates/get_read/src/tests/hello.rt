@@ -107,6 +107,25 @@ fn three_damaged_drives_are_told(rt: HostRuntime) -> Result<(), Fail> {
 }
 
 #[test]
+fn a_damaged_block_is_told_where_others_are_lacking(rt: HostRuntime) -> Result<(), Fail> {
+    let mut drives = fresh_drives(rt.alloc(), 4)?;
+    stage_hello(rt.alloc(), &mut drives)?;
+    damage(rt.alloc(), &mut drives, 0)?;
+    lose(&mut drives, 1);
+    lose(&mut drives, 2);
+    lose(&mut drives, 3);
+    let answer = read_of(rt.alloc(), 0, HELLO_PRINT, 5, &mut drives);
+    let due = because(
+        damaged(STORED[0], COMPUTED[0]),
+        failed(0),
+        failed(0),
+        failed(0),
+    );
+    assert_eq!(rt; answer.err(), due);
+    Ok(())
+}
+
+#[test]
 fn two_lost_drives_leave_it_and_three_are_told(rt: HostRuntime) -> Result<(), Fail> {
     let mut drives = fresh_drives(rt.alloc(), 4)?;
     stage_hello(rt.alloc(), &mut drives)?;

@@ -12,6 +12,6 @@ invariant-loop-index g l = let D = g.D.Drive in record {
   tables : length l.tables ≡ l.set.drives;
   held : AreHeld D.tells D.files (data_drives l.set.drives l.set.parity) l.part l.tables l.drives;
   few : length l.found.rows.items ≤ data_drives l.set.drives l.set.parity;
-  found : AreFound D.tells D.files D.count l.set l.part l.stripe l.index l.found.rows.items l.found.bytes.items l.whys l.initial.drives l.drives;
+  found : AreFound D.tells D.files D.count l.set l.part l.stripe l.index l.found l.whys l.initial.drives l.drives;
   kept : AreKept D.tells D.files D.count l.set.out l.initial.drives l.drives;
 }

@@ -1,0 +1,118 @@
+//! Blocks of a stripe from several drives, and the comparison of them all with their digests.
+
+ghost use Rattle.std.specs.Prelude.{◌≡◌, ◌<◌, ◌≤◌, ◌+◌, ◌*◌, ◌++◌, ◌∷◌, [], ℕ, List, IsOk, IsTrue, false, length, map};
+ghost use Rattle.std.specs.List.{remove, remove_range};
+ghost use Rattle.sha2.specs.Sha256.{sha256};
+ghost use Rattle.shard_file.specs.Stripes.{pieces};
+ghost use Rattle.get_read.specs.Sifting.{AreAtHand, AreSifted, block_at};
+ghost use Rattle.get_read.specs.declared.blocks.Blocks.{Blocks};
+ghost use Rattle.call_types.specs.declared.why.Why.{Why};
+
+use crate::tables::Fetched;
+use call_types::{MOST_DRIVES, Why, Whys};
+use seal_file::Damage;
+use shard_file::block_digests;
+use std::alloc::AllocError;
+
+/// Blocks of a stripe, of one size: the numbers of their drives, the digests that the tables have for them, and the
+/// blocks joined.
+#[derive(Debug, Drop)]
+pub struct Blocks {
+    /// The numbers of the drives, rising.
+    pub rows: Vec<u8>,
+    /// The digest that each drive's table has for its block.
+    pub stored: Vec<[u8; 32]>,
+    /// The blocks, in the order of the drives.
+    pub bytes: Vec<u8>,
+}
+
+/// Adds the block of one more drive.
+pub fn add_block(found: &mut Blocks, index: u8, fetched: &Fetched) -> Result<(), AllocError>
+    ensures rows { IsOk result → found.new.rows.items ≡ found.old.rows.items ++ index ∷ [] }
+    ensures stored { IsOk result → found.new.stored.items ≡ found.old.stored.items ++ fetched.now.stored ∷ [] }
+    ensures bytes { IsOk result → found.new.bytes.items ≡ found.old.bytes.items ++ fetched.now.block.items }
+{
+    found.rows.push(index)?;
+    found.stored.push(fetched.stored)?;
+    found.bytes.extend_from_slice(fetched.block.as_slice())
+}
+
+/// Compares all blocks with their digests, which are computed together. A block that has another digest is taken out,
+/// and the `Why` of its drive says so. Those that are left are verified.
+pub fn sift(found: &mut Blocks, whys: &mut Whys, size: usize)
+    requires few { length found.old.rows.items ≤ 16 }
+    requires at_hand { AreAtHand size found.old whys.old }
+    ensures { AreSifted size 0 found.old found.new whys.old whys.new }
+{
+    let count = found.rows.len();
+    let mut digests = [[0; 32]; MOST_DRIVES];
+    let digests = &mut digests[..count];
+    block_digests(found.bytes.as_slice(), size, digests);
+    keep_verified(found, whys, size, digests);
+}
+
+/// Whether there are as many blocks as are wanted, and all verify. They are compared only where there are as many.
+pub fn are_enough(found: &mut Blocks, whys: &mut Whys, size: usize, wanted: usize) -> bool
+    requires few { length found.old.rows.items ≤ 16 }
+    requires most { length found.old.rows.items ≤ wanted }
+    requires at_hand { AreAtHand size found.old whys.old }
+    ensures sifted { (place : ℕ) × AreSifted size place found.old found.new whys.old whys.new }
+    ensures verified { IsTrue result → AreSifted size 0 found.old found.new whys.old whys.new }
+    ensures enough { IsTrue result → length found.new.rows.items ≡ wanted }
+    ensures fewer { result ≡ false → length found.new.rows.items < wanted }
+{
+    if found.rows.len() < wanted {
+        return false;
+    }
+    sift(found, whys, size);
+    found.rows.len() == wanted
+}
+
+/// Takes the blocks out that haven't their stored digest, given the digests of all.
+fn keep_verified(found: &mut Blocks, whys: &mut Whys, size: usize, digests: &[[u8; 32]])
+    requires at_hand { AreAtHand size found.old whys.old }
+    requires count { length digests.now ≡ length found.old.rows.items }
+    requires digests { digests.now ≡ map sha256 (pieces size (length found.old.rows.items) found.old.bytes.items) }
+    ensures { AreSifted size 0 found.old found.new whys.old whys.new }
+{
+    let mut place = found.rows.len();
+    while place > 0 {
+        place -= 1;
+        compare(found, whys, place, size, digests[place]);
+    }
+}
+
+/// Takes the block at a place out if it hasn't its stored digest, given the one that was computed. The `Why` of its
+/// drive tells both.
+fn compare(found: &mut Blocks, whys: &mut Whys, place: usize, size: usize, computed: [u8; 32])
+    requires place { place < length found.old.rows.items }
+    requires at_hand { AreAtHand size found.old whys.old }
+    requires computed { computed ≡ sha256 (block_at size found.old place) }
+    ensures { (from : Blocks) (causes : List Why) → AreSifted size (place + 1) from found.old causes whys.old → AreSifted size place from found.new causes whys.new }
+{
+    let stored = found.stored.as_slice()[place];
+    if stored == computed {
+        return;
+    }
+    let row = found.rows.as_slice()[place];
+    whys.set(
+        row as usize,
+        Why::Damaged(Damage::Digest { stored, computed }),
+    );
+    take_out(found, place, size);
+}
+
+/// Takes the block at a place out.
+fn take_out(found: &mut Blocks, place: usize, size: usize)
+    requires rows { place < length found.old.rows.items }
+    requires stored { length found.old.stored.items ≡ length found.old.rows.items }
+    requires size { length found.old.bytes.items ≡ length found.old.rows.items * size }
+    ensures rows { found.new.rows.items ≡ remove found.old.rows.items place }
+    ensures stored { found.new.stored.items ≡ remove found.old.stored.items place }
+    ensures bytes { found.new.bytes.items ≡ remove_range found.old.bytes.items (size * place) (size * place + size) }
+{
+    let from = size * place;
+    found.rows.remove(place);
+    found.stored.remove(place);
+    found.bytes.drain(from..from + size);
+}
