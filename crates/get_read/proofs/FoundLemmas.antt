@@ -21,9 +21,9 @@ use Rattle.manifest_file.specs.declared.manifest.ManifestPart.{ManifestPart}
 use Rattle.poly_code.specs.Codeword.{AreDistinct}
 use Rattle.shard_file.specs.Stripes.{piece, stripe_count, stripe_length, block_size}
 use Rattle.get_read.specs.declared.blocks.Blocks.{Blocks}
-use Rattle.get_read.specs.Blocks.{AreEnough, IsFetched, IsNoBlock, NoneMore}
+use Rattle.get_read.specs.Blocks.{AreEnough, IsFetched, IsNoBlock, IsVerified, NoneMore}
 use Rattle.get_read.specs.Causes.{NoBlock}
-use Rattle.get_read.specs.Sifting.{AreAtHand, AreSifted, block_at, row_at, stored_at}
+use Rattle.get_read.specs.Sifting.{AreAtHand, AreSifted, IsRow, block_at, row_at, stored_at}
 use Rattle.get_read.proofs.BlockLemmas.{fetched_damage}
 use Rattle.get_read.proofs.KeepingLemmas.{some_of}
 use Rattle.get_read.proofs.PieceLemmas.{piece_added, piece_stays}
@@ -44,7 +44,8 @@ module _ {D : Type 0} (tells : D → Bool) (files : D → Files) (count : D → 
   GivesNot set part old new k why = (d : D) → NoBlock (data_drives set.drives set.parity) part (slice_index_or part.roots k []) why (IsBitSet set.out k)
       (tells (slice_index_or old k d)) (files (slice_index_or old k d)) (count (slice_index_or old k d)) (count (slice_index_or new k d))
 
-  -- the drives before a place gave the blocks of the rows, or their `Why` says why not, and the others are as they were
+  -- the drives before a place gave the blocks of the rows, or their `Why` says why not, and the others are as they were; a
+  -- drive whose `Why` is good gave one
   pub record AreFound (set : SetPlan) (part : ManifestPart) (i place : ℕ) (found : Blocks) (whys : List Why) (old new : List D) : Type 0 where
     pub counted : length whys ≡ set.drives
     pub sum : good_count whys + place ≡ length found.rows.items + set.drives
@@ -53,6 +54,7 @@ module _ {D : Type 0} (tells : D → Bool) (files : D → Files) (count : D → 
     pub at_hand : AreAtHand (size_of set part i) found whys
     pub each : (j : ℕ) → j < length found.rows.items → Gives set part i old (row_at found j) (stored_at found j) (block_at (size_of set part i) found j)
     pub none : (k : ℕ) → k < place → GivesNot set part old new k (slice_index_or whys k Good)
+    pub gave : (k : ℕ) → k < place → slice_index_or whys k Good ≡ Good → IsRow found k
     pub others : (k : ℕ) (d : D) → place ≤ k → slice_index_or new k d ≡ slice_index_or old k d
 
 -- the row that is added
@@ -152,8 +154,18 @@ found_more {D = D} tells files count set part i place found next whys whys_next 
                 (tells (slice_index_or old k d)) (files (slice_index_or old k d)) (count (slice_index_or old k d)) (count x))
                 (sym (others k d other)) (so_far.none k (omega arith) d)
           ]);
+      gave = λ k low good. elim (cases_eq k place) [
+        | inl at ↦ (length rows, omega (arith, count_rows), last_row ∙ sym at)
+        | inr other ↦
+            let row = so_far.gave k (omega arith) (sym (ap (λ (w : List Why). slice_index_or w k Good) whys_are) ∙ good) in
+            (row.0, omega (arith, row.1, count_rows), before_row row.0 row.1 ∙ row.2)
+      ];
       others = λ k d low. others k d (omega arith) ∙ so_far.others k d (omega arith);
     }
+
+-- what is good isn't bad
+good_and_bad : (why : Why) → why ≡ Good → is_good why ≡ false → ⊥
+good_and_bad why good bad = let same : is_good why ≡ is_good Good = ap is_good good in cc
 
 -- with one more drive that gave none
 pub found_no_more : {D : Type 0} (tells : D → Bool) (files : D → Files) (count : D → ℕ) (set : SetPlan) (part : ManifestPart) (i place : ℕ)
@@ -201,6 +213,10 @@ found_no_more {D = D} tells files count set part i place found whys old mid new 
             (subst (λ (x : D). NoBlock (data_drives set.drives set.parity) part (slice_index_or part.roots k []) (slice_index_or whys k Good) (IsBitSet set.out k)
             (tells (slice_index_or old k d)) (files (slice_index_or old k d)) (count (slice_index_or old k d)) (count x))
             (sym (others k d other)) (so_far.none k (omega arith) d))
+      ];
+      gave = λ k before good. elim (cases_eq k place) [
+        | inl at ↦ absurd (good_and_bad why (sym (get_or-set_at whys place k why Good at inside) ∙ good) bad)
+        | inr other ↦ so_far.gave k (omega arith) (sym (get_or-set_other whys place k why Good other) ∙ good)
       ];
       others = λ k d past. others k d (omega arith) ∙ so_far.others k d (omega arith);
     }
@@ -257,8 +273,28 @@ found_sifted {D = D} tells files count set part i place size from found next why
             (tells (slice_index_or old k x)) (files (slice_index_or old k x)) (count (slice_index_or old k x)) (count (slice_index_or new k x))
             stored block within (gives x) told.3) d
       ];
+      gave = λ k low good.
+          let was : slice_index_or whys k Good ≡ Good = elim (sifted.causes k) [
+            | inl same ↦ sym same ∙ good
+            | inr told ↦ absurd (let wrong = sym told.4 ∙ good in cc)
+          ] in
+          let row = so_far.gave k low was in
+          subst (λ (drive : ℕ). IsRow next drive) row.2
+          (sifted.stays row.0 row.1 (ap (λ (drive : ℕ). slice_index_or whys_next drive Good) row.2 ∙ good));
       others = so_far.others;
     }
+
+-- a block that has its digest is verified
+verified_row : {D : Type 0} (tells : D → Bool) (files : D → Files) (count : D → ℕ) (set : SetPlan) (part : ManifestPart) (i place : ℕ)
+    (found : Blocks) (whys : List Why) (old new : List D) → AreFound tells files count set part i place found whys old new
+    → (j : ℕ) → j < length found.rows.items → (d : D) → stored_at found j ≡ sha256 (block_at (size_of set part i) found j)
+    → IsVerified (data_drives set.drives set.parity) part i (slice_index_or part.roots (row_at found j) [])
+    (tells (slice_index_or old (row_at found j) d)) (files (slice_index_or old (row_at found j) d)) (block_at (size_of set part i) found j)
+verified_row tells files count set part i place found whys old new are j low d same = record {
+  digest = stored_at found j;
+  fetched = are.each j low d;
+  same = same;
+}
 
 -- as many verified blocks as a stripe has data blocks
 pub found_enough : {D : Type 0} (tells : D → Bool) (files : D → Files) (count : D → ℕ) (set : SetPlan) (part : ManifestPart) (i place size : ℕ)
@@ -273,11 +309,8 @@ found_enough tells files count set part i place size found next whys whys_next o
       below = All-weaker (λ row. row < place) (λ row. row < set.drives) (λ row low. omega arith) next.rows.items after.below;
       distinct = after.at_hand.distinct;
       size = after.at_hand.long;
-      each = λ j d low. record {
-        digest = stored_at next j;
-        fetched = after.each j low d;
-        same = subst (λ (n : ℕ). stored_at next j ≡ sha256 (block_at n next j)) is (sifted.verified j (omega arith) low);
-      };
+      each = λ j d low. verified_row tells files count set part i place next whys_next old new after j low d
+          (subst (λ (n : ℕ). stored_at next j ≡ sha256 (block_at n next j)) is (sifted.verified j (omega arith) low));
     }
 
 -- fewer, of all drives
@@ -293,4 +326,14 @@ found_few tells files count set part i place size found next whys whys_next old 
       counted = after.counted;
       few = omega (arith, few, all, after.sum);
       each = λ k d low. after.none k (omega (arith, low, all)) d;
+      stripe = i;
+      within = within;
+      gave = λ k d low good.
+          let row = after.gave k (omega (arith, low, all)) good in (
+            block_at (size_of set part i) next row.0,
+            subst (λ (drive : ℕ). IsVerified (data_drives set.drives set.parity) part i (slice_index_or part.roots drive [])
+                (tells (slice_index_or old drive d)) (files (slice_index_or old drive d)) (block_at (size_of set part i) next row.0)) row.2
+                (verified_row tells files count set part i place next whys_next old new after row.0 row.1 d
+                (subst (λ (n : ℕ). stored_at next row.0 ≡ sha256 (block_at n next row.0)) is (sifted.verified row.0 (omega arith) row.1))),
+          );
     }

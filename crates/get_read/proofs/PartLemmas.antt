@@ -16,7 +16,7 @@ use Rattle.shard_file.specs.Stripes.{piece, stripe_size, stripe_count}
 use Rattle.body_print.specs.Clashes.{IsShown, WasRead}
 use Rattle.body_print.specs.Names.{shard_name}
 use Rattle.body_print.specs.Shards.{HasRoots}
-use Rattle.get_read.specs.Blocks.{AreFew}
+use Rattle.get_read.specs.Blocks.{AreFew, IsVerified, ShowsBlock, ShowsTable}
 use Rattle.get_read.specs.Causes.{NoBlock}
 use Rattle.get_read.specs.Keeping.{AreKept}
 use Rattle.get_read.specs.Parts.{AddsPart, AddsStripe, PartClash}
@@ -72,6 +72,28 @@ module _ {D : Type 0} (tells : D → Bool) (files : D → Files) (count : D → 
     is = clash.is;
   }
 
+  -- a verified block of a drive that was kept is one of what it was
+  verified_before : (d : ℕ) (part : ManifestPart) (i : ℕ) (root : List ℕ) (tells tells_mid : Bool) (files files_mid : Files) (block : List ℕ)
+      → tells_mid ≡ tells → (IsTrue tells → files_mid ≡ files)
+      → IsVerified d part i root tells_mid files_mid block → IsVerified d part i root tells files block
+  verified_before d part i root tells tells_mid files files_mid block same kept is =
+      let fetched = is.fetched in
+      let table = fetched.is_table in record {
+        digest = is.digest;
+        fetched = record {
+          table = fetched.table;
+          is_table = record {
+            size = table.size;
+            digest = table.digest;
+            shown = λ told. subst (λ (f : Files). ShowsTable d part.length f (shard_name part.id) fetched.table) (kept told) (table.shown (subst IsTrue (sym same) told));
+          };
+          size = fetched.size;
+          stored = fetched.stored;
+          shown = λ told. subst (λ (f : Files). ShowsBlock d part.length i f (shard_name part.id) block) (kept told) (fetched.shown (subst IsTrue (sym same) told));
+        };
+        same = is.same;
+      }
+
   pub few_before : (set : SetPlan) (part : ManifestPart) (fault : ReadFaultKind) (old mid new : List D) → length old ≡ set.drives
       → AreKept tells files count set.out old mid → AreFew tells files count set part fault mid new → AreFew tells files count set part fault old new
   few_before set part (InvalidRange end) old mid new all kept few = few
@@ -86,6 +108,16 @@ module _ {D : Type 0} (tells : D → Bool) (files : D → Files) (count : D → 
         (files (slice_index_or mid k default)) (count (slice_index_or old k default)) (count (slice_index_or mid k default))
         (count (slice_index_or new k default)) (kept.same k default below) (kept.held k default below) (kept.faults k default below)
         (few.each k default low);
+    stripe = few.stripe;
+    within = few.within;
+    gave = λ k default low good.
+        let below : k < length old = omega (arith, low, all) in
+        let it = few.gave k default low good in (
+          it.0,
+          verified_before (data_drives set.drives set.parity) part few.stripe (slice_index_or part.roots k [])
+              (tells (slice_index_or old k default)) (tells (slice_index_or mid k default)) (files (slice_index_or old k default))
+              (files (slice_index_or mid k default)) it.0 (kept.same k default below) (kept.held k default below) it.1,
+        );
   }
 
   pub refused_before : {T : Type 0} (set : SetPlan) (part : ManifestPart) (result : Result T ReadFaultKind) (old mid new : List D)

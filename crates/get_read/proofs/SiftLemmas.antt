@@ -1,5 +1,5 @@
 -- Blocks at hand that are compared with their digests, from the last to the first.
-use Rattle.std.proofs.Common.{◌≡◌, ◌≢◌, ℕ, ◌+◌, ◌*◌, ◌<◌, ◌≤◌, ◌∙◌, List, [], length, slice_index, slice_index_or, slice_set, map, subst, sym, ap, refl, get_or-set_other, inl, inr, arith}
+use Rattle.std.proofs.Common.{◌≡◌, ◌≢◌, ℕ, ◌+◌, ◌-◌, ◌*◌, ◌<◌, ◌≤◌, ◌∙◌, List, [], length, slice_index, slice_index_or, slice_set, map, subst, sym, ap, refl, get_or-set_other, inl, inr, arith}
 use Rattle.std.specs.Prelude.{All, Bool, cond, false}
 use Rattle.std.specs.List.{remove, remove_range}
 use Rattle.std.proofs.Math.ListN.{length-set}
@@ -18,7 +18,7 @@ use Rattle.poly_code.specs.Codeword.{AreDistinct}
 use Rattle.shard_file.proofs.Pieces.{get_or-pieces, length-pieces}
 use Rattle.shard_file.specs.Stripes.{piece, pieces}
 use Rattle.get_read.specs.declared.blocks.Blocks.{Blocks}
-use Rattle.get_read.specs.Sifting.{AreAtHand, AreSifted, IsRowOf, TellsDigest, block_at, row_at, stored_at}
+use Rattle.get_read.specs.Sifting.{AreAtHand, AreSifted, IsRow, IsRowOf, TellsDigest, block_at, row_at, stored_at}
 use Rattle.get_read.proofs.PieceLemmas.{piece_after, piece_before, removed_long}
 
 -- the digest of a row's block among those of all
@@ -48,6 +48,7 @@ sifted_none size blocks whys at_hand = record {
   rows = λ j low. (j, low, (λ before. refl), refl, refl, refl);
   verified = λ j from low. absurd (omega arith);
   causes = λ drive. inl refl;
+  stays = λ k low good. (k, low, refl);
 }
 
 -- the digest of a block that isn't compared yet
@@ -78,6 +79,7 @@ sifted_kept size place old new whys whys_new so_far same = record {
     | inr other ↦ so_far.verified j (omega (arith, from, other)) low
   ];
   causes = so_far.causes;
+  stays = so_far.stays;
 }
 
 -- rows without the one at a place are the others
@@ -136,6 +138,27 @@ removed_below rows next place most most_next low is same below j d lower =
       | inr past ↦
           let at : slice_index_or next j d ≡ slice_index_or rows (j + 1) d = ap (λ (r : List ℕ). slice_index_or r j d) is ∙ get_or-remove_above rows place d j past low in
           omega (arith, at, below (j + 1) d (omega (arith, lower, shorter)), same)
+    ]
+
+-- a row that isn't the one at the place is left
+left_row : (new next : Blocks) (place drive : ℕ) → place < length new.rows.items → next.rows.items ≡ remove new.rows.items place
+    → drive ≢ row_at new place → IsRow new drive → IsRow next drive
+left_row new next place drive low rows_are other (j, inside, at) =
+    let shorter : length next.rows.items + 1 ≡ length new.rows.items = ap (λ (r : List ℕ). length r + 1) rows_are ∙ length-remove new.rows.items place low in
+    let apart : j ≢ place = λ same. other (sym at ∙ ap (row_at new) same) in
+    elim (cases_lt j place) [
+      | inl before ↦ (
+        j,
+        omega (arith, before, low, shorter),
+        ap (λ (r : List ℕ). slice_index r j) rows_are ∙ get_or-remove_below new.rows.items place 0 j before low ∙ at,
+      )
+      | inr past ↦
+          let back : j - 1 + 1 ≡ j = omega (arith, past, apart) in (
+            j - 1,
+            omega (arith, inside, shorter, back),
+            ap (λ (r : List ℕ). slice_index r (j - 1)) rows_are
+                ∙ get_or-remove_above new.rows.items place 0 (j - 1) (omega (arith, past, apart, back)) low ∙ ap (row_at new) back ∙ at,
+          )
     ]
 
 -- the block at the place before is taken out
@@ -221,4 +244,16 @@ sifted_out size place old new next whys whys_new whys_next computed so_far diffe
               | inr told ↦ inr (subst (λ (w : Why). TellsDigest size old drive w) (sym same) told)
             ]
       ];
+      stays = λ k inside_old good.
+          let drive = row_at old k in
+          elim (cases_eq drive row) [
+            | inl at ↦
+                let set_so : slice_index_or whys_next drive Good ≡ why =
+                ap (λ (w : List Why). slice_index_or w drive Good) whys_are ∙ get_or-set_at whys_new row drive why Good at inside in
+                absurd (let wrong : why ≡ Good = sym set_so ∙ good in cc)
+            | inr other ↦
+                let same : slice_index_or whys_next drive Good ≡ slice_index_or whys_new drive Good =
+                ap (λ (w : List Why). slice_index_or w drive Good) whys_are ∙ get_or-set_other whys_new row drive why Good other in
+                left_row new next place drive low rows_are other (so_far.stays k inside_old (sym same ∙ good))
+          ];
     }

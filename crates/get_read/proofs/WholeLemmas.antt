@@ -210,9 +210,7 @@ module _ {D : Type 0} (tells : D → Bool) (files : D → Files) (count : D → 
     serves = serves;
     part = some.0;
     among = some.1;
-    counted = some.2.counted;
-    few = some.2.few;
-    each = some.2.each;
+    lacking = some.2;
   })
 
   pub refused_whole : {T : Type 0} (set : SetPlan) (print : List ℕ) (id : VersionId) (long : ℕ) (m : Manifest) (result : Result T ReadFaultKind) (old new : List D)

@@ -21,6 +21,10 @@ stored_at blocks j = slice_index_or blocks.stored.items j []
 abbrev pub block_at : ℕ → Blocks → ℕ → List ℕ
 block_at size blocks j = piece size blocks.bytes.items j
 
+-- a drive gave one of the blocks
+abbrev pub IsRow : Blocks → ℕ → Type 0
+IsRow blocks drive = (j : ℕ) × (j < length blocks.rows.items) × (row_at blocks j ≡ drive)
+
 -- blocks of one size, each with a digest, from drives that differ and whose `Why` is good
 pub record AreAtHand (size : ℕ) (blocks : Blocks) (whys : List Why) : Type 0 where
   pub hashes : length blocks.stored.items ≡ length blocks.rows.items
@@ -41,7 +45,7 @@ IsRowOf size place old new j = (k : ℕ) × (k < length old.rows.items) × (j < 
     × (stored_at new j ≡ stored_at old k) × (block_at size new j ≡ block_at size old k)
 
 -- of blocks at hand those from a place on were compared: the ones that hadn't their digest are gone, and the `Why` of
--- their drives tells it
+-- their drives tells it; where it is good, the block stays
 pub record AreSifted (size place : ℕ) (old new : Blocks) (whys whys_new : List Why) : Type 0 where
   pub counted : length whys_new ≡ length whys
   pub sum : good_count whys_new + length old.rows.items ≡ good_count whys + length new.rows.items
@@ -52,3 +56,4 @@ pub record AreSifted (size place : ℕ) (old new : Blocks) (whys whys_new : List
   pub verified : (j : ℕ) → place ≤ j → j < length new.rows.items → stored_at new j ≡ sha256 (block_at size new j)
   pub causes : (drive : ℕ) → (slice_index_or whys_new drive Good ≡ slice_index_or whys drive Good)
       ⊎ TellsDigest size old drive (slice_index_or whys_new drive Good)
+  pub stays : (k : ℕ) → k < length old.rows.items → slice_index_or whys_new (row_at old k) Good ≡ Good → IsRow new (row_at old k)

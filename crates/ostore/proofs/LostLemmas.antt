@@ -218,8 +218,8 @@ module _ {D : Type 0} (tells : D → Bool) (files : D → Files) (count : D → 
       let shown = λ (d : D). found d (held.told at d at_low) in
       let one = λ (d : D). only_manifest bodies at id held.body (files (slice_index_or old at d)).kept few.manifest few.canonical small held.brought (held.only at d at_low)
       (ap (λ (f : Named (List ℕ)). f (manifest_name id)) (sym (held.shows at d at_low)) ∙ shown d) in
-      let counted : length whys ≡ 4 = few.counted in
-      let fewer : good_count whys < 2 = few.few in
+      let counted : length whys ≡ 4 = few.lacking.counted in
+      let fewer : good_count whys < 2 = few.lacking.few in
       let (k, low, other, bad) = another_fails is_good whys Good h.lost (omega arith) in
       let lt : k < length old = (let four : length old ≡ 4 = held.four in omega arith) in
       (k, lt, λ d. of_part d (one d) k lt other bad)
@@ -243,7 +243,7 @@ module _ {D : Type 0} (tells : D → Bool) (files : D → Files) (count : D → 
           subst (λ (p : ManifestPart). (files (slice_index_or old k d)).shown (shard_name p.id) ≡ Some (shard_bytes blocks)) (sym part)
           (ap (λ (f : Named (List ℕ)). f (shard_name id)) (held.shows k d lt) ∙ (h.holds k d lt other).shard) in
           no_block_rose few.part (slice_index_or few.part.roots k []) (slice_index_or whys k Good) (IsBitSet 0 k) (tells (slice_index_or old k d)) (files (slice_index_or old k d))
-          (count (slice_index_or old k d)) (count (slice_index_or new k d)) blocks (none_out k) (held.told k d lt) bad are root there (few.each k d low)
+          (count (slice_index_or old k d)) (count (slice_index_or new k d)) blocks (none_out k) (held.told k d lt) bad are root there (few.lacking.each k d low)
 
   -- data that is held was not read: some drive's count rose
   pub data_cause : (id : VersionId) (print : List ℕ) (size : ℕ) (bodies : Named (List ℕ)) (old new : List D) → IsHeldWell id print size bodies old
