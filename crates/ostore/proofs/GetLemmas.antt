@@ -79,6 +79,7 @@ module _ {D : Type 0} (clock : Option ℕ) (mode : Mode) (tell : D → Bool) (fi
         asks = asks;
         fits = refl;
         shows = λ all. shows_only clock mode tell files count number (number + number) objects old (opens.ready all);
+        clears = λ all. tt;
         serves = λ all. (
           inr (record {
             why = nothing.why;
@@ -107,6 +108,7 @@ module _ {D : Type 0} (clock : Option ℕ) (mode : Mode) (tell : D → Bool) (fi
         asks = asks;
         fits = one.gives.read;
         shows = λ all. shows_only clock mode tell files count number (number + number) objects old (opens.ready all);
+        clears = λ all. tt;
         serves = λ all.
             let r = opens.ready all in
             let there = subst (λ (s : KeyState). slice_get s.versions one.place ≡ Some one.version) (same all) one.there in (
@@ -197,6 +199,7 @@ module _ {D : Type 0} (clock : Option ℕ) (mode : Mode) (tell : D → Bool) (fi
         asks = asks;
         fits = tt;
         shows = λ all. shows_only clock mode tell files count number (number + number) objects old (opens.ready all);
+        clears = λ all. tt;
         serves = λ all. refl;
         cause = elim (unread (first_of old (some_of number objects old new drawn opens))) [
           | inl key_cause ↦ keys_cause clock mode tell files count number (number + number) objects key old new opens.same opens.ready key_cause

@@ -1,6 +1,7 @@
 pub mod BlankLines
 pub mod BodyLemmas
 pub mod ChangeLemmas
+pub mod ClearLemmas
 pub mod CommitLemmas
 pub mod ConnectionLemmas
 pub mod CountLemmas

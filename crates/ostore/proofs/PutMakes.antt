@@ -17,6 +17,7 @@ use Rattle.ostore.specs.Session.{Gives, Agrees, wires, TurnOver}
 use Rattle.ostore.specs.Slots.{slot_of, Drawn, with_drawn}
 use Rattle.ostore.specs.Store.{Ready, IsSound}
 use Rattle.ostore.proofs.ChangeLemmas.{is_next, drawn_of, step_of, made_ready, refused_ready, agrees_drawn, room_drawn}
+use Rattle.ostore.proofs.ClearLemmas.{clears_made, state_here}
 use Rattle.ostore.proofs.MakingLemmas.{cause_later}
 use Rattle.ostore.proofs.PutLemmas.{Staged, putting, staged_ready, all_mid, some_mid, same_mid, put_shown, put_starves, put_looks, put_nothing, twice_drawn, numbers_twice, change_twice, put_steps}
 use Rattle.ostore.proofs.StandsLemmas.{all_or_not, shows_only}
@@ -80,6 +81,7 @@ module _ {D : Type 0} (clock : Option ℕ) (mode : Mode) (tell : D → Bool) (fi
         asks = asks;
         fits = tt;
         shows = λ all. shows_only clock mode tell files count number (number + number) objects old (st.begins.ready all);
+        clears = λ all. tt;
         serves = λ all.
             let same = put_shown clock mode tell files count number key body objects id now old mid new before staged st vain.text vain.gone (Some vain.file) p all in
             record {
@@ -136,7 +138,11 @@ module _ {D : Type 0} (clock : Option ℕ) (mode : Mode) (tell : D → Bool) (fi
       (put_sound number key body objects id now old mid new before staged st all p.changes.reply p.changes.new step) (put_datas number key body objects id now old mid new before staged st all p.changes.reply p.changes.new step) makes.writes in
       subst (λ o. Ready files (number + 1) (number + number + 2) o new) (change_twice (with_body objects id body) key p.changes.new)
       (subst (λ n. Ready files (number + 1) n (with_change (with_numbers (with_body objects id body) key 1) key p.changes.new 1) new) (let e : number + number + 1 + 1 ≡ number + number + 2 = omega arith in e) ready))
-      (put_steps clock mode tell files count number key body objects (with_change (with_body objects id body) key p.changes.new 2) id now old mid new before staged bytes makes.text makes.gone (Some makes.file) st asks p (λ same. inl (p.changes.has_file.0, refl)))
+      (put_steps clock mode tell files count number key body objects (with_change (with_body objects id body) key p.changes.new 2) id now old mid new before staged bytes makes.text makes.gone (Some makes.file) st asks p (λ same. inl (p.changes.has_file.0, refl))
+      (λ all. clears_made clock mode tell files count key objects (with_change (with_body objects id body) key p.changes.new 2) p.state p.changes.new (loose_name_of number) (name_of key) makes.file makes.gone old mid new
+      st.length_mid st.counts_mid (all_mid clock mode tell files count number key body objects id now old mid new before staged st all)
+      (put_shown clock mode tell files count number key body objects id now old mid new before staged st makes.text makes.gone (Some makes.file) p all)
+      (state_here objects.states key p.changes.new) p.changes.has_file.4 makes.writes))
       (subst (λ t. Gives t turn given later faults more) p.changes.texts makes.gives)
 
   pub put_turn : (number : ℕ) (key body : List ℕ) (objects : Objects) (id : VersionId) (now : ℕ) (old mid new : List D) (turn : Turn)

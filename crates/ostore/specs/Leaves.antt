@@ -1,5 +1,5 @@
 -- What making a change of a key leaves of the drives, the counters and the sink.
-use Rattle.std.specs.Prelude.{◌≡◌, ◌⊎◌, ◌+◌, ℕ, Bool, IsTrue, List, length, slice_index_or, Option, Some, None}
+use Rattle.std.specs.Prelude.{◌≡◌, ◌⊎◌, ◌+◌, ◌≤◌, ℕ, Bool, IsTrue, List, length, slice_index_or, Option, Some, None}
 use Rattle.std.specs.List.{flat_map}
 use Rattle.stamp_id.specs.VersionId.{id_bytes}
 use Rattle.stamp_id.specs.declared.version.VersionId.{VersionId}
@@ -61,6 +61,7 @@ module _ {D : Type 0} (tell : D → Bool) (files : D → Files) (count : D → �
     pub same : length mid ≡ length old
     pub later : length new ≡ length mid
     pub tells : AtEach (λ a b. tell b ≡ tell a) old mid
+    pub counts : AtEach (λ a b. count a ≤ count b) old mid
     pub writes : AtEach (λ a b. IsTrue (tell a) → (files a).loose loose ≡ None → IsInPlace loose name file (files a) (files b)) old mid
     pub removes : (ids : List VersionId) → gone ≡ flat_map id_bytes ids → AtEach (λ a b. IsTrue (tell a) → OnlyRemoves (data_names ids) (files a) (files b)) mid new
     pub removed : (ids : List VersionId) → gone ≡ flat_map id_bytes ids → AtEach (λ a b. IsTrue (tell a) → HasRemoved (data_names ids) (files b) (count a) (count b)) mid new

@@ -21,7 +21,7 @@ use Rattle.call_types.specs.declared.reply.Reply.TheVariants.{Found}
 use Rattle.ostore.specs.Objects.{Request, Answer, put, get, delete, replied, unavailable, Asks, answer_text, Objects, Serves}
 use Rattle.ostore.specs.Drives.{AllTell, NoneFell, DrivesCause, DriveView, views_of}
 use Rattle.ostore.specs.Slots.{Drawn}
-use Rattle.ostore.specs.Store.{Keeps, Ready}
+use Rattle.ostore.specs.Store.{IsCleared, Keeps, NamesData, Ready}
 
 -- a request with its bytes as they came, and its answer
 pub record Exchange : Type 0 where
@@ -49,6 +49,19 @@ HasCause tells (delete key pick) (replied reply told) old new = ⊤
 HasCause tells (put key body) unavailable old new = DrivesCause tells old new
 HasCause tells (get key pick) unavailable old new = DrivesCause tells old new
 HasCause tells (delete key pick) unavailable old new = DrivesCause tells old new
+
+-- each drive shows neither file of data that a version of the key had and none has any more, or its count rose
+abbrev pub ClearsKey : List ℕ → Moment → Moment → Type 0
+ClearsKey key old new = (id : VersionId) → NamesData (old.objects.states key) id → (NamesData (new.objects.states key) id → ⊥)
+    → (k : ℕ) (d : DriveView) → k < length new.drives
+    → IsCleared id (slice_index_or new.drives k d).files (slice_index_or old.counts k 0) (slice_index_or new.counts k 0)
+
+-- after a change that was answered, the data that it took out is removed
+abbrev pub HasCleared : Request → Answer → Moment → Moment → Type 0
+HasCleared (put key body) (replied reply told) old new = ClearsKey key old new
+HasCleared (get key pick) (replied reply told) old new = ⊤
+HasCleared (delete key pick) (replied reply told) old new = ClearsKey key old new
+HasCleared request unavailable old new = ⊤
 
 -- bytes are each body of this length with this print, or what the drives show and what is hashed for that body are two
 -- byte strings with one SHA-256
@@ -84,6 +97,7 @@ pub record Step (clock : Option ℕ) (mode : Mode) (tells : List Bool) (old : Mo
   pub fits : Fits old.drives exchange.request exchange.answer
   pub shows : AllTell tells → ShowOnly old.objects old.drives
   pub serves : AllTell tells → Serves clock mode old.drives old.objects exchange.request exchange.answer new.objects
+  pub clears : AllTell tells → HasCleared exchange.request exchange.answer old new
   pub cause : HasCause tells exchange.request exchange.answer old.counts new.counts
   pub counts : NoneFell old.counts new.counts
 

@@ -1,5 +1,5 @@
 -- What the drives keep of the objects.
-use Rattle.std.specs.Prelude.{◌≡◌, ◌⊎◌, ◌<◌, ◌≤◌, ℕ, false, List, [], length, slice_index_or, bytes_eq, Some, None, ⊤}
+use Rattle.std.specs.Prelude.{◌≡◌, ◌⊎◌, ◌<◌, ◌≤◌, ℕ, false, IsTrue, List, [], length, slice_index_or, bytes_eq, Some, None, ⊤}
 use Rattle.std.specs.List.{AllByRecursion, list_any}
 use Rattle.stamp_id.specs.declared.version.VersionId.{VersionId}
 use Rattle.call_types.specs.declared.names.VersionName.{VersionName}
@@ -11,8 +11,9 @@ use Rattle.drive_base.specs.Faults.{Rose}
 use Rattle.drive_base.specs.Files.{Files, Named}
 use Rattle.version_list.specs.declared.state.KeyState.{KeyState}
 use Rattle.version_list.specs.State.{IsCanonical}
+use Rattle.version_list.specs.Gone.{has_data}
 use Rattle.ostore.specs.Drives.{name_of, loose_name_of}
-use Rattle.body_print.specs.Names.{shard_name, loose_shard_name, loose_manifest_name}
+use Rattle.body_print.specs.Names.{shard_name, manifest_name, loose_shard_name, loose_manifest_name}
 use Rattle.ostore.specs.Holders.{IsPrintOf, HasOnly, IsHeld}
 use Rattle.ostore.specs.KeyFiles.{StandsFor}
 use Rattle.ostore.specs.Objects.{Objects}
@@ -87,6 +88,19 @@ pub record OnlyRemoves (names : List (List ℕ)) (old new : Files) : Type 0 wher
 -- after these names were removed a drive shows none of them, or its count of faults rose
 abbrev pub HasRemoved : List (List ℕ) → Files → ℕ → ℕ → Type 0
 HasRemoved names files old new = Rose old new ⊎ AllByRecursion (λ name. files.shown name ≡ None) names
+
+-- a version of the state has this data
+abbrev pub NamesData : KeyState → VersionId → Type 0
+NamesData state id = IsTrue (list_any (has_data id) state.versions)
+
+-- neither file of an id's data is shown
+pub record IsUnshown (id : VersionId) (files : Files) : Type 0 where
+  pub shard : files.shown (shard_name id) ≡ None
+  pub manifest : files.shown (manifest_name id) ≡ None
+
+-- a drive shows neither file of an id's data, or its count of faults rose
+abbrev pub IsCleared : VersionId → Files → ℕ → ℕ → Type 0
+IsCleared id files old new = Rose old new ⊎ IsUnshown id files
 
 module _ {D : Type 0} (files : D → Files) where
   -- drive 0 keeps each key's state, and as many drives as a write needs keep the files of each version's data
