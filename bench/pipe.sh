@@ -1,11 +1,14 @@
 #!/usr/bin/env bash
-# Sends 20,000 PUTs of 1 KiB and then as many GETs through one `pipe` process, and prints requests per second
-# and MB/s of bodies (MB = 10^6 bytes). With two numbers: that many requests of each kind, of so many bytes.
+# Sends 20,000 PUTs of 1 KiB through one `pipe` process, and as many PUTs and then as many GETs through another, and
+# prints requests per second and MB/s of bodies (MB = 10^6 bytes). With two numbers: that many requests of each kind, of so many bytes.
 set -euo pipefail
 
 source "$(dirname "$(readlink -f "${BASH_SOURCE[0]}")")/common.sh"
 count="${1:-20000}"
 size="${2:-1024}"
+
+[[ "$count" =~ ^[1-9][0-9]{0,5}$ ]] || fail 2 "the number of requests is 1 to 999999"
+[[ "$size" =~ ^[1-9][0-9]{0,7}$ ]] || fail 2 "the size of a body is 1 to 16777216"
 
 requests() {
     awk -v count="$count" -v size="$size" -v kind="$1" 'BEGIN {

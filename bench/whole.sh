@@ -1,6 +1,7 @@
 #!/usr/bin/env bash
-# Sends 4 PUTs of 16 MiB, and then as many GETs, through one `pipe` process, and prints MB/s of bodies (MB = 10^6
-# bytes) by the processor time of the process, the best of three runs. Beside it stand the parts that can be measured
+# Sends 4 PUTs of 16 MiB through one `pipe` process, and as many PUTs and then as many GETs through another, and prints
+# MB/s of bodies (MB = 10^6 bytes) by the processor time of the process, the best of three runs; that of the GETs is
+# what the second took more than the first. Beside it stand the parts that can be measured
 # alone: SHA-256 of the blocks (twice the body in a PUT, once in a GET), MD5 of the body, and the code. Each is timed in
 # a small program, which is proved and built in a temporary repository with copies of the crates; the first time that
 # takes some minutes. With a number: so many PUTs and GETs.

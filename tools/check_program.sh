@@ -9,17 +9,26 @@ trap 'rm -rf "$work"' EXIT
 passed=0
 failed=0
 
+# fails TEXT: counts a case that failed, and says why
+fails() {
+    failed=$((failed + 1))
+    echo "check_program: $1" >&2
+}
+
 # check NAME STATUS REPLIES ERRORS WORD..: standard input is the request
 check() {
     local name="$1" status="$2" replies="$3" errors="$4" got
     shift 4
     (cd / && "$top/ostore" "$@") >"$work/replies" 2>"$work/errors"
     got=$?
-    if [[ $got == "$status" ]] && cmp -s "$work/replies" <(printf '%b' "$replies") && cmp -s "$work/errors" <(printf '%b' "$errors"); then
-        passed=$((passed + 1))
+    if [[ $got != "$status" ]]; then
+        fails "$name: status $got, wanted $status"
+    elif ! cmp -s "$work/replies" <(printf '%b' "$replies"); then
+        fails "$name: other replies"
+    elif ! cmp -s "$work/errors" <(printf '%b' "$errors"); then
+        fails "$name: other words on standard error"
     else
-        failed=$((failed + 1))
-        echo "check_program: $name: status $got, wanted $status" >&2
+        passed=$((passed + 1))
     fi
 }
 
@@ -37,7 +46,11 @@ put='PUT /pic/a HTTP/1.1\r\nContent-Length: 5\r\n\r\nhello'
 get='GET /pic/a HTTP/1.1\r\n\r\n'
 delete='DELETE /pic/a HTTP/1.1\r\n\r\n'
 
-"$top/ostore" pipe </dev/null || exit 1
+"$top/ostore" pipe </dev/null || {
+    fails 'the program does not run'
+    echo "$passed passed, $failed failed"
+    exit 1
+}
 
 check 'a body is stored and found' 0 "$stored$found" '' pipe < <(printf '%b' "$put$get")
 check 'a bucket without versioning' 0 "$stored$found" '' pipe off < <(printf '%b' "$put$get")
@@ -56,8 +69,7 @@ check 'a head of no request' 9 "$refused" 'ostore: closed\n' pipe < <(printf 'HE
 if [[ $? == 5 && "$(cat "$work/errors")" == 'ostore: write fault' ]]; then
     passed=$((passed + 1))
 else
-    failed=$((failed + 1))
-    echo 'check_program: an output that is full' >&2
+    fails 'an output that is full'
 fi
 
 # The largest body that is taken comes back byte for byte, and a larger one closes the connection.
@@ -68,8 +80,7 @@ tail -c 16777216 "$work/replies" >"$work/back"
 if [[ $status == 0 ]] && cmp -s "$work/body" "$work/back"; then
     passed=$((passed + 1))
 else
-    failed=$((failed + 1))
-    echo "check_program: a body of 16 MiB: status $status" >&2
+    fails "a body of 16 MiB: status $status, or another body"
 fi
 check 'a body of a byte more' 9 "$refused" 'ostore: closed\n' pipe < <(printf 'PUT /pic/a HTTP/1.1\r\nContent-Length: 16777217\r\n\r\n')
 

@@ -1,7 +1,7 @@
 #!/usr/bin/env python3
 """Prints two register files, worked out from the table in docs/FORMATS.md alone, as arrays of Rust.
 
-They stand in crates/register_file/src/tests.rs. Run it again with `python3 tools/golden_register.py`.
+They stand in crates/register_file/src/tests.rt. Run it again with `python3 tools/golden_register.py`.
 """
 
 import hashlib

@@ -4,6 +4,7 @@ use Rattle.std.specs.List.{concat}
 use Rattle.sha2.specs.Sha256.{sha256}
 use Rattle.stamp_id.specs.declared.version.VersionId.{VersionId}
 use Rattle.drive_base.specs.Files.{Files}
+use Rattle.manifest_file.specs.Canonical.{IsCanonical}
 use Rattle.manifest_file.specs.Print.{text_under}
 use Rattle.manifest_file.specs.Spelling.{file_of}
 use Rattle.manifest_file.specs.declared.manifest.Manifest.{Manifest}
@@ -30,10 +31,11 @@ pub record IsHashed (n p : ℕ) (body print bytes : List ℕ) : Type 0 where
   pub hashed : print ≡ sha256 text
   pub is : (bytes ≡ text) ⊎ ((i : ℕ) × (i < length parts) × IsTableOrBlock n (n - p) (slice_index_or parts i []) bytes)
 
--- a file of a drive shows these bytes: a manifest of which they are the text under the print, or a piece of a shard file
+-- a file of a drive shows these bytes: a canonical manifest of which they are the text under the print, or a piece of a
+-- shard file
 abbrev pub IsShown : Files → List ℕ → Type 0
 IsShown files bytes =
-    ((id : VersionId) × (m : Manifest) × (files.shown (manifest_name id) ≡ Some (file_of m)) × (bytes ≡ text_under m))
+    ((id : VersionId) × (m : Manifest) × IsCanonical m × (files.shown (manifest_name id) ≡ Some (file_of m)) × (bytes ≡ text_under m))
     ⊎ ((id : VersionId) × (file : List ℕ) × (at : ℕ) × (files.shown (shard_name id) ≡ Some file)
     × (bytes ≡ take (length bytes) (drop at file)))
 

@@ -36,8 +36,7 @@ pub enum KeyRefusal {
     UploadLimit,
 }
 
-/// Why a call is refused. Each has its S3 error code; those of `BadHead`, `HeadTooLong`, `VersionLimit` and
-/// `UploadLimit` are this project's own.
+/// Why a call is refused, as plain data. The code and the text that a client gets are the reply's matter.
 #[derive(Clone, Debug, PartialEq, Eq, Drop)]
 pub enum Refusal {
     /// The request head is malformed.
@@ -131,10 +130,10 @@ pub enum Refusal {
     },
 }
 
-/// Why the content of a register is not read.
+/// Why the content of a key's state is not read.
 #[derive(Clone, Copy, Debug, PartialEq, Eq)]
 pub enum ListRead {
-    /// The content is spelled in a form that no writer gives, at this byte.
+    /// The content spells no state: the place of its first fault, from 0.
     NotCanonical(u64),
     /// There was not enough memory.
     NoMemory,

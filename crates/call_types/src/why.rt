@@ -34,9 +34,9 @@ pub enum Why {
     },
     /// Its file is damaged.
     Damaged(Damage),
-    /// Its file is older than the one of this ballot.
+    /// Its file is older than the one of this ballot. No call answers so yet.
     Behind(Ballot),
-    /// It has no file of this kind.
+    /// It has no file of this kind. A drive that is out lacks its format file.
     Lacks(FileKind),
 }
 

@@ -74,7 +74,8 @@ impl SetPlan {
     }
 }
 
-/// The parity of a set of so many drives, unless it is said otherwise: about a third of a small set, 4 of a larger one.
+/// The parity of a set of so many drives, unless it is said otherwise: 2 of 4 or 5 drives, 3 of 6 or 7, and 4 of
+/// more.
 pub fn usual_parity(drives: u8) -> u8
     requires { 4 ≤ drives }
     ensures parity { result ≡ usual_parity_of drives }

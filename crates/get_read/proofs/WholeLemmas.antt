@@ -178,7 +178,7 @@ module _ {D : Type 0} (tells : D → Bool) (files : D → Files) (count : D → 
           other = has.text;
           differ = differ;
           same = sym serves.print ∙ has.hashed;
-          was_read = (found.0, found.1, (λ default told. inl (id, m, found.2 default told, refl)));
+          was_read = (found.0, found.1, (λ default told. inl (id, m, canonical, found.2 default told, refl)));
           is_hashed = record {
             parts = has.parts;
             text = has.text;

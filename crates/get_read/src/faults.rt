@@ -9,7 +9,7 @@ use std::alloc::{AllocError, AllocFailed};
 /// Why a read was refused.
 #[derive(Clone, Copy, Debug, PartialEq, Eq)]
 pub enum ReadFaultKind {
-    /// The range has no byte of a body of this length.
+    /// The range has no byte of a body of this length. No call asks for a range yet.
     InvalidRange(u64),
     /// All drives were tried, and too few gave what was asked: why, for each drive.
     ShardQuorum(Whys),

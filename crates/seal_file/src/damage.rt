@@ -6,12 +6,13 @@ ghost use Rattle.seal_file.specs.declared.damage.FileRead.TheVariants.{NoMemory,
 use stamp_id::NoMemory;
 use std::alloc::{AllocError, AllocFailed};
 
-/// What is wrong with the bytes of a sealed file.
+/// What is wrong with the bytes of a file.
 #[derive(Clone, Copy, Debug, PartialEq, Eq)]
 pub enum Damage {
-    /// The file has so many bytes, fewer than the 36 of a kind and a digest.
+    /// The file has so many bytes, fewer than were needed: for a sealed file, than the 36 of a kind and a digest.
     Short(u64),
-    /// The last 32 bytes, `stored`, are not the SHA-256 of the bytes before them, `computed`.
+    /// The digest that was due, `stored`, isn't the SHA-256 of what was shown, `computed`. A sealed file stores it in its
+    /// last 32 bytes; that of a manifest's text is the print, and those of digest tables and blocks stand beside them.
     Digest {
         stored: [u8; 32],
         computed: [u8; 32],
@@ -28,7 +29,7 @@ pub enum Damage {
 pub enum FileRead {
     /// The file is damaged.
     Unsealed(Damage),
-    /// The body spells a record, but in a form that no writer gives: the byte where that form begins.
+    /// The body spells no record: the place of its first fault, from 0 at the body's first byte.
     NotCanonical(u64),
     /// There was not enough memory.
     NoMemory,

@@ -3,7 +3,7 @@
 //! The crate stands on `stamp_id`, `seal_file`, `call_types`, `field_reader` and `id_field`. Each canonical state has
 //! one spelling as bytes: `write` gives it, and `read` accepts spellings alone and answers the state that a content
 //! spells, or the place of its first fault. `find` says which version a read of the key gives, and `apply` makes the
-//! state that a change of it leaves: they are exactly the reads and the steps of the versioned object of Amazon S3,
+//! state that a change of it leaves: they are exactly `Reads` and `Step` of the specs, which follow the S3 API,
 //! and a step from a canonical state leaves a canonical state.
 #![tactic(auto)]
 
