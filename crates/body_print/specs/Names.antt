@@ -8,16 +8,18 @@ use Rattle.stamp_id.specs.declared.version.VersionId.{VersionId}
 abbrev pub digits_of : VersionId → List ℕ
 digits_of id = encode_lower (id_bytes id)
 
--- the name of the shard file, and of the manifest
+-- the name of the shard file
 abbrev pub shard_name : VersionId → List ℕ
 shard_name id = codes "s/" ++ digits_of id
 
+-- the name of the manifest
 abbrev pub manifest_name : VersionId → List ℕ
 manifest_name id = codes "m/" ++ digits_of id
 
--- the loose names under which they are written
+-- the loose name under which the shard file is written
 abbrev pub loose_shard_name : VersionId → List ℕ
 loose_shard_name id = codes "s" ++ digits_of id
 
+-- the loose name under which the manifest is written
 abbrev pub loose_manifest_name : VersionId → List ℕ
 loose_manifest_name id = codes "m" ++ digits_of id

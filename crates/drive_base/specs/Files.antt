@@ -12,6 +12,7 @@ pub record LooseFile : Type 0 where
 abbrev pub Named : Type 0 → Type 0
 Named T = List ℕ → Option T
 
+-- the files of a drive: what it keeps, what it shows, and what is being written
 pub record Files : Type 0 where
   -- the bytes that were last put in place under each name
   pub kept : Named (List ℕ)

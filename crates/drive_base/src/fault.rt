@@ -2,6 +2,7 @@
 
 use thiserror::Error;
 
+/// Why a call on a drive was refused.
 #[derive(Clone, Copy, Debug, PartialEq, Eq, Error)]
 pub enum DriveFault {
     /// No file is shown under the name, or no loose file is there under the loose name.

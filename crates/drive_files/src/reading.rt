@@ -9,7 +9,8 @@ use drive_base::{Drive, DriveFault};
 use seal_file::Damage;
 use std::alloc::Global;
 
-/// The length of a file, in bytes.
+/// The length of a file, in bytes. `Lacks(kind)` where no such file is shown; `Failed`, with the counts before and after,
+/// where the call failed.
 pub fn size_on<D: Drive>(drive: &mut D, kind: FileKind, name: &str) -> Result<u64, NotGiven>
     ensures size { IfOk result (λ n. IsTrue (D.tells drive.old) → HasLength (D.files drive.old) name.now n) }
     ensures calm { OnOk result (D.count drive.new ≡ D.count drive.old) }
@@ -29,7 +30,8 @@ pub fn size_on<D: Drive>(drive: &mut D, kind: FileKind, name: &str) -> Result<u6
     }
 }
 
-/// So many bytes of a file from a place on, without asking first how long the file is.
+/// `long` bytes of a file from the place `at` on, without asking first how long the file is. `Damaged(Short)` where it ends
+/// before, with the place where the read ended; else the causes of `size_on`.
 pub fn piece_on<D: Drive>(
     alloc: Global,
     drive: &mut D,
@@ -66,7 +68,7 @@ pub fn piece_on<D: Drive>(
     }
 }
 
-/// All bytes of a file.
+/// All bytes of a file. The causes are those of `size_on`.
 pub fn file_on<D: Drive>(
     alloc: Global,
     drive: &mut D,
@@ -84,7 +86,8 @@ pub fn file_on<D: Drive>(
     piece_on(alloc, drive, kind, name, 0, size)
 }
 
-/// So many bytes of a file from a place on.
+/// `long` bytes of a file from the place `at` on. `Damaged(Short)` with the file's length where it ends before; else the
+/// causes of `size_on`.
 pub fn bytes_at<D: Drive>(
     alloc: Global,
     drive: &mut D,

@@ -7,7 +7,8 @@ ghost use Rattle.drive_files.specs.Writing.{HasLoose, PlacedOrTouched, StepCause
 use call_types::{FileKind, Why};
 use drive_base::{Drive, DriveFault};
 
-/// Appends bytes under a loose name, and makes them last.
+/// Appends bytes under a loose name, and makes them last. `Failed`, with the counts before and after, where a call failed;
+/// `Lacks(kind)` where the loose file is gone when it is synced.
 pub fn write_loose<D: Drive>(
     drive: &mut D,
     kind: FileKind,
@@ -35,7 +36,8 @@ pub fn write_loose<D: Drive>(
     }
 }
 
-/// Puts a loose file in place.
+/// Puts a loose file in place. `Failed`, with the counts before and after, where the call failed; `Lacks(kind)` where the
+/// loose file is gone.
 pub fn place<D: Drive>(drive: &mut D, kind: FileKind, loose: &str, name: &str) -> Result<(), Why>
     requires { length name.now ≤ 1129 }
     ensures ok { OnOk result (IsTrue (D.tells drive.old) → Placed (D.files drive.old) loose.now name.now (D.files drive.new)) }

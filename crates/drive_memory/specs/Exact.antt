@@ -64,6 +64,7 @@ pub record FailedStarved (Left : Type 0) (old new : MemDrive) : Type 0 where
 abbrev pub FailsReading : MemDrive → MemDrive → Type 0
 FailsReading old new = FailedLost old new ⊎ (FailedSpent old new ⊎ FailedLate (files_of new ≡ files_of old) old new)
 
+-- a call that only reads, by its answer
 abbrev pub ReadsExactly : {T : Type 0} → MemDrive → Result T DriveFault → MemDrive → Type 0
 ReadsExactly old (Ok _) new = Answered old new
 ReadsExactly old (Err Absent) new = Answered old new

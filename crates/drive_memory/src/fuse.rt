@@ -8,7 +8,9 @@ ghost use Rattle.drive_memory.specs.Fuses.{is_spent, is_due, burned};
 /// Where it is `late`, the first failing call takes effect before it fails.
 #[derive(Clone, Copy, Debug, PartialEq, Eq, Drop)]
 pub struct Fuse {
+    /// How many calls still pass.
     pub calls: u64,
+    /// Whether the first failing call takes effect.
     pub late: bool,
 }
 

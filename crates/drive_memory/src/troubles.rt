@@ -19,7 +19,9 @@ pub struct Back;
 /// One shown byte is hurt, as by [`MemDrive::hurt`].
 #[derive(Debug, Drop)]
 pub struct Hurt {
+    /// The name of the file.
     pub name: String,
+    /// The place of the byte in it, from 0.
     pub place: u64,
 }
 

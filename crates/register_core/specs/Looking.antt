@@ -50,10 +50,11 @@ LaneIsRead name None why out tells files old new = NoRecord name why out tells f
 abbrev pub found_at : List (Option RegFile) → ℕ → Option RegFile
 found_at found k = slice_index_or found k None
 
--- a lane's file that was read has this base, or this next
+-- a lane's file that was read has this base
 abbrev pub FindsBase : List (Option RegFile) → ℕ → Base → Type 0
 FindsBase found k base = (file : RegFile) × (found_at found k ≡ Some file) × (file.base ≡ base)
 
+-- a lane's file that was read has this next
 abbrev pub FindsNext : List (Option RegFile) → ℕ → Next → Type 0
 FindsNext found k next = (file : RegFile) × (found_at found k ≡ Some file) × (file.next ≡ Some next)
 

@@ -15,10 +15,11 @@ low_word_of seq = 2 * 2 ^ 62 + seq
 abbrev pub bytes_of : ℕ → ℕ → ℕ → List ℕ
 bytes_of term slot seq = to_be_bytes w64 (high_word_of term slot) ++ to_be_bytes w64 (low_word_of seq)
 
--- the first eight bytes, and those after them, as numbers
+-- the first eight bytes as a number
 abbrev pub high_word : List ℕ → ℕ
 high_word bytes = from_be_bytes w64 (take 8 bytes)
 
+-- the bytes after the first eight as a number
 abbrev pub low_word : List ℕ → ℕ
 low_word bytes = from_be_bytes w64 (drop 8 bytes)
 

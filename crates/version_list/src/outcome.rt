@@ -48,7 +48,9 @@ impl From<AllocError> for ActFault {
 /// What a change leaves: the new state, none where it is the old one, and the data that is gone.
 #[derive(Drop)]
 pub struct Outcome {
+    /// The new state.
     pub state: Option<KeyState>,
+    /// The data ids that no version has any more, 16 bytes each.
     pub gone: Bytes,
 }
 

@@ -29,7 +29,11 @@ pub struct Call {
 }
 
 /// Does `act` to the state of a key in a bucket of this mode, in the Unix second `now`. `id` is the id that the call
-/// drew: a version or an upload that is made has it.
+/// drew: a version or an upload that is made has it. What is answered has no `state` where the act changes nothing.
+///
+/// Refused are, with `ActFault::Refused`: a Put, and a Delete that would put a marker in front, with `VersionLimit` where
+/// 10,000 versions stay; a Create with `UploadLimit` where 1,000 uploads are open; a Complete and an Abort with
+/// `NoSuchUpload` where no upload has that id, and a Complete with `VersionLimit` as a Put. The state is unchanged then.
 pub fn apply(
     alloc: Global,
     state: &KeyState,

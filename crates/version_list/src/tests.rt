@@ -4,7 +4,7 @@ use field_reader::{put_u8, put_u32, put_u64};
 use std::alloc::{AllocError, Global};
 use std::test::Fail;
 
-/// The name `null`, a marker of moment 7, and its place-by-place parts.
+/// The name `null`, in hex digits, and so the fields of a marker of moment 7 and of an object.
 const NULL: &str = "00000000000000000000000000000000";
 
 const MARKER: &str = "00";
