@@ -79,6 +79,7 @@ module _ {D : Type 0} (clock : Option ℕ) (mode : Mode) (tell : D → Bool) (fi
         asks = asks;
         fits = refl;
         shows = λ all. shows_only clock mode tell files count number (number + number) objects old (opens.ready all);
+        writes = λ all. tt;
         clears = λ all. tt;
         serves = λ all. (
           inr (record {
@@ -108,6 +109,7 @@ module _ {D : Type 0} (clock : Option ℕ) (mode : Mode) (tell : D → Bool) (fi
         asks = asks;
         fits = one.gives.read;
         shows = λ all. shows_only clock mode tell files count number (number + number) objects old (opens.ready all);
+        writes = λ all. tt;
         clears = λ all. tt;
         serves = λ all.
             let r = opens.ready all in
@@ -199,6 +201,7 @@ module _ {D : Type 0} (clock : Option ℕ) (mode : Mode) (tell : D → Bool) (fi
         asks = asks;
         fits = tt;
         shows = λ all. shows_only clock mode tell files count number (number + number) objects old (opens.ready all);
+        writes = λ all. tt;
         clears = λ all. tt;
         serves = λ all. refl;
         cause = elim (unread (first_of old (some_of number objects old new drawn opens))) [

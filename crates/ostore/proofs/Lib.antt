@@ -30,3 +30,4 @@ pub mod StoreLemmas
 pub mod TrashLemmas
 pub mod TurnLemmas
 pub mod WordLemmas
+pub mod WriteLemmas

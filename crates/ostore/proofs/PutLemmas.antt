@@ -20,7 +20,7 @@ use Rattle.ostore.specs.Holders.{IsPrintOf, Coding, shard_file, manifest_file, H
 use Rattle.ostore.specs.Leaves.{sides, Shows, FilesStay, Starves, LooksInVain, ChangesNothing}
 use Rattle.ostore.specs.Objects.{Objects, Answer, Asks, put, replied, unavailable, put_act, MayPut, with_numbers, with_change, with_body}
 use Rattle.ostore.specs.Replies.{unavailable_text}
-use Rattle.ostore.specs.Session.{ClearsKey, Exchange, Gives, wires, TurnOver, Step as ExchangeStep, moment}
+use Rattle.ostore.specs.Session.{ClearsKey, WritesKey, Exchange, Gives, wires, TurnOver, Step as ExchangeStep, moment}
 use Rattle.ostore.specs.Slots.{slot_of, Drawn, with_drawn}
 use Rattle.ostore.specs.Store.{HasNoLoose, Ready}
 use Rattle.ostore.proofs.ChangeLemmas.{Begins, is_next, agrees_none, step_of, agrees_drawn, room_drawn}
@@ -175,6 +175,7 @@ module _ {D : Type 0} (clock : Option ℕ) (mode : Mode) (tell : D → Bool) (fi
         asks = asks;
         fits = tt;
         shows = λ all. shows_only clock mode tell files count number (number + number) objects old (begins.ready all);
+        writes = λ all. tt;
         clears = λ all. tt;
         serves = may_put number key print body objects id now old new before begins printed;
         cause = cause_of_some clock mode tell files count old new begins.same cause;
@@ -209,6 +210,7 @@ module _ {D : Type 0} (clock : Option ℕ) (mode : Mode) (tell : D → Bool) (fi
         asks = asks;
         fits = tt;
         shows = λ all. shows_only clock mode tell files count number (number + number) objects old (st.begins.ready all);
+        writes = λ all. tt;
         clears = λ all. tt;
         serves = may_put number key st.print body objects id now old new before st.begins st.printed;
         cause = cause_then number key body objects id now old mid new before staged st (look_cause clock mode tell files count number (number + number + 1) (with_numbers (with_body objects id body) key 1) key id mid new (some_mid number key body objects id now old mid new before staged st) (same_mid number key body objects id now old mid new before staged st)
@@ -229,9 +231,10 @@ module _ {D : Type 0} (clock : Option ℕ) (mode : Mode) (tell : D → Bool) (fi
       → (p : IsPrepared mode (put_act id st.print body) id now (Shows tell files count mid (name_of key)) text file gone)
       → (p.state ≡ objects.states key
       → ((IsServed p.changes.reply) × (later ≡ with_change (with_body objects id body) key p.changes.new 2)) ⊎ ((p.changes.new ≡ objects.states key) × (later ≡ with_numbers (with_body objects id body) key 1)))
+      → (AllTell (map tell old) → WritesKey key (moment clock mode tell files count objects old) (moment clock mode tell files count later new))
       → (AllTell (map tell old) → ClearsKey key (moment clock mode tell files count objects old) (moment clock mode tell files count later new))
       → ExchangeStep clock mode (map tell old) (moment clock mode tell files count objects old) (putting key body bytes (replied p.changes.reply [])) (moment clock mode tell files count later new)
-  put_steps number key body objects later id now old mid new before staged bytes text gone file st asks p is clears = record {
+  put_steps number key body objects later id now old mid new before staged bytes text gone file st asks p is writes clears = record {
     asks = asks;
     fits = refl;
     shows = λ all. shows_only clock mode tell files count number (number + number) objects old (st.begins.ready all);
@@ -249,6 +252,7 @@ module _ {D : Type 0} (clock : Option ℕ) (mode : Mode) (tell : D → Bool) (fi
           },
           refl,
         );
+    writes = writes;
     clears = clears;
     cause = tt;
     counts = counts_each clock mode tell files count old new st.begins.same st.begins.counts;
@@ -265,5 +269,5 @@ module _ {D : Type 0} (clock : Option ℕ) (mode : Mode) (tell : D → Bool) (fi
       (agrees_none (with_numbers (with_body objects id body) key 1) staged after (agrees_drawn objects key 1 before staged st.begins.agrees st.draws) nothing.draws)
       (room_drawn clock mode tell files count number key objects id now old new before 1 (omega arith) st.begins) (staged_stays number key body objects id now old mid new before staged st nothing.stays)
       (put_steps number key body objects (with_numbers (with_body objects id body) key 1) id now old mid new before staged bytes nothing.text nothing.gone None st asks p (λ same. inr (p.changes.has_file ∙ same, refl))
-      (λ all data_id had lost. absurd (lost had)))
+      (λ all differs. absurd (differs refl)) (λ all data_id had lost. absurd (lost had)))
       (subst (λ t. Gives t turn given later faults more) p.changes.texts nothing.gives)

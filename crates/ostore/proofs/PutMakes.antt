@@ -25,6 +25,7 @@ use Rattle.ostore.proofs.StateLemmas.{step_keeps, step_uploads, sound_drawn_late
 use Rattle.ostore.proofs.TurnLemmas.{counts_each, cause_of_some, answered}
 use Rattle.ostore.proofs.DrawnLemmas.{grows_with_drawn, with_drawn_here, next_was_drawn}
 use Rattle.ostore.proofs.NameLemmas.{with_name-here}
+use Rattle.ostore.proofs.WriteLemmas.{writes_made}
 
 -- the number that was drawn after the id's
 agrees_two : (objects : Objects) (key : List ℕ) (before staged after : Drawn) → Agrees before objects
@@ -81,6 +82,7 @@ module _ {D : Type 0} (clock : Option ℕ) (mode : Mode) (tell : D → Bool) (fi
         asks = asks;
         fits = tt;
         shows = λ all. shows_only clock mode tell files count number (number + number) objects old (st.begins.ready all);
+        writes = λ all. tt;
         clears = λ all. tt;
         serves = λ all.
             let same = put_shown clock mode tell files count number key body objects id now old mid new before staged st vain.text vain.gone (Some vain.file) p all in
@@ -139,6 +141,9 @@ module _ {D : Type 0} (clock : Option ℕ) (mode : Mode) (tell : D → Bool) (fi
       subst (λ o. Ready files (number + 1) (number + number + 2) o new) (change_twice (with_body objects id body) key p.changes.new)
       (subst (λ n. Ready files (number + 1) n (with_change (with_numbers (with_body objects id body) key 1) key p.changes.new 1) new) (let e : number + number + 1 + 1 ≡ number + number + 2 = omega arith in e) ready))
       (put_steps clock mode tell files count number key body objects (with_change (with_body objects id body) key p.changes.new 2) id now old mid new before staged bytes makes.text makes.gone (Some makes.file) st asks p (λ same. inl (p.changes.has_file.0, refl))
+      (λ all. writes_made clock mode tell files count number (number + number + 1) key objects (with_numbers (with_body objects id body) key 1) (with_change (with_body objects id body) key p.changes.new 2) p.state p.changes.new makes.file makes.gone old mid new
+      st.begins.few (all_mid clock mode tell files count number key body objects id now old mid new before staged st all) (staged_ready clock mode tell files count number key body objects id now old mid new before staged st all)
+      (state_here objects.states key p.changes.new) p.changes.has_file.3 p.changes.has_file.4 makes.writes)
       (λ all. clears_made clock mode tell files count key objects (with_change (with_body objects id body) key p.changes.new 2) p.state p.changes.new (loose_name_of number) (name_of key) makes.file makes.gone old mid new
       st.length_mid st.counts_mid (all_mid clock mode tell files count number key body objects id now old mid new before staged st all)
       (put_shown clock mode tell files count number key body objects id now old mid new before staged st makes.text makes.gone (Some makes.file) p all)

@@ -264,7 +264,8 @@ module _ {D : Type 0} (files : D → Files) where
   pub ready_next : (number : ℕ) (objects : Objects) (drives : List D) → Ready files number (number + number) objects drives → Ready files (number + 1) (number + number + 2) objects drives
   ready_next number objects drives ready = ready_later number (number + 1) (number + number) (number + number + 2) objects drives (omega arith) (omega arith) ready
 
-  no_key : (names : List VersionId) (key : List ℕ) → IsNoneOf (data_names names) (name_of key)
+  -- the name of a key's file is none of data
+  pub no_key : (names : List VersionId) (key : List ℕ) → IsNoneOf (data_names names) (name_of key)
   no_key [] key = refl
   no_key (id ∷ ids) key = no_key ids key
 

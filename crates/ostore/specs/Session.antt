@@ -1,5 +1,5 @@
 -- A connection: the requests that were read, the replies that were given, and how it ended.
-use Rattle.std.specs.Prelude.{⊤, map, Bool, ◌≡◌, ◌⊎◌, ◌+◌, ◌<◌, ◌≤◌, ℕ, List, [], ◌∷◌, ◌++◌, length, take, Option, IfSome, slice_index_or}
+use Rattle.std.specs.Prelude.{⊤, map, Bool, ◌≡◌, ◌≢◌, ◌⊎◌, ◌+◌, ◌<◌, ◌≤◌, ℕ, List, [], ◌∷◌, ◌++◌, length, take, Option, IfSome, slice_index_or}
 use Rattle.std.specs.Io.KnownBytes.{prepend_known, append_known, IsAtEnd}
 use Rattle.drive_base.specs.Files.{Files}
 use Rattle.io_base.specs.Count.{CountRose}
@@ -19,7 +19,8 @@ use Rattle.call_types.specs.declared.version.What.TheVariants.{Marker, Object}
 use Rattle.call_types.specs.declared.reply.Reply.{Reply}
 use Rattle.call_types.specs.declared.reply.Reply.TheVariants.{Found}
 use Rattle.ostore.specs.Objects.{Request, Answer, put, get, delete, replied, unavailable, Asks, answer_text, Objects, Serves}
-use Rattle.ostore.specs.Drives.{AllTell, NoneFell, DrivesCause, DriveView, views_of}
+use Rattle.ostore.specs.Drives.{AllTell, NoneFell, DrivesCause, DriveView, views_of, name_of}
+use Rattle.ostore.specs.KeyFiles.{StandsFor}
 use Rattle.ostore.specs.Slots.{Drawn}
 use Rattle.ostore.specs.Store.{IsCleared, Keeps, NamesData, Ready}
 
@@ -63,6 +64,18 @@ HasCleared (get key pick) (replied reply told) old new = ⊤
 HasCleared (delete key pick) (replied reply told) old new = ClearsKey key old new
 HasCleared request unavailable old new = ⊤
 
+-- where the key has a new state, what each drive keeps under the key's name stands for it
+abbrev pub WritesKey : List ℕ → Moment → Moment → Type 0
+WritesKey key old new = new.objects.states key ≢ old.objects.states key → (k : ℕ) (d : DriveView) → k < length new.drives
+    → StandsFor ((slice_index_or new.drives k d).files.kept (name_of key)) (new.objects.states key)
+
+-- a change that was answered stands on every drive
+abbrev pub HasWritten : Request → Answer → Moment → Moment → Type 0
+HasWritten (put key body) (replied reply told) old new = WritesKey key old new
+HasWritten (get key pick) (replied reply told) old new = ⊤
+HasWritten (delete key pick) (replied reply told) old new = WritesKey key old new
+HasWritten request unavailable old new = ⊤
+
 -- bytes are each body of this length with this print, or what the drives show and what is hashed for that body are two
 -- byte strings with one SHA-256
 pub record IsRead (drives : List DriveView) (size : ℕ) (print bytes : List ℕ) : Type 0 where
@@ -97,6 +110,7 @@ pub record Step (clock : Option ℕ) (mode : Mode) (tells : List Bool) (old : Mo
   pub fits : Fits old.drives exchange.request exchange.answer
   pub shows : AllTell tells → ShowOnly old.objects old.drives
   pub serves : AllTell tells → Serves clock mode old.drives old.objects exchange.request exchange.answer new.objects
+  pub writes : AllTell tells → HasWritten exchange.request exchange.answer old new
   pub clears : AllTell tells → HasCleared exchange.request exchange.answer old new
   pub cause : HasCause tells exchange.request exchange.answer old.counts new.counts
   pub counts : NoneFell old.counts new.counts
