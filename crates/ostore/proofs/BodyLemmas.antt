@@ -13,10 +13,11 @@ use Rattle.ostore.specs.Drives.{AllTell}
 use Rattle.ostore.specs.Heads.{SpellsPut}
 use Rattle.ostore.specs.Objects.{Objects, put}
 use Rattle.ostore.specs.Reading.{ReadsPart}
-use Rattle.ostore.specs.Session.{Agrees, IsBegun, IsUnserved, EndsSo, Moved, Wires, wires, TurnOver}
+use Rattle.ostore.specs.Session.{Agrees, IsBegun, IsUnserved, EndsSo, Moved, Wires, wires, moment, TurnOver}
 use Rattle.ostore.specs.Slots.{Drawn}
 use Rattle.ostore.specs.Store.{Ready}
-use Rattle.ostore.proofs.SessionLemmas.{none_fell_same, nothing_given}
+use Rattle.ostore.proofs.SessionLemmas.{rests_same, nothing_given}
+use Rattle.ostore.proofs.StandsLemmas.{shows_only}
 use Rattle.ostore.proofs.StoreLemmas.{ready_next}
 use Rattle.ostore.proofs.TurnLemmas.{deeper, unanswered, room_kept}
 
@@ -40,10 +41,11 @@ module _ {D : Type 0} (clock : Option ℕ) (mode : Mode) (tell : D → Bool) (fi
       → Moved part [] before after → EndsSo mode end [] (front ++ part) [] before after
       → TurnOver clock mode tell files count number front objects drives before (Ended end) drives after drawn
   unread number front part objects drives before after end drawn ready agrees room moved ends =
-      unanswered clock mode tell files count number front part objects objects drives drives before after end drawn refl agrees
+      unanswered clock mode tell files count number front part objects objects drives drives before after end drawn agrees
       (room_kept number drawn objects agrees room)
       (λ all. ready_next files number objects drives (ready all))
-      (none_fell_same (map count drives)) moved ends
+      (rests_same (map tell drives) (front ++ part) (moment clock mode tell files count objects drives) end (λ all. shows_only clock mode tell files count number (number + number) objects drives (ready all)))
+      moved ends
 
   pub body_ended : (number : ℕ) (key : List ℕ) (n : ℕ) (head : List ℕ) (objects : Objects) (drives : List D) (left now given : Option (List ℕ)) (reads more writes : ℕ) (drawn : Drawn)
       → (AllTell (map tell drives) → Ready files number (number + number) objects drives) → Agrees drawn objects → ((slot : ℕ) → drawn slot ≤ number + number) → SpellsPut key n head → ReadsPart n left now × IsAtEnd now → reads ≤ more

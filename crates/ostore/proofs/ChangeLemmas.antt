@@ -19,6 +19,7 @@ use Rattle.ostore.specs.Session.{wires, Agrees, TurnOver}
 use Rattle.ostore.specs.Slots.{slot_of, Drawn, with_drawn, IsIdOf}
 use Rattle.ostore.specs.Store.{Ready, IsSound}
 use Rattle.ostore.proofs.GoneLemmas.{OnData, IsNotAmong, gone_names_not_new, gone_names_not_other}
+use Rattle.ostore.proofs.StandsLemmas.{shows_only}
 use Rattle.ostore.proofs.StateLemmas.{next_is_fresh-sound}
 use Rattle.ostore.proofs.StoreLemmas.{ready_same, ready_next, ready_written, ready_refused, ready_removed}
 use Rattle.ostore.proofs.TurnLemmas.{tells_each, counts_each, unanswered, room_kept}
@@ -135,9 +136,14 @@ module _ {D : Type 0} (clock : Option ℕ) (mode : Mode) (tell : D → Bool) (fi
   starved number key objects id now old new turn left given later reads faults more before after request bytes begins asks starves =
       let same_faults : more ≡ faults = starves.faults in
       subst (λ t. TurnOver clock mode tell files count number bytes objects old (wires left given reads faults) t new (wires left later reads more) after) (sym starves.ended)
-      (unanswered clock mode tell files count number bytes [] objects objects old new (wires left given reads faults) (wires left later reads more) NoMemory after refl
+      (unanswered clock mode tell files count number bytes [] objects objects old new (wires left given reads faults) (wires left later reads more) NoMemory after
       (agrees_none objects before after begins.agrees starves.draws) (room_now number key objects id now old new before begins)
-      (ready_stays number key objects id now old new before begins starves.stays) (counts_each clock mode tell files count old new begins.same begins.counts)
+      (ready_stays number key objects id now old new before begins starves.stays)
+      (record {
+        objects = inl refl;
+        shows = λ all. shows_only clock mode tell files count (number + 1) (number + number + 2) objects new (ready_stays number key objects id now old new before begins starves.stays all);
+        counts = counts_each clock mode tell files count old new begins.same begins.counts;
+      })
       (record { took = nothing_taken left; gave = starves.given ∙ nothing_given given; reads = omega arith; writes = omega arith })
       (inr (request, subst (Asks request) (sym (append-nil bytes)) asks), refl))
 

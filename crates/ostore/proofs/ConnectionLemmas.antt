@@ -15,10 +15,11 @@ use Rattle.ostore.specs.Replies.{bad_request}
 use Rattle.ostore.specs.Slots.{Drawn}
 use Rattle.ostore.specs.Store.{Keeps, Ready}
 use Rattle.ostore.specs.Drives.{AllTell}
-use Rattle.ostore.specs.Session.{Run, bytes_of, texts_of, Wires, wires, Moved, Refuses, Agrees, moment, TurnOver, Served, SoFar, EndsSo}
+use Rattle.ostore.specs.Session.{Rests, Run, bytes_of, texts_of, Wires, wires, Moved, Refuses, Agrees, moment, TurnOver, Served, SoFar, EndsSo}
 use Rattle.ostore.proofs.StoreLemmas.{ready_next}
 use Rattle.ostore.proofs.BodyLemmas.{unread}
-use Rattle.ostore.proofs.SessionLemmas.{none_fell_same, nothing_taken, nothing_given, moved_later, ends_later, ends_after, run_append, bytes_of-append, texts_of-append}
+use Rattle.ostore.proofs.StandsLemmas.{shows_only}
+use Rattle.ostore.proofs.SessionLemmas.{rests_same, nothing_taken, nothing_given, moved_later, ends_later, ends_after, run_append, bytes_of-append, texts_of-append}
 use Rattle.ostore.proofs.TurnLemmas.{deeper, room_kept}
 
 -- what is ready for the next request keeps the objects
@@ -43,7 +44,7 @@ module _ {D : Type 0} (clock : Option ℕ) (mode : Mode) (tell : D → Bool) (fi
       out = out;
       stop = moment clock mode tell files count objects drives;
       run = refl;
-      rests = record { states = refl; counts = none_fell_same (map count drives) };
+      rests = rests_same (map tell drives) head (moment clock mode tell files count objects drives) end (λ all. shows_only clock mode tell files count number (number + number) objects drives (ready all));
       is = sym (append-nil head);
       moved = record { took = nothing_taken left; gave = gave; reads = omega arith; writes = low };
       ends = ends;
@@ -163,7 +164,7 @@ module _ {D : Type 0} (clock : Option ℕ) (mode : Mode) (tell : D → Bool) (fi
       tail = over.turns.tail;
       out = texts_of mode first.exchanges ++ over.turns.out;
       stop = over.turns.stop;
-      rests = over.turns.rests;
+      rests = subst (λ t. Rests t end over.turns.tail over.turns.stop (moment clock mode tell files count over.objects_after new)) first.tells over.turns.rests;
       run = run_append clock mode (map tell old) first.exchanges over.turns.exchanges _ _ _ first.run
           (subst (λ t. Run clock mode t (moment clock mode tell files count first.objects_after mid) over.turns.exchanges over.turns.stop) first.tells over.turns.run);
       moved =
@@ -191,7 +192,7 @@ module _ {D : Type 0} (clock : Option ℕ) (mode : Mode) (tell : D → Bool) (fi
       out = texts_of mode first.exchanges;
       stop = moment clock mode tell files count first.objects_after new;
       run = first.run;
-      rests = record { states = refl; counts = none_fell_same (map count new) };
+      rests = refl;
       moved = subst (λ t. Moved t (texts_of mode first.exchanges) before after) (sym (append-nil (bytes_of first.exchanges))) first.moved;
       ends = inr (record { closed = refl; all = first.many; nothing = refl; given = refl });
       few = omega (arith, first.many);

@@ -216,8 +216,12 @@ module _ {D : Type 0} (clock : Option ℕ) (mode : Mode) (tell : D → Bool) (fi
       → Opens number objects old new drawn → SpellsGet key pick bytes
       → TurnOver clock mode tell files count number bytes objects old (wires left given reads faults) (Ended NoMemory) new (wires left given reads faults) drawn
   get_starved number key pick objects old new left given reads faults drawn bytes opens asks =
-      unanswered clock mode tell files count number bytes [] objects objects old new (wires left given reads faults) (wires left given reads faults) NoMemory drawn refl
+      unanswered clock mode tell files count number bytes [] objects objects old new (wires left given reads faults) (wires left given reads faults) NoMemory drawn
       opens.agrees (room_kept number drawn objects opens.agrees opens.room) (opened_ready number objects old new drawn opens)
-      (counts_each clock mode tell files count old new opens.same opens.counts)
+      (record {
+        objects = inl refl;
+        shows = λ all. shows_only clock mode tell files count (number + 1) (number + number + 2) objects new (opened_ready number objects old new drawn opens all);
+        counts = counts_each clock mode tell files count old new opens.same opens.counts;
+      })
       (record { took = nothing_taken left; gave = nothing_given given; reads = omega arith; writes = omega arith })
       (inr (get key pick, subst (SpellsGet key pick) (sym (append-nil bytes)) asks), refl)

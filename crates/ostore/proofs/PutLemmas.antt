@@ -190,10 +190,14 @@ module _ {D : Type 0} (clock : Option ℕ) (mode : Mode) (tell : D → Bool) (fi
   put_starves number key body objects id now old mid new turn left given later reads faults more before staged after bytes st asks starves =
       let same_faults : more ≡ faults = starves.faults in
       subst (λ t. TurnOver clock mode tell files count number bytes objects old (wires left given reads faults) t new (wires left later reads more) after) (sym starves.ended)
-      (unanswered clock mode tell files count number bytes [] objects (with_numbers (with_body objects id body) key 1) old new (wires left given reads faults) (wires left later reads more) NoMemory after refl
+      (unanswered clock mode tell files count number bytes [] objects (with_numbers (with_body objects id body) key 1) old new (wires left given reads faults) (wires left later reads more) NoMemory after
       (agrees_none (with_numbers (with_body objects id body) key 1) staged after (agrees_drawn objects key 1 before staged st.begins.agrees st.draws) starves.draws)
       (room_drawn clock mode tell files count number key objects id now old new before 1 (omega arith) st.begins) (staged_stays number key body objects id now old mid new before staged st starves.stays)
-      (counts_each clock mode tell files count old new st.begins.same st.begins.counts)
+      (record {
+        objects = inr (record { key = key; body = body; id = id; asks = subst (Asks (put key body)) (sym (append-nil bytes)) asks; next = st.begins.next; is = refl });
+        shows = λ all. shows_only clock mode tell files count (number + 1) (number + number + 2) (with_numbers (with_body objects id body) key 1) new (staged_stays number key body objects id now old mid new before staged st starves.stays all);
+        counts = counts_each clock mode tell files count old new st.begins.same st.begins.counts;
+      })
       (record { took = nothing_taken left; gave = starves.given ∙ nothing_given given; reads = omega arith; writes = omega arith })
       (inr (put key body, subst (Asks (put key body)) (sym (append-nil bytes)) asks), refl))
 

@@ -8,8 +8,8 @@ use Rattle.ostore.specs.declared.connection.ConnectionEnd.TheVariants.{Over, Clo
 use Rattle.call_types.specs.declared.names.Mode.{Mode}
 use Rattle.ostore.specs.Objects.{answer_text}
 use Rattle.ostore.specs.Replies.{bad_request}
-use Rattle.ostore.specs.Drives.{NoneFell}
-use Rattle.ostore.specs.Session.{Exchange, Moment, Run, bytes_of, texts_of, Wires, Moved, EndsSo}
+use Rattle.ostore.specs.Drives.{AllTell, NoneFell}
+use Rattle.ostore.specs.Session.{Exchange, Moment, ShowOnly, Rests, Run, bytes_of, texts_of, Wires, Moved, EndsSo}
 
 -- ---- counts
 
@@ -67,6 +67,16 @@ nothing_given None = refl
 nothing_given (Some given) = ap Some (sym (append-nil given))
 
 -- ---- endings
+
+-- where nothing changed, however the connection ended
+pub rests_same : (tells : List Bool) (tail : List ℕ) (moment : Moment) (end : ConnectionEnd) → (AllTell tells → ShowOnly moment.objects moment.drives)
+    → Rests tells end tail moment moment
+rests_same tells tail moment NoMemory shows = record { objects = inl refl; shows = shows; counts = none_fell_same moment.counts }
+rests_same tells tail moment Over shows = refl
+rests_same tells tail moment InputCut shows = refl
+rests_same tells tail moment ReadFault shows = refl
+rests_same tells tail moment WriteFault shows = refl
+rests_same tells tail moment Closed shows = refl
 
 pub ends_later : (mode : Mode) (end : ConnectionEnd) (exchanges : List Exchange) (tail out : List ℕ) (a b c : Wires)
     → a.read_faults ≤ b.read_faults → a.write_faults ≤ b.write_faults → EndsSo mode end exchanges tail out b c → EndsSo mode end exchanges tail out a c

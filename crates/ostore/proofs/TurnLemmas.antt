@@ -13,8 +13,8 @@ use Rattle.ostore.specs.Objects.{Objects, answer_text}
 use Rattle.ostore.specs.Slots.{Drawn}
 use Rattle.ostore.specs.Store.{Ready}
 use Rattle.ostore.specs.Drives.{AllTell, AtEach, SomeDrive, NoneFell, DriveCause, DrivesCause}
-use Rattle.ostore.specs.Session.{Exchange, Step, Wires, wires, Moved, EndsSo, Gives, moment, TurnOver, Agrees}
-use Rattle.ostore.proofs.SessionLemmas.{nothing_taken, ends_later, moved_later, none_fell_same}
+use Rattle.ostore.specs.Session.{Exchange, Step, Wires, wires, Moved, EndsSo, Gives, Rests, moment, TurnOver, Agrees}
+use Rattle.ostore.proofs.SessionLemmas.{nothing_taken, ends_later, moved_later}
 use Rattle.ostore.proofs.ListLemmas.{first_of}
 
 -- where the counters are the slots' numbers, a request that draws nothing leaves room for the next
@@ -112,11 +112,12 @@ module _ {D : Type 0} (clock : Option ℕ) (mode : Mode) (tell : D → Bool) (fi
 
   -- the connection ends, and the request has no answer
   pub unanswered : (number : ℕ) (front part : List ℕ) (objects later : Objects) (old new : List D) (before after : Wires) (end : ConnectionEnd) (counters : Drawn)
-      → later.states ≡ objects.states → Agrees counters later → ((slot : ℕ) → later.drawn slot ≤ number + number + 2)
-      → (AllTell (map tell old) → Ready files (number + 1) (number + number + 2) later new) → NoneFell (map count old) (map count new)
+      → Agrees counters later → ((slot : ℕ) → later.drawn slot ≤ number + number + 2)
+      → (AllTell (map tell old) → Ready files (number + 1) (number + number + 2) later new)
+      → Rests (map tell old) end (front ++ part) (moment clock mode tell files count objects old) (moment clock mode tell files count later new)
       → Moved part [] before after → EndsSo mode end [] (front ++ part) [] before after
       → TurnOver clock mode tell files count number front objects old before (Ended end) new after counters
-  unanswered number front part objects later old new before after end counters states agrees room ready counts moved ends = record {
+  unanswered number front part objects later old new before after end counters agrees room ready rests moved ends = record {
     objects_after = later;
     agrees = agrees;
     room = room;
@@ -128,7 +129,7 @@ module _ {D : Type 0} (clock : Option ℕ) (mode : Mode) (tell : D → Bool) (fi
       out = [];
       stop = moment clock mode tell files count objects old;
       run = refl;
-      rests = record { states = states; counts = counts };
+      rests = rests;
       is = refl;
       moved = moved;
       ends = ends;
@@ -169,7 +170,7 @@ module _ {D : Type 0} (clock : Option ℕ) (mode : Mode) (tell : D → Bool) (fi
       out = take n (answer_text mode exchange.answer);
       stop = moment clock mode tell files count later new;
       run = (moment clock mode tell files count later new, step, refl);
-      rests = record { states = refl; counts = none_fell_same (map count new) };
+      rests = refl;
       is = append-nil (exchange.bytes ++ []);
       moved = record { took = nothing_taken left; gave = gave; reads = omega arith; writes = low };
       ends = (rose, inl (record { earlier = []; last = exchange; n = n; are = refl; nothing = refl; given = refl }));

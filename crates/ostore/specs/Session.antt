@@ -18,10 +18,10 @@ use Rattle.call_types.specs.declared.version.What.{What}
 use Rattle.call_types.specs.declared.version.What.TheVariants.{Marker, Object}
 use Rattle.call_types.specs.declared.reply.Reply.{Reply}
 use Rattle.call_types.specs.declared.reply.Reply.TheVariants.{Found}
-use Rattle.ostore.specs.Objects.{Request, Answer, put, get, delete, replied, unavailable, Asks, answer_text, Objects, Serves}
+use Rattle.ostore.specs.Objects.{Request, Answer, put, get, delete, replied, unavailable, Asks, answer_text, Objects, with_numbers, with_body, Serves}
 use Rattle.ostore.specs.Drives.{AllTell, NoneFell, DrivesCause, DriveView, views_of, name_of}
 use Rattle.ostore.specs.KeyFiles.{StandsFor}
-use Rattle.ostore.specs.Slots.{Drawn}
+use Rattle.ostore.specs.Slots.{slot_of, Drawn, IsIdOf}
 use Rattle.ostore.specs.Store.{IsCleared, Keeps, NamesData, Ready}
 
 -- a request with its bytes as they came, and its answer
@@ -115,10 +115,29 @@ pub record Step (clock : Option ℕ) (mode : Mode) (tells : List Bool) (old : Mo
   pub cause : HasCause tells exchange.request exchange.answer old.counts new.counts
   pub counts : NoneFell old.counts new.counts
 
--- nothing is answered: the keys' states stay, and no count falls
-pub record Rests (old new : Moment) : Type 0 where
-  pub states : new.objects.states ≡ old.objects.states
+-- a PUT, all of which is the tail, had drawn its id and staged its body when memory ran out
+pub record HasStaged (tail : List ℕ) (old new : Objects) : Type 0 where
+  pub key : List ℕ
+  pub body : List ℕ
+  pub id : VersionId
+  pub asks : Asks (put key body) tail
+  pub next : IsIdOf (slot_of key) (old.drawn (slot_of key) + 1) id
+  pub is : new ≡ with_numbers (with_body old id body) key 1
+
+-- Memory ran out: the objects are as they were, but for a body that was staged. The keys' states stay, and no count falls.
+pub record RunsOut (tells : List Bool) (tail : List ℕ) (old new : Moment) : Type 0 where
+  pub objects : (new.objects ≡ old.objects) ⊎ HasStaged tail old.objects new.objects
+  pub shows : AllTell tells → ShowOnly new.objects new.drives
   pub counts : NoneFell old.counts new.counts
+
+-- what follows the last exchange changes nothing, unless memory ran out
+abbrev pub Rests : List Bool → ConnectionEnd → List ℕ → Moment → Moment → Type 0
+Rests tells NoMemory tail old new = RunsOut tells tail old new
+Rests tells Over tail old new = new ≡ old
+Rests tells InputCut tail old new = new ≡ old
+Rests tells ReadFault tail old new = new ≡ old
+Rests tells WriteFault tail old new = new ≡ old
+Rests tells Closed tail old new = new ≡ old
 
 -- exchanges, one after another
 abbrev pub Run : Option ℕ → Mode → List Bool → Moment → List Exchange → Moment → Type 0
@@ -206,14 +225,14 @@ pub record IsAtLimit (mode : Mode) (end : ConnectionEnd) (exchanges : List Excha
   pub nothing : tail ≡ []
   pub given : out ≡ texts_of mode exchanges
 
--- a whole connection; a request that it ends in leaves the keys' states
+-- a whole connection; a request that it ends in changes nothing, unless memory ran out in it
 pub record Session (clock : Option ℕ) (mode : Mode) (tells : List Bool) (old : Moment) (before : Wires) (end : ConnectionEnd) (new : Moment) (after : Wires) : Type 0 where
   pub exchanges : List Exchange
   pub stop : Moment
   pub tail : List ℕ
   pub out : List ℕ
   pub run : Run clock mode tells old exchanges stop
-  pub rests : Rests stop new
+  pub rests : Rests tells end tail stop new
   pub moved : Moved (bytes_of exchanges ++ tail) out before after
   pub ends : EndsSo mode end exchanges tail out before after ⊎ IsAtLimit mode end exchanges tail out
   pub few : length exchanges ≤ 1000000
@@ -234,7 +253,7 @@ pub record TurnEnds (clock : Option ℕ) (mode : Mode) (tells : List Bool) (fron
   pub out : List ℕ
   pub stop : Moment
   pub run : Run clock mode tells old exchanges stop
-  pub rests : Rests stop new
+  pub rests : Rests tells end tail stop new
   pub is : bytes_of exchanges ++ tail ≡ front ++ part
   pub moved : Moved part out before after
   pub ends : EndsSo mode end exchanges tail out before after
