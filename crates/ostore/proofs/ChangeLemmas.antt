@@ -176,7 +176,7 @@ module _ {D : Type 0} (clock : Option ℕ) (mode : Mode) (tell : D → Bool) (fi
       → number < 1000000 → 0 < length old → AllTell (map tell old) → (r : Ready files number most objects old)
       → (p : IsPrepared mode act id now stands text (Some file) gone) → p.state ≡ objects.states key → p.changes.new.uploads ≡ []
       → AllByRecursion (IsSound (with_drawn objects.drawn (slot_of key) (objects.drawn (slot_of key) + more)) r.owner objects.bodies key) p.changes.new.versions
-      → AllByRecursion (λ v. IsHeld files objects.bodies old v.what) p.changes.new.versions
+      → AllByRecursion (λ v. IsHeld files objects.bodies key old v.what) p.changes.new.versions
       → WritesAll tell files count (loose_name_of number) (name_of key) file gone old new
       → Ready files (number + 1) (most + more) (with_change objects key p.changes.new more) new
   made_ready number most more objects key act id now stands text file gone old new few some all r p same none sound datas w =
@@ -195,7 +195,7 @@ module _ {D : Type 0} (clock : Option ℕ) (mode : Mode) (tell : D → Bool) (fi
       → number < 1000000 → 0 < length old → length new ≡ length old → AllTell (map tell old) → (r : Ready files number most objects old)
       → (p : IsPrepared mode act id now stands text (Some file) gone) → p.changes.new.uploads ≡ []
       → AllByRecursion (IsSound (with_drawn objects.drawn (slot_of key) (objects.drawn (slot_of key) + more)) r.owner objects.bodies key) p.changes.new.versions
-      → AllByRecursion (λ v. IsHeld files objects.bodies old v.what) p.changes.new.versions
+      → AllByRecursion (λ v. IsHeld files objects.bodies key old v.what) p.changes.new.versions
       → WritesMaybe tell files count (loose_name_of number) (name_of key) file old new
       → (after : Objects) × ((after ≡ with_numbers objects key more) ⊎ (after ≡ with_change objects key p.changes.new more)) × Ready files (number + 1) (most + more) after new
   refused_ready number most more objects key act id now stands text file gone old new few some same all r p none sound datas writes =

@@ -113,9 +113,9 @@ module _ {D : Type 0} (clock : Option ℕ) (mode : Mode) (tell : D → Bool) (fi
 
   delete_datas : (number most : ℕ) (key : List ℕ) (pick : Pick) (objects : Objects) (id : VersionId) (now : ℕ) (reply : Reply) (state : KeyState) (old : List D)
       → Ready files number most objects old → Step (objects.states key) mode (act.Delete pick) id now reply state
-      → AllByRecursion (λ v. IsHeld files objects.bodies old v.what) state.versions
+      → AllByRecursion (λ v. IsHeld files objects.bodies key old v.what) state.versions
   delete_datas number most key pick objects id now reply state old ready step =
-      delete_step_keeps (λ v. IsHeld files objects.bodies old v.what) (objects.states key) state mode pick id now reply step (ready.datas key) tt
+      delete_step_keeps (λ v. IsHeld files objects.bodies key old v.what) (objects.states key) state mode pick id now reply step (ready.datas key) tt
 
   -- some drive refused the write, and these are the objects then
   refused_so : (number : ℕ) (key : List ℕ) (pick : Pick) (objects : Objects) (id : VersionId) (now : ℕ) (old new : List D) (turn : Turn)

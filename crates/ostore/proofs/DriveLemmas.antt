@@ -75,13 +75,18 @@ drive_staged number most k owner objects key id body coding a b sound is staged 
 
 -- ---- a drive after a write of a key's file
 
+-- what holds of a key with its new state, and of each key with its old one, holds of each key
+pub states_elsewhere : (states : List ℕ → KeyState) (key : List ℕ) (state : KeyState) (other : List ℕ) (P : List ℕ → KeyState → Type 0)
+    → P key state → P other (states other) → P other (with_state states key state other)
+states_elsewhere states key state other P new old = by (bytes_eq key other) refl
+  where
+    by : (b : Bool) → bytes_eq key other ≡ b → P other (with_state states key state other)
+    by true e = subst (λ b. P other (cond b state (states other))) (sym e) (subst (λ k. P k state) ((bytes_eq-Decides key other).0 e) new)
+    by false e = subst (λ b. P other (cond b state (states other))) (sym e) old
+
 pub state_elsewhere : (states : List ℕ → KeyState) (key : List ℕ) (state : KeyState) (other : List ℕ) (P : KeyState → Type 0)
     → P state → P (states other) → P (with_state states key state other)
-state_elsewhere states key state other P new old = by (bytes_eq key other)
-  where
-    by : (b : Bool) → P (cond b state (states other))
-    by true = new
-    by false = old
+state_elsewhere states key state other P new old = states_elsewhere states key state other (λ k. P) new old
 
 drive_states_written : (number : ℕ) (objects : Objects) (key : List ℕ) (state : KeyState) (a b : Files)
     → IsCanonical state → MayBeWritten (loose_name_of number) (name_of key) (key_file state) a b → KeepsSomeState a → KeepsSomeState b

@@ -146,7 +146,7 @@ module _ {D : Type 0} (clock : Option ℕ) (mode : Mode) (tell : D → Bool) (fi
 
   -- the data of a version that is held was not read: some drive's count rose
   held_lost : (number most : ℕ) (key : List ℕ) (objects : Objects) (mid new : List D) (what : What) → length mid ≡ 4 → AllTell (map tell mid) → (r : Ready files number most objects mid)
-      → HasDataOf objects.drawn r.owner objects.bodies key what → IsHeld files objects.bodies mid what → LacksBody tell files count what mid new
+      → HasDataOf objects.drawn r.owner objects.bodies key what → IsHeld files objects.bodies key mid what → LacksBody tell files count what mid new
       → SomeDrive (λ a b. Rose (count a) (count b)) mid new
   held_lost number most key objects mid new Marker four all r has held lacks = absurd lacks
   held_lost number most key objects mid new (Object data_id print size md5 parts upload kind) four all r has (body, brought, holders) lacks =
@@ -162,7 +162,8 @@ module _ {D : Type 0} (clock : Option ℕ) (mode : Mode) (tell : D → Bool) (fi
         sized = has.sized;
         few = has.few;
         printed = has.printed;
-        holders = subst (λ b. HasHolders files data_id b mid) same holders;
+        key = key;
+        holders = subst (λ b. HasHolders files key data_id b mid) same holders;
       }) lacks
 
   -- why the data of a version wasn't read
@@ -181,7 +182,7 @@ module _ {D : Type 0} (clock : Option ℕ) (mode : Mode) (tell : D → Bool) (fi
         let all_mid = subst AllTell (sym (tells_same clock mode tell files count old mid lost.same lost.tells)) all in
         let (k, lt, rose) = held_lost number (number + number) key objects mid new lost.version.what (lost.same ∙ four) all_mid m
         (reads_one (IsSound objects.drawn m.owner objects.bodies key) (objects.states key).versions lost.place lost.version (m.sound.versions key) there).«data»
-        (reads_one (λ v. IsHeld files objects.bodies mid v.what) (objects.states key).versions lost.place lost.version (m.datas key) there)
+        (reads_one (λ v. IsHeld files objects.bodies key mid v.what) (objects.states key).versions lost.place lost.version (m.datas key) there)
         lost.lacks in
         let within : k < length old = (let n : length mid ≡ length old = lost.same in omega arith) in
         cause_of_some clock mode tell files count old new same (k, within, λ d. inl (subst (λ n. Rose n (count (slice_index_or new k d))) (lost.calm k d within) (rose d)))

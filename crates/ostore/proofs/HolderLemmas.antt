@@ -23,7 +23,7 @@ use Rattle.body_print.proofs.PrintLemmas.{print_texts_are_one}
 use Rattle.put_stage.specs.OnDrives.{Leaves, MayBeStaged, LeavesOf, CauseOf, manifest_and_shard}
 use Rattle.put_stage.specs.Outcomes.{manifest_of, Wrote, IsShort}
 use Rattle.ostore.specs.Store.{HasNoLoose}
-use Rattle.ostore.specs.Drives.{SomeDrive, DriveCause}
+use Rattle.ostore.specs.Drives.{SomeDrive, DriveCause, name_of}
 use Rattle.ostore.specs.Holders.{the_set, IsPrintOf, Coding, shard_file, manifest_file, Holds, IsNothingOr, HasOnly, HasHolders, IsHeld}
 use Rattle.ostore.proofs.GoneLemmas.{OnData}
 use Rattle.ostore.proofs.CountLemmas.{but_one_passes, one_fails}
@@ -184,14 +184,15 @@ module _ {D : Type 0} (files : D → Files) where
     pub kept : (k : ℕ) (d : D) → k < length old → KeepsSame id (files (slice_index_or old k d)) (files (slice_index_or new k d))
 
   pub held_stays : (bodies later : Named (List ℕ)) (old new : List D) → length new ≡ length old
-      → (what : What) → OnData (StaysHeld bodies later old new) what → IsHeld files bodies old what → IsHeld files later new what
-  held_stays bodies later old new same Marker stays held = tt
-  held_stays bodies later old new same (Object data_id print size md5 parts upload kind) stays held =
+      → (key : List ℕ) (what : What) → OnData (StaysHeld bodies later old new) what → IsHeld files bodies key old what → IsHeld files later key new what
+  held_stays bodies later old new same key Marker stays held = tt
+  held_stays bodies later old new same key (Object data_id print size md5 parts upload kind) stays held =
       let h = held.2 in (
         held.0,
         stays.brought ∙ held.1,
         record {
           coding = h.coding;
+          of_key = h.of_key;
           lost = h.lost;
           holds = λ k d lt other.
               let within : k < length old = (let n : length new ≡ length old = same in omega arith) in
@@ -210,28 +211,29 @@ module _ {D : Type 0} (tells : D → Bool) (files : D → Files) (count : D → 
   shard_there body shards k are lt = get_or-map shard_bytes shards k [] [] (let n : length shards ≡ 4 = are.count in omega arith)
 
   -- what a drive has after a stage
-  pub each_staged : (id : VersionId) (name body : List ℕ) (short : length name < 2 ^ 16) (shards : List (List (List ℕ))) (whys : List Why) (old new : List D)
-      → (w : Wrote tells files count the_set id name body shards whys old new) → (k : ℕ) (d : D) → k < 4
+  pub each_staged : (id : VersionId) (key body : List ℕ) (short : length (name_of key) < 2 ^ 16) (shards : List (List (List ℕ))) (whys : List Why) (old new : List D)
+      → (w : Wrote tells files count the_set id (name_of key) body shards whys old new) → (k : ℕ) (d : D) → k < 4
       → IsTrue (tells (slice_index_or old k d)) → HasNoLoose id (files (slice_index_or old k d))
-      → let coding : Coding body = record { shards = shards; are = w.are; name = name; short = short } in
+      → let coding : Coding body = record { shards = shards; are = w.are; key = key; short = short } in
       LeavesOf (slice_index_or whys k Good) (manifest_and_shard id (manifest_file id body coding) (shard_file body coding k)) (files (slice_index_or old k d)) (files (slice_index_or new k d))
-  each_staged id name body short shards whys old new w k d lt told unused =
-      let coding : Coding body = record { shards = shards; are = w.are; name = name; short = short } in
+  each_staged id key body short shards whys old new w k d lt told unused =
+      let coding : Coding body = record { shards = shards; are = w.are; key = key; short = short } in
       subst (λ s. LeavesOf (slice_index_or whys k Good) (manifest_and_shard id (manifest_file id body coding) s) (files (slice_index_or old k d)) (files (slice_index_or new k d)))
       (shard_there body shards k w.are lt) ((w.on.each k d lt).leaves told (unused.manifest, (unused.shard, tt)))
 
   -- the drives hold a body that was staged
-  pub staged_holders : (id : VersionId) (name body : List ℕ) (short : length name < 2 ^ 16) (shards : List (List (List ℕ))) (whys : List Why) (old new : List D)
-      → length old ≡ 4 → Wrote tells files count the_set id name body shards whys old new → 3 ≤ good_count whys
+  pub staged_holders : (id : VersionId) (key body : List ℕ) (short : length (name_of key) < 2 ^ 16) (shards : List (List (List ℕ))) (whys : List Why) (old new : List D)
+      → length old ≡ 4 → Wrote tells files count the_set id (name_of key) body shards whys old new → 3 ≤ good_count whys
       → ((k : ℕ) (d : D) → k < length old → IsTrue (tells (slice_index_or old k d)))
       → ((k : ℕ) (d : D) → k < length old → HasNoLoose id (files (slice_index_or old k d)))
-      → HasHolders files id body new
-  staged_holders id name body short shards whys old new four w enough told unused =
+      → HasHolders files key id body new
+  staged_holders id key body short shards whys old new four w enough told unused =
       let counted : length whys ≡ 4 = w.on.counted in
       let passing = but_one_passes is_good whys Good (omega arith) in
-      let coding : Coding body = record { shards = shards; are = w.are; name = name; short = short } in
+      let coding : Coding body = record { shards = shards; are = w.are; key = key; short = short } in
       record {
         coding = coding;
+        of_key = refl;
         lost = passing.0;
         holds = λ k d lt other.
             let same : length new ≡ length old = w.on.drives in
@@ -239,19 +241,19 @@ module _ {D : Type 0} (tells : D → Bool) (files : D → Files) (count : D → 
             let good : slice_index_or whys k Good ≡ Good = good_means (slice_index_or whys k Good) (passing.1 k (omega arith) other) in
             both_hold id body coding k (files (slice_index_or old k d)) (files (slice_index_or new k d))
             (subst (λ why. LeavesOf why (manifest_and_shard id (manifest_file id body coding) (shard_file body coding k)) (files (slice_index_or old k d)) (files (slice_index_or new k d))) good
-            (each_staged id name body short shards whys old new w k d (omega arith) (told k d within) (unused k d within)));
+            (each_staged id key body short shards whys old new w k d (omega arith) (told k d within) (unused k d within)));
       }
 
   -- a drive has none of the files of a stage, the manifest alone, or both
-  pub each_may_be_staged : (id : VersionId) (name body : List ℕ) (short : length name < 2 ^ 16) (shards : List (List (List ℕ))) (whys : List Why) (old new : List D)
-      → (w : Wrote tells files count the_set id name body shards whys old new) → (k : ℕ) (d : D) → k < 4
+  pub each_may_be_staged : (id : VersionId) (key body : List ℕ) (short : length (name_of key) < 2 ^ 16) (shards : List (List (List ℕ))) (whys : List Why) (old new : List D)
+      → (w : Wrote tells files count the_set id (name_of key) body shards whys old new) → (k : ℕ) (d : D) → k < 4
       → IsTrue (tells (slice_index_or old k d)) → HasNoLoose id (files (slice_index_or old k d))
-      → let coding : Coding body = record { shards = shards; are = w.are; name = name; short = short } in
+      → let coding : Coding body = record { shards = shards; are = w.are; key = key; short = short } in
       MayBeStaged (manifest_and_shard id (manifest_file id body coding) (shard_file body coding k)) (files (slice_index_or old k d)) (files (slice_index_or new k d))
-  each_may_be_staged id name body short shards whys old new w k d lt told unused =
-      let coding : Coding body = record { shards = shards; are = w.are; name = name; short = short } in
+  each_may_be_staged id key body short shards whys old new w k d lt told unused =
+      let coding : Coding body = record { shards = shards; are = w.are; key = key; short = short } in
       may_be_staged (slice_index_or whys k Good) id (manifest_file id body coding) (shard_file body coding k) (files (slice_index_or old k d)) (files (slice_index_or new k d))
-      (each_staged id name body short shards whys old new w k d lt told unused)
+      (each_staged id key body short shards whys old new w k d lt told unused)
 
   -- why a stage was refused: some drive's count rose, or it doesn't tell
   pub short_cause : (id : VersionId) (name body : List ℕ) (stated : Option (List ℕ)) (whys : List Why) (old new : List D) → length old ≡ 4

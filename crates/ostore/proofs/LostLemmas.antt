@@ -36,7 +36,7 @@ use Rattle.get_read.specs.Causes.{Wanted, Fits, Serves, IsManifestDamage, IsTabl
 use Rattle.get_read.specs.Outcomes.{wanted_of, NoneServes, FewBlocks}
 use Rattle.get_read.proofs.ClashLemmas.{digest_of_block}
 use Rattle.ostore.specs.Finding.{DataCause}
-use Rattle.ostore.specs.Drives.{SomeDrive}
+use Rattle.ostore.specs.Drives.{SomeDrive, name_of}
 use Rattle.ostore.specs.Holders.{the_set, IsPrintOf, Coding, manifest_file, IsNothingOr, HasOnly, HasHolders}
 use Rattle.ostore.proofs.CountLemmas.{another_fails}
 use Rattle.ostore.proofs.HolderLemmas.{none_out, print_of_shards}
@@ -45,7 +45,7 @@ use Rattle.ostore.proofs.HolderLemmas.{none_out, print_of_shards}
 
 -- the manifest of a coded body
 abbrev pub manifest_made : VersionId → (body : List ℕ) → Coding body → Manifest
-manifest_made id body coding = manifest_of the_set id coding.name (length body) (map root_of coding.shards)
+manifest_made id body coding = manifest_of the_set id (name_of coding.key) (length body) (map root_of coding.shards)
 
 roots_are_roots : (shards : List (List (List ℕ))) → AllByRecursion IsRoot (map root_of shards)
 roots_are_roots [] = tt
@@ -183,7 +183,8 @@ module _ {D : Type 0} (tells : D → Bool) (files : D → Files) (count : D → 
     pub sized : length body ≡ size
     pub few : size ≤ 5368709120
     pub printed : IsPrintOf body print
-    pub holders : HasHolders files id body drives
+    pub key : List ℕ
+    pub holders : HasHolders files key id body drives
 
   manifest_serves : (id : VersionId) (print : List ℕ) (size : ℕ) (body : List ℕ) (coding : Coding body) → IsPrintOf body print → length body ≡ size
       → Serves (wanted_of the_set print size) (manifest_made id body coding)

@@ -92,7 +92,7 @@ module _ {D : Type 0} (clock : Option ℕ) (mode : Mode) (tell : D → Bool) (fi
     pub small : length body ≤ 5368709120
     pub coding : Coding body
     pub stages : IsStagedAs id body coding old mid
-    pub holders : AllTell (map tell old) → HasHolders files id body mid
+    pub holders : AllTell (map tell old) → HasHolders files key id body mid
 
   -- the drives keep the objects with the body, whatever each of them has of its files
   abbrev pub staged_maybe : (number : ℕ) (key body : List ℕ) (coding : Coding body) (objects : Objects) (id : VersionId) (now : ℕ) (old mid new : List D) (before : Drawn)

@@ -51,9 +51,9 @@ module _ {D : Type 0} (clock : Option ℕ) (mode : Mode) (tell : D → Bool) (fi
 
   put_datas : (number : ℕ) (key body : List ℕ) (objects : Objects) (id : VersionId) (now : ℕ) (old mid new : List D) (before staged : Drawn)
       → (st : Staged clock mode tell files count number key body objects id now old mid new before staged) → (all : AllTell (map tell old)) → (reply : Reply) (state : KeyState) → Step (objects.states key) mode (put_act id st.print body) id now reply state
-      → AllByRecursion (λ v. IsHeld files (with_numbers (with_body objects id body) key 1).bodies mid v.what) state.versions
+      → AllByRecursion (λ v. IsHeld files (with_numbers (with_body objects id body) key 1).bodies key mid v.what) state.versions
   put_datas number key body objects id now old mid new before staged st all reply state step =
-      step_keeps (λ v. IsHeld files (with_numbers (with_body objects id body) key 1).bodies mid v.what) (objects.states key) state mode id st.print body now reply step
+      step_keeps (λ v. IsHeld files (with_numbers (with_body objects id body) key 1).bodies key mid v.what) (objects.states key) state mode id st.print body now reply step
       ((staged_ready clock mode tell files count number key body objects id now old mid new before staged st all).datas key)
       (body, with_name-here objects.bodies (shard_name id) (Some body), st.holders all)
 

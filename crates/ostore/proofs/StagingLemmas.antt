@@ -55,10 +55,10 @@ module _ {D : Type 0} (clock : Option ℕ) (mode : Mode) (tell : D → Bool) (fi
     print = told.print;
     printed = print_by_shards body told.print s.shards s.wrote.are few s.told.print;
     small = few;
-    coding = record { shards = s.shards; are = s.wrote.are; name = name_of key; short = short };
-    stages = λ k d lt told_on unused. each_may_be_staged tell files count id (name_of key) body short s.shards s.whys old mid s.wrote k d (omega arith) told_on unused;
+    coding = record { shards = s.shards; are = s.wrote.are; key = key; short = short };
+    stages = λ k d lt told_on unused. each_may_be_staged tell files count id key body short s.shards s.whys old mid s.wrote k d (omega arith) told_on unused;
     holders = λ all.
-        staged_holders tell files count id (name_of key) body short s.shards s.whys old mid four s.wrote s.told.enough
+        staged_holders tell files count id key body short s.shards s.whys old mid four s.wrote s.told.enough
         (λ k d lt. tells_each clock mode tell files count old all k d lt)
         (λ k d lt. ((begins.ready all).every k d lt).unused.datas id (next_not_drawn objects.drawn (slot_of key) id begins.next));
   }
@@ -87,8 +87,8 @@ module _ {D : Type 0} (clock : Option ℕ) (mode : Mode) (tell : D → Bool) (fi
       → TurnOver clock mode tell files count number bytes objects old (wires left given reads faults) turn new (wires left later reads more) after
   put_short number key body objects id now old new turn left given later reads faults more before after bytes whys begins four asks draws few short s gives =
       put_unstaged clock mode tell files count number key (print_of_parts 4 2 ((length body, map root_of s.shards) ∷ [])) body
-      (record { shards = s.shards; are = s.wrote.are; name = name_of key; short = short })
+      (record { shards = s.shards; are = s.wrote.are; key = key; short = short })
       objects id now old new turn left given later reads faults more before after bytes begins asks draws
       (print_by_shards body (print_of_parts 4 2 ((length body, map root_of s.shards) ∷ [])) s.shards s.wrote.are few refl)
-      (λ k d lt told unused. each_may_be_staged tell files count id (name_of key) body short s.shards whys old new s.wrote k d (omega arith) told unused)
+      (λ k d lt told unused. each_may_be_staged tell files count id key body short s.shards whys old new s.wrote k d (omega arith) told unused)
       (short_cause tell files count id (name_of key) body None whys old new four s) gives

@@ -20,7 +20,7 @@ use Rattle.ostore.specs.Objects.{Objects, no_objects, with_body, with_numbers, w
 use Rattle.ostore.specs.Slots.{slot_of, Drawn, with_drawn, IsIdOf, WasDrawn}
 use Rattle.ostore.specs.Store.{IsSound, HasDataOf, KeepsAll, AreSound, OnlyRemoves, Ready, IsNoneOf}
 use Rattle.ostore.proofs.NameLemmas.{shard_names_differ, manifest_names_differ, with_name-other}
-use Rattle.ostore.proofs.DriveLemmas.{kept_elsewhere, drive_staged, drive_changed, state_elsewhere}
+use Rattle.ostore.proofs.DriveLemmas.{kept_elsewhere, drive_staged, drive_changed, state_elsewhere, states_elsewhere}
 use Rattle.ostore.proofs.HolderLemmas.{StaysHeld, held_stays, only_less, staged_kept}
 use Rattle.ostore.proofs.GoneLemmas.{OnData, IsNotAmong, on_data}
 use Rattle.ostore.proofs.ListLemmas.{first_of, each_of_both}
@@ -127,19 +127,19 @@ module _ {D : Type 0} (files : D → Files) where
             );
           }
 
-      stays : (other : List ℕ) (v : Version) → IsSound objects.drawn ready.owner objects.bodies other v → IsHeld files objects.bodies old v.what
-          → IsHeld files (with_name objects.bodies (shard_name id) (Some body)) new v.what
+      stays : (other : List ℕ) (v : Version) → IsSound objects.drawn ready.owner objects.bodies other v → IsHeld files objects.bodies other old v.what
+          → IsHeld files (with_name objects.bodies (shard_name id) (Some body)) other new v.what
       stays other v sound held =
-          held_stays files objects.bodies (with_name objects.bodies (shard_name id) (Some body)) old new same v.what
+          held_stays files objects.bodies (with_name objects.bodies (shard_name id) (Some body)) old new same other v.what
           (on_data (WasDrawn objects.drawn (slot_of other)) (StaysHeld files objects.bodies (with_name objects.bodies (shard_name id) (Some body)) old new)
           (stays_at other) v.what (drawn_data objects.drawn ready.owner objects.bodies other v.what sound.data)) held
 
   -- a write of a key's file leaves the data
   held_written : (number : ℕ) (objects : Objects) (key : List ℕ) (state : KeyState) (old new : List D) → length new ≡ length old
       → AtEach (λ a b. MayBeWritten (loose_name_of number) (name_of key) (key_file state) (files a) (files b)) old new
-      → (v : Version) → IsHeld files objects.bodies old v.what → IsHeld files objects.bodies new v.what
-  held_written number objects key state old new same each v held =
-      held_stays files objects.bodies objects.bodies old new same v.what
+      → (other : List ℕ) (v : Version) → IsHeld files objects.bodies other old v.what → IsHeld files objects.bodies other new v.what
+  held_written number objects key state old new same each other v held =
+      held_stays files objects.bodies objects.bodies old new same other v.what
       (each_id (StaysHeld files objects.bodies objects.bodies old new) (λ d. record {
         brought = refl;
         kept = λ k c lt. (
@@ -167,7 +167,7 @@ module _ {D : Type 0} (files : D → Files) where
       → number < 1000000 → 0 < length old → length new ≡ length old → (ready : Ready files number most objects old)
       → IsCanonical state → state.uploads ≡ []
       → AllByRecursion (IsSound (with_drawn objects.drawn (slot_of key) (objects.drawn (slot_of key) + more)) ready.owner objects.bodies key) state.versions
-      → AllByRecursion (λ v. IsHeld files objects.bodies old v.what) state.versions
+      → AllByRecursion (λ v. IsHeld files objects.bodies key old v.what) state.versions
       → AtEach (λ a b. MayBeWritten (loose_name_of number) (name_of key) (key_file state) (files a) (files b)) old new
       → (c : D) → IsInPlace (loose_name_of number) (name_of key) (key_file state) (files (slice_index_or old 0 c)) (files (slice_index_or new 0 c))
       → Ready files (number + 1) (most + more) (with_change objects key state more) new
@@ -175,9 +175,9 @@ module _ {D : Type 0} (files : D → Files) where
     first = λ d other. first_written number objects key state old new (omega arith) ready.first c w d other (bytes_eq key other) refl;
     every = λ k d lt. let within : k < length old = omega arith in
         (drive_changed number k objects key state more _ _ few canonical (each k d within) (ready.every k d within)).0;
-    datas = λ other. state_elsewhere objects.states key state other (λ s. AllByRecursion (λ v. IsHeld files objects.bodies new v.what) s.versions)
-        (each_item _ _ (held_written number objects key state old new same each) state.versions datas)
-        (each_item _ _ (held_written number objects key state old new same each) (objects.states other).versions (ready.datas other));
+    datas = λ other. states_elsewhere objects.states key state other (λ k s. AllByRecursion (λ v. IsHeld files objects.bodies k new v.what) s.versions)
+        (each_item _ _ (held_written number objects key state old new same each key) state.versions datas)
+        (each_item _ _ (held_written number objects key state old new same each other) (objects.states other).versions (ready.datas other));
     owner = ready.owner;
     sound = objects_changed most more ready.owner objects key state ready.sound canonical none sound;
   }
@@ -187,7 +187,7 @@ module _ {D : Type 0} (files : D → Files) where
       → number < 1000000 → 0 < length old → length new ≡ length old → (ready : Ready files number most objects old)
       → IsCanonical state → state.uploads ≡ []
       → AllByRecursion (IsSound (with_drawn objects.drawn (slot_of key) (objects.drawn (slot_of key) + more)) ready.owner objects.bodies key) state.versions
-      → AllByRecursion (λ v. IsHeld files objects.bodies old v.what) state.versions
+      → AllByRecursion (λ v. IsHeld files objects.bodies key old v.what) state.versions
       → AtEach (λ a b. IsInPlace (loose_name_of number) (name_of key) (key_file state) (files a) (files b)) old new
       → Ready files (number + 1) (most + more) (with_change objects key state more) new
   ready_written number most more objects key state old new few some same ready canonical none sound datas each =
@@ -199,7 +199,7 @@ module _ {D : Type 0} (files : D → Files) where
       → number < 1000000 → 0 < length old → length new ≡ length old → (ready : Ready files number most objects old)
       → IsCanonical state → state.uploads ≡ []
       → AllByRecursion (IsSound (with_drawn objects.drawn (slot_of key) (objects.drawn (slot_of key) + more)) ready.owner objects.bodies key) state.versions
-      → AllByRecursion (λ v. IsHeld files objects.bodies old v.what) state.versions
+      → AllByRecursion (λ v. IsHeld files objects.bodies key old v.what) state.versions
       → AtEach (λ a b. MayBeWritten (loose_name_of number) (name_of key) (key_file state) (files a) (files b)) old new
       → (after : Objects) × ((after ≡ with_numbers objects key more) ⊎ (after ≡ with_change objects key state more)) × Ready files (number + 1) (most + more) after new
   ready_refused number most more objects key state old new few some same ready canonical none sound datas each =
@@ -214,7 +214,7 @@ module _ {D : Type 0} (files : D → Files) where
           first = λ d other. subst (λ f. StandsFor f (objects.states other)) (sym (ap (λ x. (files x).kept (name_of other)) (get_or_default new 0 d c (omega arith)) ∙ ap (λ f. f (name_of other)) w.kept)) (ready.first c other);
           every = λ k d lt. let within : k < length old = omega arith in
               (drive_changed number k objects key state more _ _ few canonical (each k d within) (ready.every k d within)).1;
-          datas = λ other. each_item _ _ (held_written number objects key state old new same each) (objects.states other).versions (ready.datas other);
+          datas = λ other. each_item _ _ (held_written number objects key state old new same each other) (objects.states other).versions (ready.datas other);
           owner = ready.owner;
           sound = objects_numbered most more ready.owner objects key ready.sound;
         },
@@ -229,7 +229,7 @@ module _ {D : Type 0} (files : D → Files) where
     first = λ d key. subst (λ f. StandsFor (f.kept (name_of key)) (objects.states key)) (sym (each 0 d some)) (ready.first d key);
     every = λ k d lt. let within : k < length old = omega arith in subst (λ f. KeepsAll number objects k f) (sym (each k d within)) (ready.every k d within);
     datas = λ key. each_item _ _
-        (λ v held. held_stays files objects.bodies objects.bodies old new same v.what
+        (λ v held. held_stays files objects.bodies objects.bodies old new same key v.what
         (each_id (StaysHeld files objects.bodies objects.bodies old new) (λ d. record {
           brought = refl;
           kept = λ k c lt. (ap (λ f. f.kept (shard_name d)) (each k c lt), ap (λ f. f.kept (manifest_name d)) (each k c lt));
@@ -291,14 +291,14 @@ module _ {D : Type 0} (files : D → Files) where
                 record { shard = ap (λ f. f (loose_shard_name id)) removes.loose ∙ was.shard; manifest = ap (λ f. f (loose_manifest_name id)) removes.loose ∙ was.manifest };
           };
         };
-    datas = λ key. each_of_both _ _ _ (objects.states key).versions held_now (apart key) (ready.datas key);
+    datas = λ key. each_of_both _ _ _ (objects.states key).versions (held_now key) (apart key) (ready.datas key);
     owner = ready.owner;
     sound = ready.sound;
   }
     where
-      held_now : (v : Version) → OnData (IsNotAmong (data_names ids)) v.what → IsHeld files objects.bodies old v.what → IsHeld files objects.bodies new v.what
-      held_now v none held =
-          held_stays files objects.bodies objects.bodies old new same v.what
+      held_now : (key : List ℕ) (v : Version) → OnData (IsNotAmong (data_names ids)) v.what → IsHeld files objects.bodies key old v.what → IsHeld files objects.bodies key new v.what
+      held_now key v none held =
+          held_stays files objects.bodies objects.bodies old new same key v.what
           (on_data (IsNotAmong (data_names ids)) (StaysHeld files objects.bodies objects.bodies old new) (λ d among. record {
             brought = refl;
             kept = λ k c lt. ((each k c lt).kept (shard_name d) among.0, (each k c lt).kept (manifest_name d) among.1);

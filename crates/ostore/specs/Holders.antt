@@ -14,6 +14,7 @@ use Rattle.body_print.specs.Names.{shard_name, manifest_name}
 use Rattle.body_print.specs.Prints.{HasPrint}
 use Rattle.body_print.specs.Shards.{AreShards}
 use Rattle.put_stage.specs.Outcomes.{manifest_of}
+use Rattle.ostore.specs.Drives.{name_of}
 
 -- the one set: four drives, two of them parity, none of them out
 abbrev pub the_set : SetPlan
@@ -33,12 +34,12 @@ pub record IsPrintOf (body print : List ℕ) : Type 0 where
   pub printed : HasPrint 4 2 body print
   pub whole : printed.parts ≡ body ∷ []
 
--- a body as it is coded for the drives: its shards, and the name that its manifest has
+-- a body as it is coded for the drives: its shards, and the key whose file its manifest names
 pub record Coding (body : List ℕ) : Type 0 where
   pub shards : List (List (List ℕ))
   pub are : AreShards 4 2 body shards
-  pub name : List ℕ
-  pub short : length name < 2 ^ 16
+  pub key : List ℕ
+  pub short : length (name_of key) < 2 ^ 16
 
 -- the shard file of a drive
 abbrev pub shard_file : (body : List ℕ) → Coding body → ℕ → List ℕ
@@ -46,7 +47,7 @@ shard_file body coding number = shard_bytes (slice_index_or coding.shards number
 
 -- the manifest's file, which is the same on every drive
 abbrev pub manifest_file : VersionId → (body : List ℕ) → Coding body → List ℕ
-manifest_file id body coding = file_of (manifest_of the_set id coding.name (length body) (map root_of coding.shards))
+manifest_file id body coding = file_of (manifest_of the_set id (name_of coding.key) (length body) (map root_of coding.shards))
 
 -- a drive keeps both files of a body's data
 pub record Holds (id : VersionId) (body : List ℕ) (coding : Coding body) (number : ℕ) (files : Files) : Type 0 where
@@ -71,14 +72,15 @@ abbrev pub data_names : List VersionId → List (List ℕ)
 data_names ids = flat_map (λ id. shard_name id ∷ manifest_name id ∷ []) ids
 
 module _ {D : Type 0} (files : D → Files) where
-  -- as many drives as a write needs keep both files of a body's data: all but one at most
-  pub record HasHolders (id : VersionId) (body : List ℕ) (drives : List D) : Type 0 where
+  -- as many drives as a write needs keep both files of a key's body: all but one at most
+  pub record HasHolders (key : List ℕ) (id : VersionId) (body : List ℕ) (drives : List D) : Type 0 where
     pub coding : Coding body
+    pub of_key : coding.key ≡ key
     pub lost : ℕ
     pub holds : (k : ℕ) (d : D) → k < length drives → k ≢ lost → Holds id body coding k (files (slice_index_or drives k d))
 
-  -- the same of a version's data; a marker has none
-  abbrev pub IsHeld : Named (List ℕ) → List D → What → Type 0
-  IsHeld bodies drives Marker = ⊤
-  IsHeld bodies drives (Object data_id print size md5 parts upload kind) =
-      (body : List ℕ) × (bodies (shard_name data_id) ≡ Some body) × HasHolders data_id body drives
+  -- the same of the data of a key's version; a marker has none
+  abbrev pub IsHeld : Named (List ℕ) → List ℕ → List D → What → Type 0
+  IsHeld bodies key drives Marker = ⊤
+  IsHeld bodies key drives (Object data_id print size md5 parts upload kind) =
+      (body : List ℕ) × (bodies (shard_name data_id) ≡ Some body) × HasHolders key data_id body drives

@@ -106,12 +106,12 @@ module _ {D : Type 0} (files : D → Files) where
   -- drive 0 keeps each key's state, and as many drives as a write needs keep the files of each version's data
   pub record Keeps (objects : Objects) (drives : List D) : Type 0 where
     pub first : (d : D) (key : List ℕ) → StandsFor ((files (slice_index_or drives 0 d)).kept (name_of key)) (objects.states key)
-    pub datas : (key : List ℕ) → AllByRecursion (λ v. IsHeld files objects.bodies drives v.what) (objects.states key).versions
+    pub datas : (key : List ℕ) → AllByRecursion (λ v. IsHeld files objects.bodies key drives v.what) (objects.states key).versions
 
   -- what serving goes on from
   pub record Ready (number most : ℕ) (objects : Objects) (drives : List D) : Type 0 where
     pub first : (d : D) (key : List ℕ) → StandsFor ((files (slice_index_or drives 0 d)).kept (name_of key)) (objects.states key)
     pub every : (k : ℕ) (d : D) → k < length drives → KeepsAll number objects k (files (slice_index_or drives k d))
-    pub datas : (key : List ℕ) → AllByRecursion (λ v. IsHeld files objects.bodies drives v.what) (objects.states key).versions
+    pub datas : (key : List ℕ) → AllByRecursion (λ v. IsHeld files objects.bodies key drives v.what) (objects.states key).versions
     pub owner : List ℕ → List ℕ
     pub sound : AreSound most owner objects
