@@ -154,7 +154,7 @@ only_staged bodies id body coding k a b none only staged =
 
 -- whatever a drive answered to a stage, it has none of the files, the manifest alone, or both
 may_be_staged : (why : Why) (id : VersionId) (m s : List ℕ) (a b : Files) → LeavesOf why (manifest_and_shard id m s) a b → MayBeStaged (manifest_and_shard id m s) a b
-may_be_staged Good id m s a b w = inr (inr w)
+may_be_staged Good id m s a b w = inr (inr w.placed)
 may_be_staged (Failed before after) id m s a b w = w
 may_be_staged (Damaged damage) id m s a b w = absurd w
 may_be_staged (Behind behind) id m s a b w = absurd w
@@ -241,7 +241,7 @@ module _ {D : Type 0} (tells : D → Bool) (files : D → Files) (count : D → 
             let good : slice_index_or whys k Good ≡ Good = good_means (slice_index_or whys k Good) (passing.1 k (omega arith) other) in
             both_hold id body coding k (files (slice_index_or old k d)) (files (slice_index_or new k d))
             (subst (λ why. LeavesOf why (manifest_and_shard id (manifest_file id body coding) (shard_file body coding k)) (files (slice_index_or old k d)) (files (slice_index_or new k d))) good
-            (each_staged id key body short shards whys old new w k d (omega arith) (told k d within) (unused k d within)));
+            (each_staged id key body short shards whys old new w k d (omega arith) (told k d within) (unused k d within))).placed;
       }
 
   -- a drive has none of the files of a stage, the manifest alone, or both

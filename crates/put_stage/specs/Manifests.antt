@@ -1,5 +1,5 @@
 -- What a stage of a manifest alone answers.
-use Rattle.std.specs.Prelude.{◌≡◌, ◌<◌, ℕ, Bool, List, map, sum_by, Result, Ok, Err}
+use Rattle.std.specs.Prelude.{◌<◌, ℕ, Bool, List, [], map, sum_by, Result, Ok, Err}
 use Rattle.stamp_id.specs.declared.version.VersionId.{VersionId}
 use Rattle.call_types.specs.Good.{good_count}
 use Rattle.call_types.specs.declared.why.Why.{Why}
@@ -10,7 +10,7 @@ use Rattle.manifest_file.specs.Print.{cut_of, print_of_parts}
 use Rattle.manifest_file.specs.Spelling.{file_of}
 use Rattle.manifest_file.specs.declared.manifest.Manifest.{Manifest}
 use Rattle.manifest_file.specs.declared.manifest.ManifestPart.{ManifestPart}
-use Rattle.put_stage.specs.OnDrives.{StagedFile, StagesOn, manifest_alone}
+use Rattle.put_stage.specs.OnDrives.{PlacesNothing, StagedFile, StagesOn, manifest_alone}
 use Rattle.put_stage.specs.Outcomes.{Acknowledges}
 use Rattle.put_stage.specs.declared.staged.Staged.{Staged}
 use Rattle.put_stage.specs.declared.staged.StageFault.{StageFault}
@@ -56,4 +56,4 @@ module _ {D : Type 0} (tells : D → Bool) (files : D → Files) (count : D → 
   StagesManifest set id manifest etag (Err (BadDigest given computed)) old new = ⊥
   StagesManifest set id manifest etag (Err BodyCut) old new = ⊥
   StagesManifest set id manifest etag (Err ReadFault) old new = ⊥
-  StagesManifest set id manifest etag (Err NoMemory) old new = new ≡ old
+  StagesManifest set id manifest etag (Err NoMemory) old new = PlacesNothing tells files set (manifest_alone id []) old new

@@ -68,9 +68,14 @@ LeavesSome written placed (file ∷ next) old new = Leaves placed written old ne
 abbrev pub MayBeStaged : List StagedFile → Files → Files → Type 0
 MayBeStaged written old new = LeavesSome written [] written old new
 
+-- all files that a stage writes are in place, and under their loose names none is left
+pub record LeavesAll (written : List StagedFile) (old new : Files) : Type 0 where
+  pub placed : Leaves written written old new
+  pub none_loose : HasNoLoose written new
+
 -- what a drive has that answered so: all, or what it did before it failed
 abbrev pub LeavesOf : Why → List StagedFile → Files → Files → Type 0
-LeavesOf Good written old new = Leaves written written old new
+LeavesOf Good written old new = LeavesAll written old new
 LeavesOf (Failed _ _) written old new = MayBeStaged written old new
 LeavesOf (Damaged _) written old new = ⊥
 LeavesOf (Behind _) written old new = ⊥
@@ -100,3 +105,15 @@ module _ {D : Type 0} (tells : D → Bool) (files : D → Files) (count : D → 
     pub counted : length whys ≡ set.drives
     pub each : (k : ℕ) (default : D) → k < set.drives
         → StagedOn (IsBitSet set.out k) (written k) (slice_index_or whys k Good) (slice_index_or old k default) (slice_index_or new k default)
+
+module _ {D : Type 0} (tells : D → Bool) (files : D → Files) where
+  -- one drive, on which a stage put none of these files in place, and changed no loose file but its own
+  pub record PlacesNoneOn (out : Type 0) (written : List StagedFile) (old new : D) : Type 0 where
+    pub leaves : IsTrue (tells old) → HasNoLoose written (files old) → Leaves [] written (files old) (files new)
+    pub skipped : out → new ≡ old
+
+  -- each drive, where nothing of these files was put in place; what counts of them is their loose names
+  pub record PlacesNothing (set : SetPlan) (written : List StagedFile) (old new : List D) : Type 0 where
+    pub drives : length new ≡ length old
+    pub each : (k : ℕ) (default : D) → k < set.drives
+        → PlacesNoneOn (IsBitSet set.out k) written (slice_index_or old k default) (slice_index_or new k default)

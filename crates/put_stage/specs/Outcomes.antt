@@ -16,7 +16,7 @@ use Rattle.manifest_file.specs.declared.manifest.Manifest.{Manifest}
 use Rattle.manifest_file.specs.declared.manifest.ManifestPart.{ManifestPart}
 use Rattle.shard_file.specs.Shards.{root_of, shard_bytes}
 use Rattle.body_print.specs.Shards.{AreShards}
-use Rattle.put_stage.specs.OnDrives.{StagedFile, StagesOn, manifest_and_shard}
+use Rattle.put_stage.specs.OnDrives.{PlacesNothing, StagedFile, StagesOn, manifest_and_shard}
 use Rattle.put_stage.specs.declared.staged.Staged.{Staged}
 use Rattle.put_stage.specs.declared.staged.StageFault.{StageFault}
 use Rattle.put_stage.specs.declared.staged.StageFault.TheVariants.{WriteQuorum, BadDigest, BodyCut, ReadFault, NoMemory}
@@ -58,6 +58,15 @@ Answers set whys print long etag (Err BodyCut) = ⊥
 Answers set whys print long etag (Err ReadFault) = ⊥
 Answers set whys print long etag (Err NoMemory) = ⊥
 
+-- a stage that was refused for its body, or for want of memory, left the drives as they were
+abbrev pub Untouched : {T D : Type 0} → Result T StageFault → List D → List D → Type 0
+Untouched (Ok _) old new = Unit {0}
+Untouched (Err (WriteQuorum _)) old new = Unit {0}
+Untouched (Err (BadDigest _ _)) old new = new ≡ old
+Untouched (Err BodyCut) old new = new ≡ old
+Untouched (Err ReadFault) old new = new ≡ old
+Untouched (Err NoMemory) old new = new ≡ old
+
 -- what a stage of a body writes on each drive: the manifest, and the shard of the drive
 abbrev pub files_of : VersionId → List ℕ → List (List ℕ) → ℕ → List StagedFile
 files_of id manifest shards k = manifest_and_shard id manifest (slice_index_or shards k [])
@@ -89,7 +98,7 @@ module _ {D : Type 0} (tells : D → Bool) (files : D → Files) (count : D → 
   Stages set id name body stated (Ok staged) old new = IsStaged set id name body stated staged old new
   Stages set id name body stated (Err (WriteQuorum whys)) old new = IsShort set id name body stated whys old new
   Stages set id name body stated (Err (BadDigest given computed)) old new =
-      (stated ≡ Some given) × (computed ≡ md5 body) × (given ≢ computed) × (new ≡ old)
+      (stated ≡ Some given) × (computed ≡ md5 body) × (given ≢ computed) × PlacesNothing tells files set (manifest_and_shard id [] []) old new
   Stages set id name body stated (Err BodyCut) old new = ⊥
   Stages set id name body stated (Err ReadFault) old new = ⊥
-  Stages set id name body stated (Err NoMemory) old new = new ≡ old
+  Stages set id name body stated (Err NoMemory) old new = PlacesNothing tells files set (manifest_and_shard id [] []) old new

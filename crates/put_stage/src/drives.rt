@@ -2,7 +2,7 @@
 
 ghost use Rattle.std.specs.Prelude.{◌≡◌, ◌<◌, ◌≤◌, IsTrue, OnOk, OnErr};
 ghost use Rattle.std.specs.Int.{IsBitSet};
-ghost use Rattle.put_stage.specs.OnDrives.{HasNoLoose, Leaves, MayBeStaged, StagedOn, manifest_and_shard};
+ghost use Rattle.put_stage.specs.OnDrives.{HasNoLoose, LeavesAll, MayBeStaged, StagedOn, manifest_and_shard};
 ghost use Rattle.put_stage.specs.Steps.{EitherCause};
 
 use crate::names::Names;
@@ -18,7 +18,7 @@ fn write_both<D: Drive>(
     shard: &[u8],
 ) -> Result<(), Why>
     ensures ok { let written = manifest_and_shard names.now.id manifest.now shard.now in
-        OnOk result (IsTrue (D.tells drive.old) → HasNoLoose written (D.files drive.old) → Leaves written written (D.files drive.old) (D.files drive.new)) }
+        OnOk result (IsTrue (D.tells drive.old) → HasNoLoose written (D.files drive.old) → LeavesAll written (D.files drive.old) (D.files drive.new)) }
     ensures err { let written = manifest_and_shard names.now.id manifest.now shard.now in
         OnErr result (IsTrue (D.tells drive.old) → HasNoLoose written (D.files drive.old) → MayBeStaged written (D.files drive.old) (D.files drive.new)) }
     ensures cause { EitherCause (IsTrue (D.tells drive.old)) result (D.count drive.old) (D.count drive.new) }

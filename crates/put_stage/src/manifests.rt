@@ -5,7 +5,8 @@ ghost use Rattle.std.specs.Int.{IsBitSet};
 ghost use Rattle.drive_files.specs.Writing.{StepCause};
 ghost use Rattle.manifest_file.specs.Canonical.{IsCanonical};
 ghost use Rattle.put_stage.specs.Manifests.{StagesManifest, same_manifest, total_size};
-ghost use Rattle.put_stage.specs.OnDrives.{HasNoLoose, Leaves, MayBeStaged, StagedOn, StagesOn, manifest_alone};
+ghost use Rattle.put_stage.specs.OnDrives.{HasNoLoose, LeavesAll, MayBeStaged, StagedOn, StagesOn, manifest_alone};
+ghost use Rattle.put_stage.specs.Outcomes.{Untouched};
 
 use crate::answers::answer;
 use crate::names::{Names, names_of};
@@ -36,6 +37,7 @@ pub fn stage_manifest<D: Drive>(
     requires same_drives { manifest.now.drives ≡ set.drives }
     requires same_parity { manifest.now.parity ≡ set.parity }
     ensures outcome { StagesManifest D.tells D.files D.count set id manifest.now etag result drives.old drives.new }
+    ensures untouched { Untouched result drives.old drives.new }
     ensures tells { (k : ℕ) (d : D) → k < length drives.old → D.tells (slice_index_or drives.new k d) ≡ D.tells (slice_index_or drives.old k d) }
     ensures counts { (k : ℕ) (d : D) → k < length drives.old → D.count (slice_index_or drives.old k d) ≤ D.count (slice_index_or drives.new k d) }
 {
@@ -99,7 +101,7 @@ fn manifest_on<D: Drive>(
 /// Writes a manifest under its loose name, and puts it in place.
 fn write_manifest<D: Drive>(drive: &mut D, names: &Names, manifest: &[u8]) -> Result<(), Why>
     ensures ok { let written = manifest_alone names.now.id manifest.now in
-        OnOk result (IsTrue (D.tells drive.old) → HasNoLoose written (D.files drive.old) → Leaves written written (D.files drive.old) (D.files drive.new)) }
+        OnOk result (IsTrue (D.tells drive.old) → HasNoLoose written (D.files drive.old) → LeavesAll written (D.files drive.old) (D.files drive.new)) }
     ensures err { let written = manifest_alone names.now.id manifest.now in
         OnErr result (IsTrue (D.tells drive.old) → HasNoLoose written (D.files drive.old) → MayBeStaged written (D.files drive.old) (D.files drive.new)) }
     ensures cause { StepCause FileKind.Manifest (IsTrue (D.tells drive.old)) result (D.count drive.old) (D.count drive.new) }
