@@ -113,7 +113,7 @@ module _ {D : Type 0} (tells : D → Bool) (files : D → Files) where
           other = table_of shard;
           differ = differ;
           same = sym is.is_table.digest ∙ root;
-          was_read = piece_read drives part k d is.table inside (λ told. let t = is.is_table.shown told in (t.2.0, (t.0, t.1, t.2.2)));
+          was_read = piece_read drives part k d is.table inside (λ told. let t = is.is_table.shown told in (t.2.0, (t.0, t.1, t.2.3)));
           is = record { shards = shards; are = are; r = k; within = low; is = inl refl };
         })
       ]

@@ -67,6 +67,7 @@ table_widens d n at size root some is ends file (Digest stored computed) damage 
   (
     at,
     size,
+    is,
     (λ blocks fit. ap (take size) (ends blocks fit)
         ∙ take_all size (table_of blocks) (omega (arith, is, length-table_of blocks, length-shard d n blocks fit))),
     damage.2,

@@ -34,14 +34,15 @@ abbrev pub size_of : SetPlan → ManifestPart → ℕ → ℕ
 size_of set part i = block_size (data_drives set.drives set.parity) (stripe_length part.length i)
 
 module _ {D : Type 0} (tells : D → Bool) (files : D → Files) (count : D → ℕ) where
-  -- a drive of this number has this block, with the digest that its table has for it
+  -- a drive of this number isn't out and has this block, with the digest that its table has for it
   abbrev pub Gives : SetPlan → ManifestPart → ℕ → List D → ℕ → List ℕ → List ℕ → Type 0
-  Gives set part i drives k stored block = (d : D) → IsFetched (data_drives set.drives set.parity) part i (slice_index_or part.roots k [])
-      (tells (slice_index_or drives k d)) (files (slice_index_or drives k d)) stored block
+  Gives set part i drives k stored block = (IsBitSet set.out k → ⊥)
+      × ((d : D) → IsFetched (data_drives set.drives set.parity) part i (slice_index_or part.roots k [])
+      (tells (slice_index_or drives k d)) (files (slice_index_or drives k d)) stored block)
 
   -- why it gave none
-  abbrev pub GivesNot : SetPlan → ManifestPart → List D → List D → ℕ → Why → Type 0
-  GivesNot set part old new k why = (d : D) → NoBlock (data_drives set.drives set.parity) part (slice_index_or part.roots k []) why (IsBitSet set.out k)
+  abbrev pub GivesNot : SetPlan → ManifestPart → ℕ → List D → List D → ℕ → Why → Type 0
+  GivesNot set part i old new k why = (d : D) → NoBlock (data_drives set.drives set.parity) part i (slice_index_or part.roots k []) why (IsBitSet set.out k)
       (tells (slice_index_or old k d)) (files (slice_index_or old k d)) (count (slice_index_or old k d)) (count (slice_index_or new k d))
 
   -- the drives before a place gave the blocks of the rows, or their `Why` says why not, and the others are as they were; a
@@ -53,7 +54,7 @@ module _ {D : Type 0} (tells : D → Bool) (files : D → Files) (count : D → 
     pub below : All (λ row. row < place) found.rows.items
     pub at_hand : AreAtHand (size_of set part i) found whys
     pub each : (j : ℕ) → j < length found.rows.items → Gives set part i old (row_at found j) (stored_at found j) (block_at (size_of set part i) found j)
-    pub none : (k : ℕ) → k < place → GivesNot set part old new k (slice_index_or whys k Good)
+    pub none : (k : ℕ) → k < place → GivesNot set part i old new k (slice_index_or whys k Good)
     pub gave : (k : ℕ) → k < place → slice_index_or whys k Good ≡ Good → IsRow found k
     pub others : (k : ℕ) (d : D) → place ≤ k → slice_index_or new k d ≡ slice_index_or old k d
 
@@ -88,10 +89,12 @@ found_more {D = D} tells files count set part i place found next whys whys_next 
     let size = size_of set part i in
     let rows = found.rows.items in
     let hand = so_far.at_hand in
-    let is : Gives tells files count set part i old place stored block =
-    λ d. subst (λ (x : D). IsFetched (data_drives set.drives set.parity) part i (slice_index_or part.roots place []) (tells x) (files x) stored block)
-    (so_far.others place d (omega arith)) (gives d) in
-    let long : length block ≡ size = (is (some_of old some)).size in
+    let is : Gives tells files count set part i old place stored block = (
+      gives.0,
+      λ d. subst (λ (x : D). IsFetched (data_drives set.drives set.parity) part i (slice_index_or part.roots place []) (tells x) (files x) stored block)
+          (so_far.others place d (omega arith)) (gives.1 d),
+    ) in
+    let long : length block ≡ size = (is.1 (some_of old some)).size in
     let count_rows : length next.rows.items ≡ length rows + 1 = ap (length {A = ℕ}) rows_are ∙ length-append rows (place ∷ []) in
     let count_stored : length next.stored.items ≡ length found.stored.items + 1 =
     ap (length {A = List ℕ}) stored_are ∙ length-append found.stored.items (stored ∷ []) in
@@ -141,16 +144,16 @@ found_more {D = D} tells files count set part i place found next whys whys_next 
             (ap (λ (b : List ℕ). piece size b (length rows)) bytes_are ∙ piece_added size (length rows) found.bytes.items block hand.long long)
             is)
       ];
-      none = λ k low d. subst (λ (why : Why). NoBlock (data_drives set.drives set.parity) part (slice_index_or part.roots k []) why (IsBitSet set.out k)
+      none = λ k low d. subst (λ (why : Why). NoBlock (data_drives set.drives set.parity) part i (slice_index_or part.roots k []) why (IsBitSet set.out k)
           (tells (slice_index_or old k d)) (files (slice_index_or old k d)) (count (slice_index_or old k d)) (count (slice_index_or new k d)))
           (sym (ap (λ (w : List Why). slice_index_or w k Good) whys_are))
           (elim (cases_eq k place) [
             | inl at ↦
-                subst (λ (why : Why). NoBlock (data_drives set.drives set.parity) part (slice_index_or part.roots k []) why (IsBitSet set.out k)
+                subst (λ (why : Why). NoBlock (data_drives set.drives set.parity) part i (slice_index_or part.roots k []) why (IsBitSet set.out k)
                 (tells (slice_index_or old k d)) (files (slice_index_or old k d)) (count (slice_index_or old k d)) (count (slice_index_or new k d)))
                 (sym (so_far.good k (omega arith))) tt
             | inr other ↦
-                subst (λ (x : D). NoBlock (data_drives set.drives set.parity) part (slice_index_or part.roots k []) (slice_index_or whys k Good) (IsBitSet set.out k)
+                subst (λ (x : D). NoBlock (data_drives set.drives set.parity) part i (slice_index_or part.roots k []) (slice_index_or whys k Good) (IsBitSet set.out k)
                 (tells (slice_index_or old k d)) (files (slice_index_or old k d)) (count (slice_index_or old k d)) (count x))
                 (sym (others k d other)) (so_far.none k (omega arith) d)
           ]);
@@ -171,7 +174,7 @@ good_and_bad why good bad = let same : is_good why ≡ is_good Good = ap is_good
 pub found_no_more : {D : Type 0} (tells : D → Bool) (files : D → Files) (count : D → ℕ) (set : SetPlan) (part : ManifestPart) (i place : ℕ)
     (found : Blocks) (whys : List Why) (old mid new : List D) (why : Why) → 0 < length old → place < set.drives
     → AreFound tells files count set part i place found whys old mid
-    → ((d : D) → IsNoBlock (data_drives set.drives set.parity) part (slice_index_or part.roots place []) (Because why) (IsBitSet set.out place)
+    → ((d : D) → IsNoBlock (data_drives set.drives set.parity) part i (slice_index_or part.roots place []) (Because why) (IsBitSet set.out place)
     (tells (slice_index_or mid place d)) (files (slice_index_or mid place d)) (count (slice_index_or mid place d)) (count (slice_index_or new place d)))
     → ((k : ℕ) (d : D) → k ≢ place → slice_index_or new k d ≡ slice_index_or mid k d)
     → AreFound tells files count set part i (place + 1) found (slice_set whys place why) old new
@@ -198,19 +201,19 @@ found_no_more {D = D} tells files count set part i place found whys old mid new 
       each = so_far.each;
       none = λ k before d. elim (cases_eq k place) [
         | inl at ↦
-            subst (λ (m : ℕ). NoBlock (data_drives set.drives set.parity) part (slice_index_or part.roots m []) (slice_index_or (slice_set whys place why) m Good) (IsBitSet set.out m)
+            subst (λ (m : ℕ). NoBlock (data_drives set.drives set.parity) part i (slice_index_or part.roots m []) (slice_index_or (slice_set whys place why) m Good) (IsBitSet set.out m)
             (tells (slice_index_or old m d)) (files (slice_index_or old m d)) (count (slice_index_or old m d)) (count (slice_index_or new m d))) (sym at)
-            (subst (λ (v : Why). NoBlock (data_drives set.drives set.parity) part (slice_index_or part.roots place []) v (IsBitSet set.out place)
+            (subst (λ (v : Why). NoBlock (data_drives set.drives set.parity) part i (slice_index_or part.roots place []) v (IsBitSet set.out place)
             (tells (slice_index_or old place d)) (files (slice_index_or old place d)) (count (slice_index_or old place d)) (count (slice_index_or new place d)))
             (sym (get_or-set_at whys place place why Good refl inside))
-            (subst (λ (x : D). NoBlock (data_drives set.drives set.parity) part (slice_index_or part.roots place []) why (IsBitSet set.out place)
+            (subst (λ (x : D). NoBlock (data_drives set.drives set.parity) part i (slice_index_or part.roots place []) why (IsBitSet set.out place)
             (tells x) (files x) (count x) (count (slice_index_or new place d)))
             (so_far.others place d (omega arith)) ((gives d).1)))
         | inr other ↦
-            subst (λ (v : Why). NoBlock (data_drives set.drives set.parity) part (slice_index_or part.roots k []) v (IsBitSet set.out k)
+            subst (λ (v : Why). NoBlock (data_drives set.drives set.parity) part i (slice_index_or part.roots k []) v (IsBitSet set.out k)
             (tells (slice_index_or old k d)) (files (slice_index_or old k d)) (count (slice_index_or old k d)) (count (slice_index_or new k d)))
             (sym (get_or-set_other whys place k why Good other))
-            (subst (λ (x : D). NoBlock (data_drives set.drives set.parity) part (slice_index_or part.roots k []) (slice_index_or whys k Good) (IsBitSet set.out k)
+            (subst (λ (x : D). NoBlock (data_drives set.drives set.parity) part i (slice_index_or part.roots k []) (slice_index_or whys k Good) (IsBitSet set.out k)
             (tells (slice_index_or old k d)) (files (slice_index_or old k d)) (count (slice_index_or old k d)) (count x))
             (sym (others k d other)) (so_far.none k (omega arith) d))
       ];
@@ -238,10 +241,10 @@ found_at_hand tells files count set part i place size found whys old new is so_f
 
 -- the blocks that are left of them after they were compared
 pub found_sifted : {D : Type 0} (tells : D → Bool) (files : D → Files) (count : D → ℕ) (set : SetPlan) (part : ManifestPart) (i place size from : ℕ)
-    (found next : Blocks) (whys whys_next : List Why) (old new : List D) → i < stripe_count part.length → size ≡ size_of set part i
+    (found next : Blocks) (whys whys_next : List Why) (old new : List D) → size ≡ size_of set part i
     → AreFound tells files count set part i place found whys old new → AreSifted size from found next whys whys_next
     → AreFound tells files count set part i place next whys_next old new
-found_sifted {D = D} tells files count set part i place size from found next whys whys_next old new within is so_far sifted_so =
+found_sifted {D = D} tells files count set part i place size from found next whys whys_next old new is so_far sifted_so =
     let long = size_of set part i in
     let sifted : AreSifted long from found next whys whys_next = subst (λ (n : ℕ). AreSifted n from found next whys whys_next) is sifted_so in
     record {
@@ -262,16 +265,16 @@ found_sifted {D = D} tells files count set part i place size from found next why
           (block_at long found row_of.0) (block_at long next j) row_of.3 row_of.4 row_of.5 (so_far.each row_of.0 row_of.1);
       none = λ k low d. elim (sifted.causes k) [
         | inl same ↦
-            subst (λ (why : Why). GivesNot tells files count set part old new k why) (sym same) (so_far.none k low) d
+            subst (λ (why : Why). GivesNot tells files count set part i old new k why) (sym same) (so_far.none k low) d
         | inr told ↦
             let stored = stored_at found told.0 in
             let block = block_at long found told.0 in
             let gives : Gives tells files count set part i old k stored block =
             subst (λ (m : ℕ). Gives tells files count set part i old m stored block) told.2 (so_far.each told.0 told.1) in
-            subst (λ (why : Why). GivesNot tells files count set part old new k why) (sym told.4)
+            subst (λ (why : Why). GivesNot tells files count set part i old new k why) (sym told.4)
             (λ x. fetched_damage (data_drives set.drives set.parity) part i (slice_index_or part.roots k []) (IsBitSet set.out k)
             (tells (slice_index_or old k x)) (files (slice_index_or old k x)) (count (slice_index_or old k x)) (count (slice_index_or new k x))
-            stored block within (gives x) told.3) d
+            stored block gives.0 (gives.1 x) told.3) d
       ];
       gave = λ k low good.
           let was : slice_index_or whys k Good ≡ Good = elim (sifted.causes k) [
@@ -292,18 +295,18 @@ verified_row : {D : Type 0} (tells : D → Bool) (files : D → Files) (count : 
     (tells (slice_index_or old (row_at found j) d)) (files (slice_index_or old (row_at found j) d)) (block_at (size_of set part i) found j)
 verified_row tells files count set part i place found whys old new are j low d same = record {
   digest = stored_at found j;
-  fetched = are.each j low d;
+  fetched = (are.each j low).1 d;
   same = same;
 }
 
 -- as many verified blocks as a stripe has data blocks
 pub found_enough : {D : Type 0} (tells : D → Bool) (files : D → Files) (count : D → ℕ) (set : SetPlan) (part : ManifestPart) (i place size : ℕ)
-    (found next : Blocks) (whys whys_next : List Why) (old new : List D) → i < stripe_count part.length → size ≡ size_of set part i
+    (found next : Blocks) (whys whys_next : List Why) (old new : List D) → size ≡ size_of set part i
     → place ≤ set.drives → length next.rows.items ≡ data_drives set.drives set.parity
     → AreFound tells files count set part i place found whys old new → AreSifted size 0 found next whys whys_next
     → AreEnough tells files set part i next.rows.items next.bytes.items old
-found_enough tells files count set part i place size found next whys whys_next old new within is inside enough so_far sifted =
-    let after = found_sifted tells files count set part i place size 0 found next whys whys_next old new within is so_far sifted in
+found_enough tells files count set part i place size found next whys whys_next old new is inside enough so_far sifted =
+    let after = found_sifted tells files count set part i place size 0 found next whys whys_next old new is so_far sifted in
     record {
       count = enough;
       below = All-weaker (λ row. row < place) (λ row. row < set.drives) (λ row low. omega arith) next.rows.items after.below;
@@ -321,7 +324,7 @@ pub found_few : {D : Type 0} (tells : D → Bool) (files : D → Files) (count :
     → AreFound tells files count set part i place found whys old new → AreSifted size 0 found next whys whys_next
     → NoneMore tells files count set part whys_next old new
 found_few tells files count set part i place size found next whys whys_next old new within is all few so_far sifted =
-    let after = found_sifted tells files count set part i place size 0 found next whys whys_next old new within is so_far sifted in
+    let after = found_sifted tells files count set part i place size 0 found next whys whys_next old new is so_far sifted in
     record {
       counted = after.counted;
       few = omega (arith, few, all, after.sum);
@@ -330,10 +333,13 @@ found_few tells files count set part i place size found next whys whys_next old 
       within = within;
       gave = λ k d low good.
           let row = after.gave k (omega (arith, low, all)) good in (
-            block_at (size_of set part i) next row.0,
-            subst (λ (drive : ℕ). IsVerified (data_drives set.drives set.parity) part i (slice_index_or part.roots drive [])
-                (tells (slice_index_or old drive d)) (files (slice_index_or old drive d)) (block_at (size_of set part i) next row.0)) row.2
-                (verified_row tells files count set part i place next whys_next old new after row.0 row.1 d
-                (subst (λ (n : ℕ). stored_at next row.0 ≡ sha256 (block_at n next row.0)) is (sifted.verified row.0 (omega arith) row.1))),
+            subst (λ (drive : ℕ). IsBitSet set.out drive → ⊥) row.2 (after.each row.0 row.1).0,
+            (
+              block_at (size_of set part i) next row.0,
+              subst (λ (drive : ℕ). IsVerified (data_drives set.drives set.parity) part i (slice_index_or part.roots drive [])
+                  (tells (slice_index_or old drive d)) (files (slice_index_or old drive d)) (block_at (size_of set part i) next row.0)) row.2
+                  (verified_row tells files count set part i place next whys_next old new after row.0 row.1 d
+                  (subst (λ (n : ℕ). stored_at next row.0 ≡ sha256 (block_at n next row.0)) is (sifted.verified row.0 (omega arith) row.1))),
+            ),
           );
     }

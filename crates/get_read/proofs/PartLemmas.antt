@@ -24,22 +24,24 @@ use Rattle.get_read.specs.declared.faults.ReadFaultKind.{ReadFaultKind}
 use Rattle.get_read.specs.declared.faults.ReadFaultKind.TheVariants.{InvalidRange, ShardQuorum, NoMemory}
 
 -- a cause that is told of drives that were kept is told of what they were
-no_block_before : (d : ℕ) (part : ManifestPart) (root : List ℕ) (why : Why) (out : Type 0) (tells tells_mid : Bool) (files files_mid : Files)
+no_block_before : (d : ℕ) (part : ManifestPart) (i : ℕ) (root : List ℕ) (why : Why) (out : Type 0) (tells tells_mid : Bool) (files files_mid : Files)
     (old mid new : ℕ) → tells_mid ≡ tells → (IsTrue tells → files_mid ≡ files) → old ≤ mid
-    → NoBlock d part root why out tells_mid files_mid mid new → NoBlock d part root why out tells files old new
-no_block_before d part root Good out tells tells_mid files files_mid old mid new same kept rose is = is
-no_block_before d part root (Failed before after) out tells tells_mid files files_mid old mid new same kept rose is =
-    (omega (arith, rose, is.0), is.1, is.2)
-no_block_before d part root (Damaged damage) out tells tells_mid files files_mid old mid new same kept rose is =
-    λ told.
-    let it = is (subst IsTrue (sym same) told) in
-    (it.0, sym (ap (λ (f : Files). f.shown (shard_name part.id)) (kept told)) ∙ it.1, it.2)
-no_block_before d part root (Behind ballot) out tells tells_mid files files_mid old mid new same kept rose is = is
-no_block_before d part root (Lacks Format) out tells tells_mid files files_mid old mid new same kept rose is = is
-no_block_before d part root (Lacks Register) out tells tells_mid files files_mid old mid new same kept rose is = is
-no_block_before d part root (Lacks Manifest) out tells tells_mid files files_mid old mid new same kept rose is = is
-no_block_before d part root (Lacks Shard) out tells tells_mid files files_mid old mid new same kept rose is =
-    λ told. sym (ap (λ (f : Files). f.shown (shard_name part.id)) (kept told)) ∙ is (subst IsTrue (sym same) told)
+    → NoBlock d part i root why out tells_mid files_mid mid new → NoBlock d part i root why out tells files old new
+no_block_before d part i root Good out tells tells_mid files files_mid old mid new same kept rose is = is
+no_block_before d part i root (Failed before after) out tells tells_mid files files_mid old mid new same kept rose is =
+    (is.0, (omega (arith, rose, is.1.0), is.1.1, is.1.2))
+no_block_before d part i root (Damaged damage) out tells tells_mid files files_mid old mid new same kept rose is = (
+  is.0,
+  λ told.
+      let it = is.1 (subst IsTrue (sym same) told) in
+      (it.0, sym (ap (λ (f : Files). f.shown (shard_name part.id)) (kept told)) ∙ it.1, it.2),
+)
+no_block_before d part i root (Behind ballot) out tells tells_mid files files_mid old mid new same kept rose is = is
+no_block_before d part i root (Lacks Format) out tells tells_mid files files_mid old mid new same kept rose is = is
+no_block_before d part i root (Lacks Register) out tells tells_mid files files_mid old mid new same kept rose is = is
+no_block_before d part i root (Lacks Manifest) out tells tells_mid files files_mid old mid new same kept rose is = is
+no_block_before d part i root (Lacks Shard) out tells tells_mid files files_mid old mid new same kept rose is =
+    (is.0, λ told. sym (ap (λ (f : Files). f.shown (shard_name part.id)) (kept told)) ∙ is.1 (subst IsTrue (sym same) told))
 
 module _ {D : Type 0} (tells : D → Bool) (files : D → Files) (count : D → ℕ) where
   -- the body has gained the bytes of so many stripes of a part
@@ -103,7 +105,7 @@ module _ {D : Type 0} (tells : D → Bool) (files : D → Files) (count : D → 
     few = few.few;
     each = λ k default low.
         let below : k < length old = omega (arith, low, all) in
-        no_block_before (data_drives set.drives set.parity) part (slice_index_or part.roots k []) (slice_index_or whys k Good) (IsBitSet set.out k)
+        no_block_before (data_drives set.drives set.parity) part few.stripe (slice_index_or part.roots k []) (slice_index_or whys k Good) (IsBitSet set.out k)
         (tells (slice_index_or old k default)) (tells (slice_index_or mid k default)) (files (slice_index_or old k default))
         (files (slice_index_or mid k default)) (count (slice_index_or old k default)) (count (slice_index_or mid k default))
         (count (slice_index_or new k default)) (kept.same k default below) (kept.held k default below) (kept.faults k default below)
@@ -114,9 +116,12 @@ module _ {D : Type 0} (tells : D → Bool) (files : D → Files) (count : D → 
         let below : k < length old = omega (arith, low, all) in
         let it = few.gave k default low good in (
           it.0,
-          verified_before (data_drives set.drives set.parity) part few.stripe (slice_index_or part.roots k [])
-              (tells (slice_index_or old k default)) (tells (slice_index_or mid k default)) (files (slice_index_or old k default))
-              (files (slice_index_or mid k default)) it.0 (kept.same k default below) (kept.held k default below) it.1,
+          (
+            it.1.0,
+            verified_before (data_drives set.drives set.parity) part few.stripe (slice_index_or part.roots k [])
+                (tells (slice_index_or old k default)) (tells (slice_index_or mid k default)) (files (slice_index_or old k default))
+                (files (slice_index_or mid k default)) it.1.0 (kept.same k default below) (kept.held k default below) it.1.1,
+          ),
         );
   }
 

@@ -55,10 +55,10 @@ pub record IsVerified (d : ℕ) (part : ManifestPart) (i : ℕ) (root : List ℕ
 abbrev pub GaveBlock : ℕ → ManifestPart → ℕ → List ℕ → Bool → Files → Type 0
 GaveBlock d part i root tells files = (block : List ℕ) × IsVerified d part i root tells files block
 
--- why a drive gave no block, or there was not enough memory
-abbrev pub IsNoBlock : ℕ → ManifestPart → List ℕ → NotGiven → Type 0 → Bool → Files → ℕ → ℕ → Type 0
-IsNoBlock d part root (Because why) out tells files old new = (is_good why ≡ false) × NoBlock d part root why out tells files old new
-IsNoBlock d part root NoMemory out tells files old new = Unit {0}
+-- why a drive gave no block of a stripe, or there was not enough memory
+abbrev pub IsNoBlock : ℕ → ManifestPart → ℕ → List ℕ → NotGiven → Type 0 → Bool → Files → ℕ → ℕ → Type 0
+IsNoBlock d part i root (Because why) out tells files old new = (is_good why ≡ false) × NoBlock d part i root why out tells files old new
+IsNoBlock d part i root NoMemory out tells files old new = Unit {0}
 
 module _ {D : Type 0} (tells : D → Bool) (files : D → Files) where
   -- what is held of each drive
@@ -79,18 +79,18 @@ module _ {D : Type 0} (tells : D → Bool) (files : D → Files) where
         (piece (block_size (data_drives set.drives set.parity) (stripe_length part.length i)) bytes j)
 
 module _ {D : Type 0} (tells : D → Bool) (files : D → Files) (count : D → ℕ) where
-  -- fewer drives than a stripe has data blocks gave a verified block of it, and why each other gave none
+  -- fewer drives than a stripe has data blocks gave a verified block of it, none of which is out, and why each other gave none
   pub record NoneMore (set : SetPlan) (part : ManifestPart) (whys : List Why) (old new : List D) : Type 0 where
     pub stripe : ℕ
     pub within : stripe < stripe_count part.length
     pub counted : length whys ≡ set.drives
     pub few : good_count whys < data_drives set.drives set.parity
     pub each : (k : ℕ) (default : D) → k < set.drives
-        → NoBlock (data_drives set.drives set.parity) part (slice_index_or part.roots k []) (slice_index_or whys k Good) (IsBitSet set.out k)
+        → NoBlock (data_drives set.drives set.parity) part stripe (slice_index_or part.roots k []) (slice_index_or whys k Good) (IsBitSet set.out k)
         (tells (slice_index_or old k default)) (files (slice_index_or old k default))
         (count (slice_index_or old k default)) (count (slice_index_or new k default))
     pub gave : (k : ℕ) (default : D) → k < set.drives → slice_index_or whys k Good ≡ Good
-        → GaveBlock (data_drives set.drives set.parity) part stripe (slice_index_or part.roots k [])
+        → (IsBitSet set.out k → ⊥) × GaveBlock (data_drives set.drives set.parity) part stripe (slice_index_or part.roots k [])
         (tells (slice_index_or old k default)) (files (slice_index_or old k default))
 
   -- the cause where too few blocks verified

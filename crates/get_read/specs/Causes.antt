@@ -75,7 +75,7 @@ IsTooShort d n file = (blocks : List (List ℕ)) → AreShardBlocks d n blocks �
 abbrev pub IsTableDamage : ℕ → ℕ → List ℕ → List ℕ → Damage → Type 0
 IsTableDamage d n root file (Short told) = IsTooShort d n file × (told ≡ length file)
 IsTableDamage d n root file (Digest stored computed) = (stored ≡ root) × (root ≢ computed)
-    × ((at : ℕ) × (long : ℕ) × IsTablePlace d n at long × (computed ≡ sha256 (take long (drop at file))))
+    × ((at : ℕ) × (long : ℕ) × (long ≡ 32 * stripe_count n) × IsTablePlace d n at long × (computed ≡ sha256 (take long (drop at file))))
 IsTableDamage d n root file (Kind _) = ⊥
 IsTableDamage d n root file (Spelling _) = ⊥
 
@@ -89,37 +89,40 @@ IsBlockDamage d n i table file (Spelling _) = ⊥
 
 -- these bytes are a file's at the place of the digest table
 abbrev pub IsTableOf : ℕ → ℕ → List ℕ → List ℕ → Type 0
-IsTableOf d n file table = (at : ℕ) × IsTablePlace d n at (length table) × (table ≡ take (length table) (drop at file))
+IsTableOf d n file table = (at : ℕ) × (length table ≡ 32 * stripe_count n) × IsTablePlace d n at (length table)
+    × (table ≡ take (length table) (drop at file))
 
 -- these bytes are a file's at the place of the block of a stripe
 abbrev pub IsBlockOf : ℕ → ℕ → ℕ → List ℕ → List ℕ → Type 0
 IsBlockOf d n i file block = (at : ℕ) × IsBlockPlace d n i at (length block) × (block ≡ take (length block) (drop at file))
 
--- the damage of a shard file of a part of n bytes: of its digest table, or of a block by its table, which has the root
-abbrev pub IsShardDamage : ℕ → ℕ → List ℕ → List ℕ → Damage → Type 0
-IsShardDamage d n root file damage = IsTableDamage d n root file damage
-    ⊎ ((table : List ℕ) × (i : ℕ) × (root ≡ sha256 table) × (i < stripe_count n) × IsTableOf d n file table × IsBlockDamage d n i table file damage)
+-- the damage of a shard file of a part of n bytes, where the block of a stripe is read: of its digest table, or of this
+-- block by its table, which has the root
+abbrev pub IsShardDamage : ℕ → ℕ → ℕ → List ℕ → List ℕ → Damage → Type 0
+IsShardDamage d n i root file damage = IsTableDamage d n root file damage
+    ⊎ ((table : List ℕ) × (root ≡ sha256 table) × IsTableOf d n file table × IsBlockDamage d n i table file damage)
 
--- why a drive gave no manifest
+-- why a drive gave no manifest: it is out, or it is asked, and fails, or shows a damaged one or none
 abbrev pub NoManifest : Wanted → VersionId → Why → Type 0 → Bool → Files → ℕ → ℕ → Type 0
 NoManifest wanted id Good out tells files old new = ⊥
-NoManifest wanted id (Failed before after) out tells files old new = FailedWhile before after old new
-NoManifest wanted id (Damaged damage) out tells files old new =
-    IsTrue tells → (file : List ℕ) × (files.shown (manifest_name id) ≡ Some file) × IsManifestDamage wanted file damage
+NoManifest wanted id (Failed before after) out tells files old new = (out → ⊥) × FailedWhile before after old new
+NoManifest wanted id (Damaged damage) out tells files old new = (out → ⊥)
+    × (IsTrue tells → (file : List ℕ) × (files.shown (manifest_name id) ≡ Some file) × IsManifestDamage wanted file damage)
 NoManifest wanted id (Behind _) out tells files old new = ⊥
 NoManifest wanted id (Lacks Format) out tells files old new = out
-NoManifest wanted id (Lacks Manifest) out tells files old new = IsTrue tells → files.shown (manifest_name id) ≡ None
+NoManifest wanted id (Lacks Manifest) out tells files old new = (out → ⊥) × (IsTrue tells → files.shown (manifest_name id) ≡ None)
 NoManifest wanted id (Lacks Shard) out tells files old new = ⊥
 NoManifest wanted id (Lacks Register) out tells files old new = ⊥
 
--- why a drive gave no block of a part, of which a stripe has d data blocks
-abbrev pub NoBlock : ℕ → ManifestPart → List ℕ → Why → Type 0 → Bool → Files → ℕ → ℕ → Type 0
-NoBlock d part root Good out tells files old new = Unit {0}
-NoBlock d part root (Failed before after) out tells files old new = FailedWhile before after old new
-NoBlock d part root (Damaged damage) out tells files old new =
-    IsTrue tells → (file : List ℕ) × (files.shown (shard_name part.id) ≡ Some file) × IsShardDamage d part.length root file damage
-NoBlock d part root (Behind _) out tells files old new = ⊥
-NoBlock d part root (Lacks Format) out tells files old new = out
-NoBlock d part root (Lacks Shard) out tells files old new = IsTrue tells → files.shown (shard_name part.id) ≡ None
-NoBlock d part root (Lacks Manifest) out tells files old new = ⊥
-NoBlock d part root (Lacks Register) out tells files old new = ⊥
+-- why a drive gave no block of stripe i of a part, where a stripe has d data blocks: it is out, or it is asked, and fails, or
+-- shows a shard file that is damaged where this block is read, or none
+abbrev pub NoBlock : ℕ → ManifestPart → ℕ → List ℕ → Why → Type 0 → Bool → Files → ℕ → ℕ → Type 0
+NoBlock d part i root Good out tells files old new = Unit {0}
+NoBlock d part i root (Failed before after) out tells files old new = (out → ⊥) × FailedWhile before after old new
+NoBlock d part i root (Damaged damage) out tells files old new = (out → ⊥)
+    × (IsTrue tells → (file : List ℕ) × (files.shown (shard_name part.id) ≡ Some file) × IsShardDamage d part.length i root file damage)
+NoBlock d part i root (Behind _) out tells files old new = ⊥
+NoBlock d part i root (Lacks Format) out tells files old new = out
+NoBlock d part i root (Lacks Shard) out tells files old new = (out → ⊥) × (IsTrue tells → files.shown (shard_name part.id) ≡ None)
+NoBlock d part i root (Lacks Manifest) out tells files old new = ⊥
+NoBlock d part i root (Lacks Register) out tells files old new = ⊥

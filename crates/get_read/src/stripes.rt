@@ -92,7 +92,8 @@ fn block_at<D: Drive>(
     ensures held { AreHeld D.tells D.files (data_drives set.drives set.parity) part.now tables.new drives.new }
     ensures tables { length tables.new ≡ length tables.old }
     ensures fetched { IfOk result (λ fetched. (d : D) → IsFetched (data_drives set.drives set.parity) part.now stripe (slice_index_or part.now.roots index []) (D.tells (slice_index_or drives.old index d)) (D.files (slice_index_or drives.old index d)) fetched.stored fetched.block.items) }
-    ensures cause { IfErr result (λ fault. (d : D) → IsNoBlock (data_drives set.drives set.parity) part.now (slice_index_or part.now.roots index []) fault (IsBitSet set.out index) (D.tells (slice_index_or drives.old index d)) (D.files (slice_index_or drives.old index d)) (D.count (slice_index_or drives.old index d)) (D.count (slice_index_or drives.new index d))) }
+    ensures in_use { IfOk result (λ _. IsBitSet set.out index → ⊥) }
+    ensures cause { IfErr result (λ fault. (d : D) → IsNoBlock (data_drives set.drives set.parity) part.now stripe (slice_index_or part.now.roots index []) fault (IsBitSet set.out index) (D.tells (slice_index_or drives.old index d)) (D.files (slice_index_or drives.old index d)) (D.count (slice_index_or drives.old index d)) (D.count (slice_index_or drives.new index d))) }
     ensures others { (k : ℕ) (d : D) → k ≢ index → slice_index_or drives.new k d ≡ slice_index_or drives.old k d }
     ensures kept { AreKept D.tells D.files D.count set.out drives.old drives.new }
 {
@@ -119,7 +120,8 @@ fn fetched<D: Drive>(
     requires held { IsHeld (data_drives set.drives set.parity) part.now (slice_index_or part.now.roots index []) (D.tells drive.old) (D.files drive.old) table.old.items }
     ensures held { IsHeld (data_drives set.drives set.parity) part.now (slice_index_or part.now.roots index []) (D.tells drive.old) (D.files drive.old) table.new.items }
     ensures fetched { IfOk result (λ fetched. IsFetched (data_drives set.drives set.parity) part.now stripe (slice_index_or part.now.roots index []) (D.tells drive.old) (D.files drive.old) fetched.stored fetched.block.items) }
-    ensures cause { IfErr result (λ fault. IsNoBlock (data_drives set.drives set.parity) part.now (slice_index_or part.now.roots index []) fault (IsBitSet set.out index) (D.tells drive.old) (D.files drive.old) (D.count drive.old) (D.count drive.new)) }
+    ensures in_use { IfOk result (λ _. IsBitSet set.out index → ⊥) }
+    ensures cause { IfErr result (λ fault. IsNoBlock (data_drives set.drives set.parity) part.now stripe (slice_index_or part.now.roots index []) fault (IsBitSet set.out index) (D.tells drive.old) (D.files drive.old) (D.count drive.old) (D.count drive.new)) }
     ensures alone { IsBitSet set.out index → drive.new ≡ drive.old }
     ensures files { IsTrue (D.tells drive.old) → D.files drive.new ≡ D.files drive.old }
     ensures tells { D.tells drive.new ≡ D.tells drive.old }

@@ -87,15 +87,15 @@ no_manifest_rose : (wanted : Wanted) (id : VersionId) (why : Why) (out : Type 0)
     → (out → ⊥) → IsTrue tells → IsCanonical m → Serves wanted m → files.shown (manifest_name id) ≡ Some (file_of m)
     → NoManifest wanted id why out tells files old new → Rose old new
 no_manifest_rose wanted id Good out tells files old new m in_use told canonical serves there cause = absurd cause
-no_manifest_rose wanted id (Failed before after) out tells files old new m in_use told canonical serves there cause = rose_while before after old new cause
+no_manifest_rose wanted id (Failed before after) out tells files old new m in_use told canonical serves there cause = rose_while before after old new cause.1
 no_manifest_rose wanted id (Damaged damage) out tells files old new m in_use told canonical serves there cause =
-    let (file, shown, is) = cause told in
+    let (file, shown, is) = cause.1 told in
     let same : file ≡ file_of m = (let e : Some file ≡ Some (file_of m) = sym shown ∙ there in cc) in
     absurd (serves_undamaged wanted m damage canonical serves (subst (λ f. IsManifestDamage wanted f damage) same is))
 no_manifest_rose wanted id (Behind behind) out tells files old new m in_use told canonical serves there cause = absurd cause
 no_manifest_rose wanted id (Lacks Format) out tells files old new m in_use told canonical serves there cause = absurd (in_use cause)
 no_manifest_rose wanted id (Lacks ManifestKind) out tells files old new m in_use told canonical serves there cause =
-    absurd (let e : None ≡ Some (file_of m) = sym (cause told) ∙ there in cc)
+    absurd (let e : None ≡ Some (file_of m) = sym (cause.1 told) ∙ there in cc)
 no_manifest_rose wanted id (Lacks Shard) out tells files old new m in_use told canonical serves there cause = absurd cause
 no_manifest_rose wanted id (Lacks Register) out tells files old new m in_use told canonical serves there cause = absurd cause
 
@@ -104,7 +104,7 @@ no_manifest_rose wanted id (Lacks Register) out tells files old new m in_use tol
 -- where a table is read, the shard file of these blocks has theirs
 table_undamaged : (n : ℕ) (blocks : List (List ℕ)) (damage : Damage) → AreShardBlocks 2 n blocks → IsTableDamage 2 n (root_of blocks) (shard_bytes blocks) damage → ⊥
 table_undamaged n blocks (Short long) are is = let low = is.0 blocks are in omega arith
-table_undamaged n blocks (Digest stored computed) are (stored_is, differs, (at, long, place, hashed)) =
+table_undamaged n blocks (Digest stored computed) are (stored_is, differs, (at, long, all, place, hashed)) =
     differs (sym (hashed ∙ ap sha256 (place blocks are)))
 table_undamaged n blocks (Kind kind) are is = is
 table_undamaged n blocks (Spelling place) are is = is
@@ -119,29 +119,30 @@ block_undamaged n blocks table i (Digest stored computed) are low same (stored_i
 block_undamaged n blocks table i (Kind kind) are low same is = is
 block_undamaged n blocks table i (Spelling place) are low same is = is
 
-shard_undamaged : (n : ℕ) (blocks : List (List ℕ)) (damage : Damage) → AreShardBlocks 2 n blocks → IsShardDamage 2 n (root_of blocks) (shard_bytes blocks) damage → ⊥
-shard_undamaged n blocks damage are (inl is) = table_undamaged n blocks damage are is
-shard_undamaged n blocks damage are (inr (table, i, root, low, (at, place, read), is)) =
+shard_undamaged : (n i : ℕ) (blocks : List (List ℕ)) (damage : Damage) → AreShardBlocks 2 n blocks → i < stripe_count n
+    → IsShardDamage 2 n i (root_of blocks) (shard_bytes blocks) damage → ⊥
+shard_undamaged n i blocks damage are low (inl is) = table_undamaged n blocks damage are is
+shard_undamaged n i blocks damage are low (inr (table, root, (at, long, place, read), is)) =
     block_undamaged n blocks table i damage are low (read ∙ place blocks are) is
 
 -- a drive that shows the shard file of these blocks gave none of them: its count rose
-no_block_rose : (part : ManifestPart) (root : List ℕ) (why : Why) (out : Type 0) (tells : Bool) (files : Files) (old new : ℕ) (blocks : List (List ℕ))
-    → (out → ⊥) → IsTrue tells → is_good why ≡ false → AreShardBlocks 2 part.length blocks → root ≡ root_of blocks
+no_block_rose : (part : ManifestPart) (i : ℕ) (root : List ℕ) (why : Why) (out : Type 0) (tells : Bool) (files : Files) (old new : ℕ) (blocks : List (List ℕ))
+    → (out → ⊥) → IsTrue tells → is_good why ≡ false → AreShardBlocks 2 part.length blocks → i < stripe_count part.length → root ≡ root_of blocks
     → files.shown (shard_name part.id) ≡ Some (shard_bytes blocks)
-    → NoBlock 2 part root why out tells files old new → Rose old new
-no_block_rose part root Good out tells files old new blocks in_use told bad are same there cause = absurd cc
-no_block_rose part root (Failed before after) out tells files old new blocks in_use told bad are same there cause = rose_while before after old new cause
-no_block_rose part root (Damaged damage) out tells files old new blocks in_use told bad are same there cause =
-    let (file, shown, is) = cause told in
+    → NoBlock 2 part i root why out tells files old new → Rose old new
+no_block_rose part i root Good out tells files old new blocks in_use told bad are low same there cause = absurd cc
+no_block_rose part i root (Failed before after) out tells files old new blocks in_use told bad are low same there cause = rose_while before after old new cause.1
+no_block_rose part i root (Damaged damage) out tells files old new blocks in_use told bad are low same there cause =
+    let (file, shown, is) = cause.1 told in
     let whole : file ≡ shard_bytes blocks = (let e : Some file ≡ Some (shard_bytes blocks) = sym shown ∙ there in cc) in
-    absurd (shard_undamaged part.length blocks damage are
-    (subst (λ r. IsShardDamage 2 part.length r (shard_bytes blocks) damage) same (subst (λ f. IsShardDamage 2 part.length root f damage) whole is)))
-no_block_rose part root (Behind behind) out tells files old new blocks in_use told bad are same there cause = absurd cause
-no_block_rose part root (Lacks Format) out tells files old new blocks in_use told bad are same there cause = absurd (in_use cause)
-no_block_rose part root (Lacks Shard) out tells files old new blocks in_use told bad are same there cause =
-    absurd (let e : None ≡ Some (shard_bytes blocks) = sym (cause told) ∙ there in cc)
-no_block_rose part root (Lacks ManifestKind) out tells files old new blocks in_use told bad are same there cause = absurd cause
-no_block_rose part root (Lacks Register) out tells files old new blocks in_use told bad are same there cause = absurd cause
+    absurd (shard_undamaged part.length i blocks damage are low
+    (subst (λ r. IsShardDamage 2 part.length i r (shard_bytes blocks) damage) same (subst (λ f. IsShardDamage 2 part.length i root f damage) whole is)))
+no_block_rose part i root (Behind behind) out tells files old new blocks in_use told bad are low same there cause = absurd cause
+no_block_rose part i root (Lacks Format) out tells files old new blocks in_use told bad are low same there cause = absurd (in_use cause)
+no_block_rose part i root (Lacks Shard) out tells files old new blocks in_use told bad are low same there cause =
+    absurd (let e : None ≡ Some (shard_bytes blocks) = sym (cause.1 told) ∙ there in cc)
+no_block_rose part i root (Lacks ManifestKind) out tells files old new blocks in_use told bad are low same there cause = absurd cause
+no_block_rose part i root (Lacks Register) out tells files old new blocks in_use told bad are low same there cause = absurd cause
 
 -- ---- the drives
 
@@ -243,8 +244,8 @@ module _ {D : Type 0} (tells : D → Bool) (files : D → Files) (count : D → 
           let there : (files (slice_index_or old k d)).shown (shard_name few.part.id) ≡ Some (shard_bytes blocks) =
           subst (λ (p : ManifestPart). (files (slice_index_or old k d)).shown (shard_name p.id) ≡ Some (shard_bytes blocks)) (sym part)
           (ap (λ (f : Named (List ℕ)). f (shard_name id)) (held.shows k d lt) ∙ (h.holds k d lt other).shard) in
-          no_block_rose few.part (slice_index_or few.part.roots k []) (slice_index_or whys k Good) (IsBitSet 0 k) (tells (slice_index_or old k d)) (files (slice_index_or old k d))
-          (count (slice_index_or old k d)) (count (slice_index_or new k d)) blocks (none_out k) (held.told k d lt) bad are root there (few.lacking.each k d low)
+          no_block_rose few.part few.lacking.stripe (slice_index_or few.part.roots k []) (slice_index_or whys k Good) (IsBitSet 0 k) (tells (slice_index_or old k d)) (files (slice_index_or old k d))
+          (count (slice_index_or old k d)) (count (slice_index_or new k d)) blocks (none_out k) (held.told k d lt) bad are few.lacking.within root there (few.lacking.each k d low)
 
   -- data that is held was not read: some drive's count rose
   pub data_cause : (id : VersionId) (print : List ℕ) (size : ℕ) (bodies : Named (List ℕ)) (old new : List D) → IsHeldWell id print size bodies old

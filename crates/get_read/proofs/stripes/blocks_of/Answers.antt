@@ -15,7 +15,7 @@ returns-then-are_enough-clause-enough g c =
     let sifted = c.are_enough.ensures.verified c.if-are_enough.true in
     let enough = c.are_enough.ensures.enough c.if-are_enough.true in
     found_enough D.tells D.files D.count set c.args.part.now c.args.stripe c.loop-index.index c.args.size c.loop-index.found blocks
-    c.loop-index.whys c.are_enough.new.whys c.args.drives.now c.loop-index.drives c.requires.within c.requires.size (omega arith)
+    c.loop-index.whys c.are_enough.new.whys c.args.drives.now c.loop-index.drives c.requires.size (omega arith)
     (enough ∙ c.read_quorum-wanted.ensures.quorum) c.loop-index.invariant.found sifted
 
 pub returns-in_err-add_block-in-Ok-clause-kept : goal.returns-in_err-add_block-in-Ok-clause-kept
@@ -45,7 +45,7 @@ loop-index-preserved g c =
     let sifted = c.are_enough.ensures.sifted in
     let found : AreFound D.tells D.files D.count set part c.args.stripe i blocks whys old mid =
     found_sifted D.tells D.files D.count set part c.args.stripe i c.args.size sifted.0 c.loop-index.found blocks c.loop-index.whys whys old mid
-    c.requires.within c.requires.size inv.found sifted.1 in
+    c.requires.size inv.found sifted.1 in
     let fewer : length rows < c.read_quorum-wanted.result = c.are_enough.ensures.fewer c.if-are_enough.false in
     let quorum : c.read_quorum-wanted.result ≡ data_drives set.drives set.parity = c.read_quorum-wanted.ensures.quorum in
     let kept = kept_on D.tells D.files D.count c.args.set.out old mid new inv.kept c.block_at.ensures.kept in
@@ -67,7 +67,7 @@ loop-index-preserved g c =
             few = omega (arith, fewer, quorum, ap (length {A = ℕ}) new_rows, length-append rows (i ∷ []));
             found = found_more D.tells D.files D.count set part c.args.stripe i blocks c.match-block_at.found whys c.match-block_at.whys old mid new
                 fetched.stored fetched.block.items some (omega arith) new_rows new_stored new_bytes w.whys-is found
-                w.in-Ok.ensures.fetched c.block_at.ensures.others;
+                (w.in-Ok.ensures.in_use, w.in-Ok.ensures.fetched) c.block_at.ensures.others;
             kept = kept;
           }
       | in-Err-Because w ↦
@@ -93,7 +93,7 @@ returns-then-len-wanted-clause-enough g c =
     let set = c.args.set in
     let enough : length c.sift.new.found.rows.items ≡ data_drives set.drives set.parity = search rules in
     found_enough D.tells D.files D.count set c.args.part.now c.args.stripe c.loop-index.index c.args.size c.loop-index.found c.sift.new.found
-    c.loop-index.whys c.sift.new.whys c.args.drives.now c.loop-index.drives c.requires.within c.requires.size (omega arith)
+    c.loop-index.whys c.sift.new.whys c.args.drives.now c.loop-index.drives c.requires.size (omega arith)
     enough c.loop-index.invariant.found c.sift.ensures
 
 pub returns-clause-few : goal.returns-clause-few

@@ -16,4 +16,5 @@ pub returns-clause-shown : goal.returns-clause-shown
 returns-clause-shown g c =
     let d = data_drives c.args.set.drives c.args.set.parity in
     shown_table d c.args.long c.layout-first.result.digest _ c.digested_at.result (g.D.Drive.tells c.args.drive.now) (g.D.Drive.files c.args.drive.now) c.args.name.now
+    (omega arith)
     (table_place d c.args.long c.layout-first.result.digest _ (omega arith) c.layout-first.ensures.table) c.digested_at.ensures.long c.digested_at.ensures.shown
