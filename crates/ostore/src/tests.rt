@@ -7,6 +7,7 @@ mod heads;
 mod limits;
 mod lying;
 mod objects;
+mod picky;
 mod prints;
 mod versions;
 
