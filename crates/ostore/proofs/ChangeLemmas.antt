@@ -30,6 +30,7 @@ use Rattle.call_types.specs.declared.act.Act.{Act}
 use Rattle.version_list.specs.Step.{Step}
 use Rattle.drive_files.specs.Writing.{IsInPlace}
 use Rattle.ostore.specs.Commits.{IsPrepared}
+use Rattle.ostore.proofs.WriteLemmas.{keys_same}
 
 -- the id that a slot draws next, in the slot of a key
 next_of : (key : List ℕ) (objects : Objects) (id : VersionId) (slot : ℕ) (drawn : Drawn) → slot ≡ slot_of key → Agrees drawn objects
@@ -142,6 +143,7 @@ module _ {D : Type 0} (clock : Option ℕ) (mode : Mode) (tell : D → Bool) (fi
       (record {
         objects = inl refl;
         shows = λ all. shows_only clock mode tell files count (number + 1) (number + number + 2) objects new (ready_stays number key objects id now old new before begins starves.stays all);
+        keys = keys_same clock mode tell files count objects objects old new begins.same starves.stays;
         counts = counts_each clock mode tell files count old new begins.same begins.counts;
       })
       (record { took = nothing_taken left; gave = starves.given ∙ nothing_given given; reads = omega arith; writes = omega arith })

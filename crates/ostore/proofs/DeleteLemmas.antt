@@ -15,7 +15,7 @@ use Rattle.ostore.specs.Drives.{AllTell, name_of, loose_name_of}
 use Rattle.ostore.specs.Heads.{SpellsDelete}
 use Rattle.ostore.specs.Leaves.{sides, Shows, CommitLeaves, LooksInVain, ChangesNothing, WritesInVain, Makes}
 use Rattle.ostore.specs.Objects.{Objects, Answer, delete, replied, unavailable, with_numbers, with_change}
-use Rattle.ostore.specs.Session.{ClearsKey, WritesKey, Exchange, Gives, wires, TurnOver, Step as ExchangeStep, moment}
+use Rattle.ostore.specs.Session.{ClearsKey, WritesKey, OthersStay, Exchange, Gives, wires, TurnOver, Step as ExchangeStep, moment}
 use Rattle.ostore.specs.Slots.{slot_of, Drawn, with_drawn, IsIdOf}
 use Rattle.ostore.specs.Holders.{IsHeld}
 use Rattle.ostore.specs.Store.{Ready, IsSound}
@@ -25,7 +25,7 @@ use Rattle.ostore.proofs.StandsLemmas.{all_or_not, shown_is, shows_only, look_ca
 use Rattle.ostore.proofs.StateLemmas.{delete_step_keeps, delete_step_uploads, sound_drawn_later, marker_is_sound}
 use Rattle.ostore.proofs.TurnLemmas.{counts_each, cause_of_some, answered}
 use Rattle.ostore.proofs.DrawnLemmas.{grows_with_drawn, with_drawn_here, next_was_drawn}
-use Rattle.ostore.proofs.WriteLemmas.{writes_made}
+use Rattle.ostore.proofs.WriteLemmas.{writes_made, stays_seen, keys_same, others_refused, others_made}
 
 -- the exchange of a DELETE
 abbrev deleted : List ℕ → Pick → List ℕ → Answer → Exchange
@@ -47,6 +47,7 @@ module _ {D : Type 0} (clock : Option ℕ) (mode : Mode) (tell : D → Bool) (fi
         fits = tt;
         shows = λ all. shows_only clock mode tell files count number (number + number) objects old (begins.ready all);
         writes = λ all. tt;
+        spares = λ all other apart. keys_same clock mode tell files count objects objects old new begins.same looks.stays all other;
         clears = λ all. tt;
         serves = λ all. inl refl;
         cause = look_cause clock mode tell files count number (number + number) objects key id old new begins.some begins.same begins.ready (λ all. (is_next clock mode tell files count number key objects id now old new before begins all).fresh) looks.cause;
@@ -59,9 +60,10 @@ module _ {D : Type 0} (clock : Option ℕ) (mode : Mode) (tell : D → Bool) (fi
       → (p : IsPrepared mode (act.Delete pick) id now (Shows tell files count old (name_of key)) text file gone)
       → (p.state ≡ objects.states key → ((p.changes.new ≡ objects.states key) × (later ≡ objects)) ⊎ ((p.changes.new ≢ objects.states key) × (later ≡ with_change objects key p.changes.new 2)))
       → (AllTell (map tell old) → WritesKey key (moment clock mode tell files count objects old) (moment clock mode tell files count later new))
+      → (AllTell (map tell old) → OthersStay key (moment clock mode tell files count objects old) (moment clock mode tell files count later new))
       → (AllTell (map tell old) → ClearsKey key (moment clock mode tell files count objects old) (moment clock mode tell files count later new))
       → ExchangeStep clock mode (map tell old) (moment clock mode tell files count objects old) (deleted key pick bytes (replied p.changes.reply [])) (moment clock mode tell files count later new)
-  delete_steps number key pick objects later id now old new before bytes text gone file begins asks p is writes clears = record {
+  delete_steps number key pick objects later id now old new before bytes text gone file begins asks p is writes spares clears = record {
     asks = asks;
     fits = refl;
     shows = λ all. shows_only clock mode tell files count number (number + number) objects old (begins.ready all);
@@ -78,6 +80,7 @@ module _ {D : Type 0} (clock : Option ℕ) (mode : Mode) (tell : D → Bool) (fi
           refl,
         );
     writes = writes;
+    spares = spares;
     clears = clears;
     cause = tt;
     counts = counts_each clock mode tell files count old new begins.same begins.counts;
@@ -95,7 +98,9 @@ module _ {D : Type 0} (clock : Option ℕ) (mode : Mode) (tell : D → Bool) (fi
       (agrees_none objects before after begins.agrees nothing.draws) (room_now clock mode tell files count number key objects id now old new before begins)
       (ready_stays clock mode tell files count number key objects id now old new before begins nothing.stays)
       (delete_steps number key pick objects objects id now old new before bytes nothing.text nothing.gone None begins asks p (λ same. inl (p.changes.has_file ∙ same, refl))
-      (λ all differs. absurd (differs refl)) (λ all data_id had lost. absurd (lost had)))
+      (λ all. record { same = λ e. keys_same clock mode tell files count objects objects old new begins.same nothing.stays all key; other = λ differs. absurd (differs refl) })
+      (λ all other apart. keys_same clock mode tell files count objects objects old new begins.same nothing.stays all other)
+      (λ all data_id had lost. absurd (lost had)))
       (subst (λ t. Gives t turn given later faults more) p.changes.texts nothing.gives)
 
   -- the versions after a DELETE are sound, and their data is on the drives
@@ -137,6 +142,8 @@ module _ {D : Type 0} (clock : Option ℕ) (mode : Mode) (tell : D → Bool) (fi
         fits = tt;
         shows = λ all. shows_only clock mode tell files count number (number + number) objects old (begins.ready all);
         writes = λ all. tt;
+        spares = λ all other apart. stays_seen clock mode tell files count (name_of other) objects objects_after old new begins.same
+            (others_refused clock mode tell files count number (number + number) key vain.file other objects old new begins.few all (begins.ready all) vain.writes apart);
         clears = λ all. tt;
         serves = λ all.
             let same = shown_is clock mode tell files count number (number + number) objects key p.state old begins.some all (begins.ready all) p.canonical p.shown in
@@ -192,7 +199,11 @@ module _ {D : Type 0} (clock : Option ℕ) (mode : Mode) (tell : D → Bool) (fi
       (delete_datas number (number + number) key pick objects id now p.changes.reply p.changes.new old r step) makes.writes)
       (delete_steps number key pick objects (with_change objects key p.changes.new 2) id now old new before bytes makes.text makes.gone (Some makes.file) begins asks p (λ same. inr ((λ e. p.changes.has_file.2 (e ∙ sym same)), refl))
       (λ all. writes_made clock mode tell files count number (number + number) key objects objects (with_change objects key p.changes.new 2) p.state p.changes.new makes.file makes.gone old old new
-      begins.few all (begins.ready all) (state_here objects.states key p.changes.new) p.changes.has_file.3 p.changes.has_file.4 makes.writes)
+      begins.few all (begins.ready all)
+      (shown_is clock mode tell files count number (number + number) objects key p.state old begins.some all (begins.ready all) p.canonical p.shown) p.changes.has_file.2
+      (state_here objects.states key p.changes.new) p.changes.has_file.3 p.changes.has_file.4 makes.writes)
+      (λ all other apart. stays_seen clock mode tell files count (name_of other) objects (with_change objects key p.changes.new 2) old new begins.same
+      (others_made clock mode tell files count number (number + number) key makes.file makes.gone other objects p.state p.changes.new old new begins.few all (begins.ready all) p.changes.has_file.4 makes.writes apart))
       (λ all. clears_made clock mode tell files count key objects (with_change objects key p.changes.new 2) p.state p.changes.new (loose_name_of number) (name_of key) makes.file makes.gone old old new
       refl (λ k d lt. omega arith) all (shown_is clock mode tell files count number (number + number) objects key p.state old begins.some all (begins.ready all) p.canonical p.shown)
       (state_here objects.states key p.changes.new) p.changes.has_file.4 makes.writes))

@@ -20,7 +20,7 @@ use Rattle.ostore.specs.Holders.{IsPrintOf, Coding, shard_file, manifest_file, H
 use Rattle.ostore.specs.Leaves.{sides, Shows, FilesStay, Starves, LooksInVain, ChangesNothing}
 use Rattle.ostore.specs.Objects.{Objects, Answer, Asks, put, replied, unavailable, put_act, MayPut, with_numbers, with_change, with_body}
 use Rattle.ostore.specs.Replies.{unavailable_text}
-use Rattle.ostore.specs.Session.{ClearsKey, WritesKey, Exchange, Gives, wires, TurnOver, Step as ExchangeStep, moment}
+use Rattle.ostore.specs.Session.{ClearsKey, WritesKey, KeysStay, OthersStay, StaysAt, Exchange, Gives, wires, TurnOver, Step as ExchangeStep, moment}
 use Rattle.ostore.specs.Slots.{slot_of, Drawn, with_drawn}
 use Rattle.ostore.specs.Store.{HasNoLoose, Ready}
 use Rattle.ostore.proofs.ChangeLemmas.{Begins, is_next, agrees_none, step_of, agrees_drawn, room_drawn}
@@ -31,6 +31,8 @@ use Rattle.ostore.proofs.StoreLemmas.{ready_same, ready_later, ready_staged}
 use Rattle.ostore.proofs.TurnLemmas.{tells_each, tells_same, counts_each, cause_of_some, unanswered, answered}
 use Rattle.ostore.proofs.DrawnLemmas.{with_drawn_here, next_not_drawn}
 use Rattle.version_list.specs.Answers.{IsServed}
+use Rattle.ostore.proofs.HolderLemmas.{staged_kept}
+use Rattle.ostore.proofs.WriteLemmas.{KeptAt, stays_seen, kept_later, kept_same}
 
 -- the exchange of a PUT
 abbrev pub putting : List ℕ → List ℕ → List ℕ → Answer → Exchange
@@ -134,6 +136,32 @@ module _ {D : Type 0} (clock : Option ℕ) (mode : Mode) (tell : D → Bool) (fi
       inl (k, within, rose_later _ _ _ (none.each k 0 within) rose)
   cause_then number key body objects id now old mid new before staged st (inr silent) = inr (λ all. silent (all_mid number key body objects id now old mid new before staged st all))
 
+  -- staging a body touches no key's file
+  pub staged_keys : (number : ℕ) (key body : List ℕ) (coding : Coding body) (objects : Objects) (id : VersionId) (now : ℕ) (old mid new : List D) (before : Drawn)
+      → Begins clock mode tell files count number key objects id now old new before → IsStagedAs id body coding old mid → AllTell (map tell old)
+      → (other : List ℕ) → KeptAt clock mode tell files count (name_of other) old mid
+  staged_keys number key body coding objects id now old mid new before begins stages all other k d lt =
+      staged_kept id (manifest_file id body coding) (shard_file body coding k) (name_of other) (files (slice_index_or old k d)) (files (slice_index_or mid k d))
+      (stages k d lt (tells_each clock mode tell files count old all k d lt)
+      (((begins.ready all).every k d lt).unused.datas id (next_not_drawn objects.drawn (slot_of key) id begins.next))) refl refl
+
+  -- nor does what leaves a key's file after that
+  pub keys_then : (number : ℕ) (key body : List ℕ) (objects later : Objects) (id : VersionId) (now : ℕ) (old mid new : List D) (before staged : Drawn)
+      → (st : Staged number key body objects id now old mid new before staged) → AllTell (map tell old) → (other : List ℕ) → KeptAt clock mode tell files count (name_of other) mid new
+      → StaysAt (name_of other) (moment clock mode tell files count objects old) (moment clock mode tell files count later new)
+  keys_then number key body objects later id now old mid new before staged st all other after =
+      stays_seen clock mode tell files count (name_of other) objects later old new st.begins.same
+      (kept_later clock mode tell files count (name_of other) old mid new st.length_mid
+      (staged_keys number key body st.coding objects id now old mid new before st.begins st.stages all other) after)
+
+  -- where the drives held what they held after the data was written
+  keys_stayed : (number : ℕ) (key body : List ℕ) (objects later : Objects) (id : VersionId) (now : ℕ) (old mid new : List D) (before staged : Drawn)
+      → (st : Staged number key body objects id now old mid new before staged) → FilesStay tell files count mid new → AllTell (map tell old)
+      → KeysStay (moment clock mode tell files count objects old) (moment clock mode tell files count later new)
+  keys_stayed number key body objects later id now old mid new before staged st stays all other =
+      keys_then number key body objects later id now old mid new before staged st all other
+      (kept_same clock mode tell files count (name_of other) mid new (all_mid number key body objects id now old mid new before staged st all) stays)
+
   -- the drives that held what they held after the data was written are ready for the next request
   staged_stays : (number : ℕ) (key body : List ℕ) (objects : Objects) (id : VersionId) (now : ℕ) (old mid new : List D) (before staged : Drawn)
       → (st : Staged number key body objects id now old mid new before staged) → FilesStay tell files count mid new → AllTell (map tell old) → Ready files (number + 1) (number + number + 2) (with_numbers (with_body objects id body) key 1) new
@@ -176,6 +204,8 @@ module _ {D : Type 0} (clock : Option ℕ) (mode : Mode) (tell : D → Bool) (fi
         fits = tt;
         shows = λ all. shows_only clock mode tell files count number (number + number) objects old (begins.ready all);
         writes = λ all. tt;
+        spares = λ all other apart. stays_seen clock mode tell files count (name_of other) objects (with_numbers (with_body objects id body) key 1) old new begins.same
+            (staged_keys number key body coding objects id now old new new before begins stages all other);
         clears = λ all. tt;
         serves = may_put number key print body objects id now old new before begins printed;
         cause = cause_of_some clock mode tell files count old new begins.same cause;
@@ -196,6 +226,7 @@ module _ {D : Type 0} (clock : Option ℕ) (mode : Mode) (tell : D → Bool) (fi
       (record {
         objects = inr (record { key = key; body = body; id = id; asks = subst (Asks (put key body)) (sym (append-nil bytes)) asks; next = st.begins.next; is = refl });
         shows = λ all. shows_only clock mode tell files count (number + 1) (number + number + 2) (with_numbers (with_body objects id body) key 1) new (staged_stays number key body objects id now old mid new before staged st starves.stays all);
+        keys = keys_stayed number key body objects (with_numbers (with_body objects id body) key 1) id now old mid new before staged st starves.stays;
         counts = counts_each clock mode tell files count old new st.begins.same st.begins.counts;
       })
       (record { took = nothing_taken left; gave = starves.given ∙ nothing_given given; reads = omega arith; writes = omega arith })
@@ -215,6 +246,7 @@ module _ {D : Type 0} (clock : Option ℕ) (mode : Mode) (tell : D → Bool) (fi
         fits = tt;
         shows = λ all. shows_only clock mode tell files count number (number + number) objects old (st.begins.ready all);
         writes = λ all. tt;
+        spares = λ all other apart. keys_stayed number key body objects (with_numbers (with_body objects id body) key 1) id now old mid new before staged st looks.stays all other;
         clears = λ all. tt;
         serves = may_put number key st.print body objects id now old new before st.begins st.printed;
         cause = cause_then number key body objects id now old mid new before staged st (look_cause clock mode tell files count number (number + number + 1) (with_numbers (with_body objects id body) key 1) key id mid new (some_mid number key body objects id now old mid new before staged st) (same_mid number key body objects id now old mid new before staged st)
@@ -236,9 +268,10 @@ module _ {D : Type 0} (clock : Option ℕ) (mode : Mode) (tell : D → Bool) (fi
       → (p.state ≡ objects.states key
       → ((IsServed p.changes.reply) × (later ≡ with_change (with_body objects id body) key p.changes.new 2)) ⊎ ((p.changes.new ≡ objects.states key) × (later ≡ with_numbers (with_body objects id body) key 1)))
       → (AllTell (map tell old) → WritesKey key (moment clock mode tell files count objects old) (moment clock mode tell files count later new))
+      → (AllTell (map tell old) → OthersStay key (moment clock mode tell files count objects old) (moment clock mode tell files count later new))
       → (AllTell (map tell old) → ClearsKey key (moment clock mode tell files count objects old) (moment clock mode tell files count later new))
       → ExchangeStep clock mode (map tell old) (moment clock mode tell files count objects old) (putting key body bytes (replied p.changes.reply [])) (moment clock mode tell files count later new)
-  put_steps number key body objects later id now old mid new before staged bytes text gone file st asks p is writes clears = record {
+  put_steps number key body objects later id now old mid new before staged bytes text gone file st asks p is writes spares clears = record {
     asks = asks;
     fits = refl;
     shows = λ all. shows_only clock mode tell files count number (number + number) objects old (st.begins.ready all);
@@ -257,6 +290,7 @@ module _ {D : Type 0} (clock : Option ℕ) (mode : Mode) (tell : D → Bool) (fi
           refl,
         );
     writes = writes;
+    spares = spares;
     clears = clears;
     cause = tt;
     counts = counts_each clock mode tell files count old new st.begins.same st.begins.counts;
@@ -273,5 +307,7 @@ module _ {D : Type 0} (clock : Option ℕ) (mode : Mode) (tell : D → Bool) (fi
       (agrees_none (with_numbers (with_body objects id body) key 1) staged after (agrees_drawn objects key 1 before staged st.begins.agrees st.draws) nothing.draws)
       (room_drawn clock mode tell files count number key objects id now old new before 1 (omega arith) st.begins) (staged_stays number key body objects id now old mid new before staged st nothing.stays)
       (put_steps number key body objects (with_numbers (with_body objects id body) key 1) id now old mid new before staged bytes nothing.text nothing.gone None st asks p (λ same. inr (p.changes.has_file ∙ same, refl))
-      (λ all differs. absurd (differs refl)) (λ all data_id had lost. absurd (lost had)))
+      (λ all. record { same = λ e. keys_stayed number key body objects (with_numbers (with_body objects id body) key 1) id now old mid new before staged st nothing.stays all key; other = λ differs. absurd (differs refl) })
+      (λ all other apart. keys_stayed number key body objects (with_numbers (with_body objects id body) key 1) id now old mid new before staged st nothing.stays all other)
+      (λ all data_id had lost. absurd (lost had)))
       (subst (λ t. Gives t turn given later faults more) p.changes.texts nothing.gives)

@@ -19,13 +19,13 @@ use Rattle.ostore.specs.Store.{Ready, IsSound}
 use Rattle.ostore.proofs.ChangeLemmas.{is_next, drawn_of, step_of, made_ready, refused_ready, agrees_drawn, room_drawn}
 use Rattle.ostore.proofs.ClearLemmas.{clears_made, state_here}
 use Rattle.ostore.proofs.MakingLemmas.{cause_later}
-use Rattle.ostore.proofs.PutLemmas.{Staged, putting, staged_ready, all_mid, some_mid, same_mid, put_shown, put_starves, put_looks, put_nothing, twice_drawn, numbers_twice, change_twice, put_steps}
+use Rattle.ostore.proofs.PutLemmas.{Staged, putting, staged_ready, all_mid, some_mid, same_mid, put_shown, put_starves, put_looks, put_nothing, twice_drawn, numbers_twice, change_twice, put_steps, keys_then}
 use Rattle.ostore.proofs.StandsLemmas.{all_or_not, shows_only}
 use Rattle.ostore.proofs.StateLemmas.{step_keeps, step_uploads, sound_drawn_later, put_is_sound}
 use Rattle.ostore.proofs.TurnLemmas.{counts_each, cause_of_some, answered}
 use Rattle.ostore.proofs.DrawnLemmas.{grows_with_drawn, with_drawn_here, next_was_drawn}
 use Rattle.ostore.proofs.NameLemmas.{with_name-here}
-use Rattle.ostore.proofs.WriteLemmas.{writes_made}
+use Rattle.ostore.proofs.WriteLemmas.{writes_made, others_refused, others_made}
 
 -- the number that was drawn after the id's
 agrees_two : (objects : Objects) (key : List ℕ) (before staged after : Drawn) → Agrees before objects
@@ -83,6 +83,9 @@ module _ {D : Type 0} (clock : Option ℕ) (mode : Mode) (tell : D → Bool) (fi
         fits = tt;
         shows = λ all. shows_only clock mode tell files count number (number + number) objects old (st.begins.ready all);
         writes = λ all. tt;
+        spares = λ all other apart. keys_then clock mode tell files count number key body objects objects_after id now old mid new before staged st all other
+            (others_refused clock mode tell files count number (number + number + 1) key vain.file other (with_numbers (with_body objects id body) key 1) mid new st.begins.few
+            (all_mid clock mode tell files count number key body objects id now old mid new before staged st all) (staged_ready clock mode tell files count number key body objects id now old mid new before staged st all) vain.writes apart);
         clears = λ all. tt;
         serves = λ all.
             let same = put_shown clock mode tell files count number key body objects id now old mid new before staged st vain.text vain.gone (Some vain.file) p all in
@@ -143,7 +146,11 @@ module _ {D : Type 0} (clock : Option ℕ) (mode : Mode) (tell : D → Bool) (fi
       (put_steps clock mode tell files count number key body objects (with_change (with_body objects id body) key p.changes.new 2) id now old mid new before staged bytes makes.text makes.gone (Some makes.file) st asks p (λ same. inl (p.changes.has_file.0, refl))
       (λ all. writes_made clock mode tell files count number (number + number + 1) key objects (with_numbers (with_body objects id body) key 1) (with_change (with_body objects id body) key p.changes.new 2) p.state p.changes.new makes.file makes.gone old mid new
       st.begins.few (all_mid clock mode tell files count number key body objects id now old mid new before staged st all) (staged_ready clock mode tell files count number key body objects id now old mid new before staged st all)
+      (put_shown clock mode tell files count number key body objects id now old mid new before staged st makes.text makes.gone (Some makes.file) p all) p.changes.has_file.2
       (state_here objects.states key p.changes.new) p.changes.has_file.3 p.changes.has_file.4 makes.writes)
+      (λ all other apart. keys_then clock mode tell files count number key body objects (with_change (with_body objects id body) key p.changes.new 2) id now old mid new before staged st all other
+      (others_made clock mode tell files count number (number + number + 1) key makes.file makes.gone other (with_numbers (with_body objects id body) key 1) p.state p.changes.new mid new st.begins.few
+      (all_mid clock mode tell files count number key body objects id now old mid new before staged st all) (staged_ready clock mode tell files count number key body objects id now old mid new before staged st all) p.changes.has_file.4 makes.writes apart))
       (λ all. clears_made clock mode tell files count key objects (with_change (with_body objects id body) key p.changes.new 2) p.state p.changes.new (loose_name_of number) (name_of key) makes.file makes.gone old mid new
       st.length_mid st.counts_mid (all_mid clock mode tell files count number key body objects id now old mid new before staged st all)
       (put_shown clock mode tell files count number key body objects id now old mid new before staged st makes.text makes.gone (Some makes.file) p all)

@@ -1,41 +1,93 @@
--- A change that was made on every drive, and what each keeps under the key's name.
-use Rattle.std.proofs.Common.{◌≡◌, ℕ, ◌<◌, Bool, IsTrue, List, length, map, slice_index_or, Option, Some, sym, ap, ◌∙◌, subst, arith}
+-- What a request leaves on the drives under the names of keys.
+use Rattle.std.proofs.Common.{◌≡◌, ◌≢◌, inr, ℕ, ◌<◌, Bool, false, IsTrue, List, length, map, slice_index_or, Option, Some, sym, ap, ◌∙◌, subst, arith, bytes_eq}
 use Rattle.std.proofs.lemmas.List.{get_or-map, length-map}
 use Rattle.call_types.specs.declared.names.Mode.{Mode}
 use Rattle.drive_base.specs.Files.{Files}
 use Rattle.version_list.specs.declared.state.KeyState.{KeyState}
 use Rattle.version_list.specs.Gone.{gone_ids, gone_bytes}
-use Rattle.ostore.specs.Drives.{AllTell, DriveView, name_of, loose_name_of}
+use Rattle.ostore.specs.Drives.{AllTell, AtEach, DriveView, views_of, name_of, loose_name_of}
 use Rattle.ostore.specs.KeyFiles.{StandsFor, key_file}
-use Rattle.ostore.specs.Leaves.{WritesAll}
+use Rattle.ostore.specs.Leaves.{FilesStay, WritesAll, WritesMaybe}
 use Rattle.ostore.specs.Objects.{Objects}
-use Rattle.ostore.specs.Session.{WritesKey, moment}
+use Rattle.ostore.specs.Session.{KeysStay, StaysAt, WritesKey, moment}
 use Rattle.ostore.specs.Store.{Ready}
+use Rattle.ostore.proofs.DriveLemmas.{kept_elsewhere}
 use Rattle.ostore.proofs.ListLemmas.{first_of}
 use Rattle.ostore.proofs.NameLemmas.{with_name-here}
 use Rattle.ostore.proofs.StoreLemmas.{no_key}
 use Rattle.ostore.proofs.TurnLemmas.{tells_each}
 
 module _ {D : Type 0} (clock : Option ℕ) (mode : Mode) (tell : D → Bool) (files : D → Files) (count : D → ℕ) where
+  -- each drive keeps under a name what it kept
+  abbrev pub KeptAt : List ℕ → List D → List D → Type 0
+  KeptAt name old new = AtEach (λ a b. (files b).kept name ≡ (files a).kept name) old new
+
+  -- the same of what is seen of the drives
+  pub stays_seen : (name : List ℕ) (objects later : Objects) (old new : List D) → length new ≡ length old → KeptAt name old new
+      → StaysAt name (moment clock mode tell files count objects old) (moment clock mode tell files count later new)
+  stays_seen name objects later old new same each k view inside =
+      let low : k < length new = subst (λ n. k < n) (length-map new (λ (x : D). record { tells = tell x; files = files x })) inside in
+      let low_old : k < length old = omega arith in
+      let d = first_of new (omega arith) in
+      subst (λ (v : DriveView). v.files.kept name ≡ (slice_index_or (views_of tell files old) k view).files.kept name)
+      (sym (get_or-map (λ (x : D). record { tells = tell x; files = files x }) new k d view low))
+      (subst (λ (v : DriveView). (files (slice_index_or new k d)).kept name ≡ v.files.kept name)
+      (sym (get_or-map (λ (x : D). record { tells = tell x; files = files x }) old k d view low_old)) (each k d low_old))
+
+  -- two changes of the drives that leave a name
+  pub kept_later : (name : List ℕ) (old mid new : List D) → length mid ≡ length old → KeptAt name old mid → KeptAt name mid new → KeptAt name old new
+  kept_later name old mid new same first second k d lt = second k d (omega arith) ∙ first k d lt
+
+  -- drives that hold what they held
+  pub kept_same : (name : List ℕ) (old new : List D) → AllTell (map tell old) → FilesStay tell files count old new → KeptAt name old new
+  kept_same name old new all stays k d lt = ap (λ (f : Files). f.kept name) (stays k d lt (tells_each clock mode tell files count old all k d lt))
+
+  pub keys_same : (objects later : Objects) (old new : List D) → length new ≡ length old → FilesStay tell files count old new → AllTell (map tell old)
+      → KeysStay (moment clock mode tell files count objects old) (moment clock mode tell files count later new)
+  keys_same objects later old new same stays all key = stays_seen (name_of key) objects later old new same (kept_same (name_of key) old new all stays)
+
+  -- a write of a key's file that was refused leaves those of other keys
+  pub others_refused : (number most : ℕ) (key file other : List ℕ) (held : Objects) (old new : List D) → number < 1000000 → AllTell (map tell old) → Ready files number most held old
+      → WritesMaybe tell files count (loose_name_of number) (name_of key) file old new → bytes_eq key other ≡ false → KeptAt (name_of other) old new
+  others_refused number most key file other held old new few all ready writes apart k d lt =
+      kept_elsewhere (loose_name_of number) (name_of key) file (name_of other) (files (slice_index_or old k d)) (files (slice_index_or new k d))
+      (writes k d lt (tells_each clock mode tell files count old all k d lt) ((ready.every k d lt).unused.writes number (omega arith) few)) apart
+
+  -- and so does one that was made on every drive, with the data that is gone removed
+  pub others_made : (number most : ℕ) (key file gone other : List ℕ) (held : Objects) (before after : KeyState) (old new : List D) → number < 1000000 → AllTell (map tell old) → Ready files number most held old
+      → gone ≡ gone_bytes before.versions after.versions
+      → WritesAll tell files count (loose_name_of number) (name_of key) file gone old new → bytes_eq key other ≡ false → KeptAt (name_of other) old new
+  others_made number most key file gone other held before after old new few all ready gone_is writes apart k d lt =
+      let mid = writes.mid in
+      let low_mid : k < length mid = (let same_mid : length mid ≡ length old = writes.same in omega arith) in
+      let told = tells_each clock mode tell files count old all k d lt in
+      let ids = gone_ids before.versions after.versions in
+      (writes.removes ids gone_is k d low_mid (subst IsTrue (sym (writes.tells k d lt)) told)).kept (name_of other) (no_key files ids other)
+      ∙ kept_elsewhere (loose_name_of number) (name_of key) file (name_of other) (files (slice_index_or old k d)) (files (slice_index_or mid k d))
+      (inr (writes.writes k d lt told ((ready.every k d lt).unused.writes number (omega arith) few))) apart
+
   -- after a change was made on every drive, each keeps the file of the key's new state
   pub writes_made : (number most : ℕ) (key : List ℕ) (objects held later : Objects) (before after : KeyState) (file gone : List ℕ) (start old new : List D)
       → number < 1000000 → AllTell (map tell old) → Ready files number most held old
-      → later.states key ≡ after → file ≡ key_file after → gone ≡ gone_bytes before.versions after.versions
+      → before ≡ objects.states key → after ≢ before → later.states key ≡ after → file ≡ key_file after → gone ≡ gone_bytes before.versions after.versions
       → WritesAll tell files count (loose_name_of number) (name_of key) file gone old new
       → WritesKey key (moment clock mode tell files count objects start) (moment clock mode tell files count later new)
-  writes_made number most key objects held later before after file gone start old new few all ready is file_is gone_is writes differs k view inside =
-      let low : k < length new = subst (λ n. k < n) (length-map new (λ (x : D). record { tells = tell x; files = files x })) inside in
-      let mid = writes.mid in
-      let low_mid : k < length mid = (let same_end : length new ≡ length mid = writes.later in omega arith) in
-      let low_old : k < length old = (let same_mid : length mid ≡ length old = writes.same in omega arith) in
-      let d = first_of new (omega arith) in
-      let told = tells_each clock mode tell files count old all k d low_old in
-      let placed = writes.writes k d low_old told ((ready.every k d low_old).unused.writes number (omega arith) few) in
-      let ids = gone_ids before.versions after.versions in
-      let removed = writes.removes ids gone_is k d low_mid (subst IsTrue (sym (writes.tells k d low_old)) told) in
-      let there : (files (slice_index_or new k d)).kept (name_of key) ≡ Some file =
-      removed.kept (name_of key) (no_key files ids key) ∙ ap (λ f. f (name_of key)) placed.kept ∙ with_name-here (files (slice_index_or old k d)).kept (name_of key) (Some file) in
-      subst (λ (v : DriveView). StandsFor (v.files.kept (name_of key)) (later.states key))
-      (sym (get_or-map (λ (x : D). record { tells = tell x; files = files x }) new k d view low))
-      (subst (λ (s : KeyState). StandsFor ((files (slice_index_or new k d)).kept (name_of key)) s) (sym is)
-      (subst (λ shown. StandsFor shown after) (sym there) file_is))
+  writes_made number most key objects held later before after file gone start old new few all ready was differ is file_is gone_is writes = record { same = λ stays. absurd (differ (sym is ∙ stays ∙ sym was)); other = λ differs. stands }
+    where
+      stands : (k : ℕ) (view : DriveView) → k < length (views_of tell files new) → StandsFor ((slice_index_or (views_of tell files new) k view).files.kept (name_of key)) (later.states key)
+      stands k view inside =
+          let low : k < length new = subst (λ n. k < n) (length-map new (λ (x : D). record { tells = tell x; files = files x })) inside in
+          let mid = writes.mid in
+          let low_mid : k < length mid = (let same_end : length new ≡ length mid = writes.later in omega arith) in
+          let low_old : k < length old = (let same_mid : length mid ≡ length old = writes.same in omega arith) in
+          let d = first_of new (omega arith) in
+          let told = tells_each clock mode tell files count old all k d low_old in
+          let placed = writes.writes k d low_old told ((ready.every k d low_old).unused.writes number (omega arith) few) in
+          let ids = gone_ids before.versions after.versions in
+          let removed = writes.removes ids gone_is k d low_mid (subst IsTrue (sym (writes.tells k d low_old)) told) in
+          let there : (files (slice_index_or new k d)).kept (name_of key) ≡ Some file =
+          removed.kept (name_of key) (no_key files ids key) ∙ ap (λ f. f (name_of key)) placed.kept ∙ with_name-here (files (slice_index_or old k d)).kept (name_of key) (Some file) in
+          subst (λ (v : DriveView). StandsFor (v.files.kept (name_of key)) (later.states key))
+          (sym (get_or-map (λ (x : D). record { tells = tell x; files = files x }) new k d view low))
+          (subst (λ (s : KeyState). StandsFor ((files (slice_index_or new k d)).kept (name_of key)) s) (sym is)
+          (subst (λ shown. StandsFor shown after) (sym there) file_is))

@@ -1,5 +1,5 @@
 -- A connection: the requests that were read, the replies that were given, and how it ended.
-use Rattle.std.specs.Prelude.{⊤, map, Bool, ◌≡◌, ◌≢◌, ◌⊎◌, ◌+◌, ◌<◌, ◌≤◌, ℕ, List, [], ◌∷◌, ◌++◌, length, take, Option, IfSome, slice_index_or}
+use Rattle.std.specs.Prelude.{⊤, map, Bool, ◌≡◌, ◌≢◌, ◌⊎◌, ◌+◌, ◌<◌, ◌≤◌, ℕ, List, [], ◌∷◌, ◌++◌, length, take, Option, IfSome, slice_index_or, bytes_eq, false}
 use Rattle.std.specs.Io.KnownBytes.{prepend_known, append_known, IsAtEnd}
 use Rattle.drive_base.specs.Files.{Files}
 use Rattle.io_base.specs.Count.{CountRose}
@@ -64,10 +64,30 @@ HasCleared (get key pick) (replied reply told) old new = ⊤
 HasCleared (delete key pick) (replied reply told) old new = ClearsKey key old new
 HasCleared request unavailable old new = ⊤
 
--- where the key has a new state, what each drive keeps under the key's name stands for it
-abbrev pub WritesKey : List ℕ → Moment → Moment → Type 0
-WritesKey key old new = new.objects.states key ≢ old.objects.states key → (k : ℕ) (d : DriveView) → k < length new.drives
-    → StandsFor ((slice_index_or new.drives k d).files.kept (name_of key)) (new.objects.states key)
+-- each drive keeps under this name what it kept
+abbrev pub StaysAt : List ℕ → Moment → Moment → Type 0
+StaysAt name old new = (k : ℕ) (d : DriveView) → k < length new.drives
+    → (slice_index_or new.drives k d).files.kept name ≡ (slice_index_or old.drives k d).files.kept name
+
+-- no key's file is touched
+abbrev pub KeysStay : Moment → Moment → Type 0
+KeysStay old new = (key : List ℕ) → StaysAt (name_of key) old new
+
+-- no other key's file is touched
+abbrev pub OthersStay : List ℕ → Moment → Moment → Type 0
+OthersStay key old new = (other : List ℕ) → bytes_eq key other ≡ false → StaysAt (name_of other) old new
+
+-- a GET touches no key's file, and a change that of its key alone, whatever is answered
+abbrev pub HasSpared : Request → Moment → Moment → Type 0
+HasSpared (put key body) old new = OthersStay key old new
+HasSpared (get key pick) old new = KeysStay old new
+HasSpared (delete key pick) old new = OthersStay key old new
+
+-- each drive keeps the file of the key's new state, or what it kept where the state stays
+pub record WritesKey (key : List ℕ) (old new : Moment) : Type 0 where
+  pub same : new.objects.states key ≡ old.objects.states key → StaysAt (name_of key) old new
+  pub other : new.objects.states key ≢ old.objects.states key → (k : ℕ) (d : DriveView) → k < length new.drives
+      → StandsFor ((slice_index_or new.drives k d).files.kept (name_of key)) (new.objects.states key)
 
 -- a change that was answered stands on every drive
 abbrev pub HasWritten : Request → Answer → Moment → Moment → Type 0
@@ -111,6 +131,7 @@ pub record Step (clock : Option ℕ) (mode : Mode) (tells : List Bool) (old : Mo
   pub shows : AllTell tells → ShowOnly old.objects old.drives
   pub serves : AllTell tells → Serves clock mode old.drives old.objects exchange.request exchange.answer new.objects
   pub writes : AllTell tells → HasWritten exchange.request exchange.answer old new
+  pub spares : AllTell tells → HasSpared exchange.request old new
   pub clears : AllTell tells → HasCleared exchange.request exchange.answer old new
   pub cause : HasCause tells exchange.request exchange.answer old.counts new.counts
   pub counts : NoneFell old.counts new.counts
@@ -124,10 +145,11 @@ pub record HasStaged (tail : List ℕ) (old new : Objects) : Type 0 where
   pub next : IsIdOf (slot_of key) (old.drawn (slot_of key) + 1) id
   pub is : new ≡ with_numbers (with_body old id body) key 1
 
--- Memory ran out: the objects are as they were, but for a body that was staged. The keys' states stay, and no count falls.
+-- Memory ran out: the objects and the keys' files are as they were, but for a body that was staged. No count falls.
 pub record RunsOut (tells : List Bool) (tail : List ℕ) (old new : Moment) : Type 0 where
   pub objects : (new.objects ≡ old.objects) ⊎ HasStaged tail old.objects new.objects
   pub shows : AllTell tells → ShowOnly new.objects new.drives
+  pub keys : AllTell tells → KeysStay old new
   pub counts : NoneFell old.counts new.counts
 
 -- what follows the last exchange changes nothing, unless memory ran out
