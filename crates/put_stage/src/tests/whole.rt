@@ -83,6 +83,19 @@ fn an_empty_body_has_empty_shards(rt: HostRuntime) -> Result<(), Fail> {
 }
 
 #[test]
+fn the_worked_rows_are_the_blocks_of_the_files(rt: HostRuntime) -> Result<(), Fail> {
+    for (body, print, files) in ROWS {
+        let mut drives = fresh_drives(rt.alloc(), 4)?;
+        let answer = staged(rt.alloc(), 0, &body, None, &mut drives);
+        assert_eq!(rt; answer.ok().map(|staged| staged.print), Some(print));
+        for (drive, file) in drives.iter_mut().zip(files) {
+            assert!(rt; shows(rt.alloc(), drive, SHARD, &file)?);
+        }
+    }
+    Ok(())
+}
+
+#[test]
 fn a_lost_drive_is_not_named(rt: HostRuntime) -> Result<(), Fail> {
     let mut drives = fresh_drives(rt.alloc(), 4)?;
     lose(&mut drives, 1);
