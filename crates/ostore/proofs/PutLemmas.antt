@@ -1,5 +1,5 @@
 -- What a PUT leads to.
-use Rattle.std.proofs.Common.{◌≡◌, ◌⊎◌, inl, inr, ℕ, zero, suc, ◌+◌, ◌<◌, ◌≤◌, Bool, true, false, cond, nat_eq, IsTrue, List, [], length, map, slice_index_or, Option, None, refl, sym, ap, ◌∙◌, subst, arith, append-nil}
+use Rattle.std.proofs.Common.{◌≡◌, ◌≢◌, ◌⊎◌, inl, inr, ℕ, zero, suc, ◌+◌, ◌<◌, ◌≤◌, Bool, true, false, cond, nat_eq, IsTrue, List, [], length, map, slice_index_or, Option, None, refl, sym, ap, ◌∙◌, subst, arith, append-nil}
 use Rattle.std.proofs.Math.Path.{fun_ext}
 use Rattle.md5.specs.Md5.{md5}
 use Rattle.stamp_id.specs.declared.version.VersionId.{VersionId}
@@ -266,7 +266,7 @@ module _ {D : Type 0} (clock : Option ℕ) (mode : Mode) (tell : D → Bool) (fi
       → (st : Staged number key body objects id now old mid new before staged) → Asks (put key body) bytes
       → (p : IsPrepared mode (put_act id st.print body) id now (Shows tell files count mid (name_of key)) text file gone)
       → (p.state ≡ objects.states key
-      → ((IsServed p.changes.reply) × (later ≡ with_change (with_body objects id body) key p.changes.new 2)) ⊎ ((p.changes.new ≡ objects.states key) × (later ≡ with_numbers (with_body objects id body) key 1)))
+      → ((IsServed p.changes.reply) × (p.changes.new ≢ objects.states key) × (later ≡ with_change (with_body objects id body) key p.changes.new 2)) ⊎ ((p.changes.new ≡ objects.states key) × (later ≡ with_numbers (with_body objects id body) key 1)))
       → (AllTell (map tell old) → WritesKey key (moment clock mode tell files count objects old) (moment clock mode tell files count later new))
       → (AllTell (map tell old) → OthersStay key (moment clock mode tell files count objects old) (moment clock mode tell files count later new))
       → (AllTell (map tell old) → ClearsKey key (moment clock mode tell files count objects old) (moment clock mode tell files count later new))

@@ -143,7 +143,7 @@ module _ {D : Type 0} (clock : Option ℕ) (mode : Mode) (tell : D → Bool) (fi
       (put_sound number key body objects id now old mid new before staged st all p.changes.reply p.changes.new step) (put_datas number key body objects id now old mid new before staged st all p.changes.reply p.changes.new step) makes.writes in
       subst (λ o. Ready files (number + 1) (number + number + 2) o new) (change_twice (with_body objects id body) key p.changes.new)
       (subst (λ n. Ready files (number + 1) n (with_change (with_numbers (with_body objects id body) key 1) key p.changes.new 1) new) (let e : number + number + 1 + 1 ≡ number + number + 2 = omega arith in e) ready))
-      (put_steps clock mode tell files count number key body objects (with_change (with_body objects id body) key p.changes.new 2) id now old mid new before staged bytes makes.text makes.gone (Some makes.file) st asks p (λ same. inl (p.changes.has_file.0, refl))
+      (put_steps clock mode tell files count number key body objects (with_change (with_body objects id body) key p.changes.new 2) id now old mid new before staged bytes makes.text makes.gone (Some makes.file) st asks p (λ same. inl (p.changes.has_file.0, (λ e. p.changes.has_file.2 (e ∙ sym same)), refl))
       (λ all. writes_made clock mode tell files count number (number + number + 1) key objects (with_numbers (with_body objects id body) key 1) (with_change (with_body objects id body) key p.changes.new 2) p.state p.changes.new makes.file makes.gone old mid new
       st.begins.few (all_mid clock mode tell files count number key body objects id now old mid new before staged st all) (staged_ready clock mode tell files count number key body objects id now old mid new before staged st all)
       (put_shown clock mode tell files count number key body objects id now old mid new before staged st makes.text makes.gone (Some makes.file) p all) p.changes.has_file.2

@@ -96,7 +96,7 @@ with_change old key state more =
 abbrev pub with_body : Objects → VersionId → List ℕ → Objects
 with_body old id body = record { states = old.states; bodies = with_name old.bodies (shard_name id) (Some body); drawn = old.drawn }
 
--- A PUT that is answered: it draws an id and, where it changes the key, a ballot.
+-- A PUT that is answered otherwise than with 503: it draws an id and, where it changes the key, a ballot.
 pub record Puts (clock : Option ℕ) (mode : Mode) (old : Objects) (key body : List ℕ) (reply : Reply) (new : Objects) : Type 0 where
   pub id : VersionId
   pub now : ℕ
@@ -105,10 +105,10 @@ pub record Puts (clock : Option ℕ) (mode : Mode) (old : Objects) (key body : L
   pub printed : IsPrintOf body print
   pub state : KeyState
   pub step : Step (old.states key) mode (put_act id print body) id now reply state
-  pub is : ((IsServed reply) × (new ≡ with_change (with_body old id body) key state 2))
+  pub is : ((IsServed reply) × (state ≢ old.states key) × (new ≡ with_change (with_body old id body) key state 2))
       ⊎ ((state ≡ old.states key) × (new ≡ with_numbers (with_body old id body) key 1))
 
--- A change that is not answered takes place or not. It draws an id and a ballot, or only an id.
+-- A PUT that is answered 503 takes place or not. It draws an id and a ballot, or only an id.
 pub record MayPut (clock : Option ℕ) (mode : Mode) (old : Objects) (key body : List ℕ) (new : Objects) : Type 0 where
   pub id : VersionId
   pub now : ℕ
@@ -122,7 +122,7 @@ pub record MayPut (clock : Option ℕ) (mode : Mode) (old : Objects) (key body :
       ⊎ (new ≡ with_numbers (with_body old id body) key 2)
       ⊎ (new ≡ with_change (with_body old id body) key state 2)
 
--- A DELETE that is answered draws numbers only where it changes the key.
+-- A DELETE that is answered otherwise than with 503 draws numbers only where it changes the key.
 pub record Deletes (clock : Option ℕ) (mode : Mode) (old : Objects) (key : List ℕ) (pick : Pick) (reply : Reply) (new : Objects) : Type 0 where
   pub id : VersionId
   pub now : ℕ
@@ -131,7 +131,7 @@ pub record Deletes (clock : Option ℕ) (mode : Mode) (old : Objects) (key : Lis
   pub step : Step (old.states key) mode (act.Delete pick) id now reply state
   pub is : ((state ≡ old.states key) × (new ≡ old)) ⊎ ((state ≢ old.states key) × (new ≡ with_change old key state 2))
 
--- A DELETE that is not answered takes place or not.
+-- A DELETE that is answered 503 and draws numbers takes place or not.
 pub record MayDelete (clock : Option ℕ) (mode : Mode) (old : Objects) (key : List ℕ) (pick : Pick) (new : Objects) : Type 0 where
   pub id : VersionId
   pub now : ℕ

@@ -1,4 +1,4 @@
-//! Changes of a key: what a change makes of the key's state, and writing it.
+//! What a change makes of a key's state: its reply, the key's new file, and the ids of the data that is gone.
 
 ghost use Rattle.std.specs.Prelude.{◌≡◌, ◌⊎◌, ◌<◌, ◌≤◌, IsTrue, false, IfOk, IfErr, IfSome, Err, length, slice_index_or};
 ghost use Rattle.std.specs.Option.{option_map};
@@ -28,8 +28,11 @@ const KEY_KIND: [u8; 4] = *b"OKEY";
 /// the ids of the data that is gone then.
 #[derive(Drop)]
 pub struct Prepared {
+    /// The text of the reply.
     pub text: Vec<u8>,
+    /// The file of the new state.
     pub file: Option<Vec<u8>>,
+    /// The ids of the data that is gone, 16 bytes each.
     pub gone: Bytes,
 }
 
@@ -73,9 +76,8 @@ fn change(
                 done,
                 gone,
             } = applied;
-            // A change that is done has a reply: no other brief comes.
             let Brief::Answer(reply) = done else {
-                return Err(Undone::NoMemory);
+                unreachable!()
             };
             let text = reply::text(alloc, mode, &reply, b"")?;
             let file = state_file(alloc, &made)?;

@@ -21,16 +21,22 @@ use io_base::Sink;
 use stamp_id::VersionId;
 use std::alloc::Global;
 
-/// A change of a key: the name of its file, the loose name under which that is written, the key's slot, the change's
-/// id, its act and its moment, and how many numbers it draws where it is written.
+/// A change of a key.
 #[derive(Drop)]
 pub struct Change {
+    /// The name of the key's file.
     pub name: String,
+    /// The loose name under which that is written.
     pub loose: String,
+    /// The key's slot.
     pub slot: u8,
+    /// The id of the change.
     pub id: VersionId,
+    /// What it does.
     pub act: Act,
+    /// The Unix second at which it is made.
     pub moment: u64,
+    /// How many numbers it draws where it is written.
     pub draws: u64,
 }
 

@@ -33,10 +33,12 @@ pub enum BodyFault {
     NoMemory,
 }
 
-/// How many bytes of a head were read, and how the reading ended.
+/// What was read of a head.
 #[derive(Clone, Copy, Debug, PartialEq, Eq)]
 pub struct HeadRead {
+    /// How many bytes were read.
     pub length: usize,
+    /// How the reading ended.
     pub end: HeadEnd,
 }
 
