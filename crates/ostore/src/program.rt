@@ -37,11 +37,15 @@ pub struct PlainEnded<D> {
 /// `pipe` alone is `pipe off`.
 ///
 /// The replies are those of S3's versioned objects, one after another, from keys without versions. A PUT or a DELETE
-/// that is answered 503, or finds no memory, is done or leaves the key as it was. After one that is answered otherwise,
-/// no drive shows the data that it took out, unless the drive failed in that request. In the end drive 0 keeps each
-/// key's state, and all drives but one at most keep the files of each version's data. This holds of drives that tell
-/// what they hold. What was read and given, that a body is each one of its version's print and length or two byte
-/// strings with one SHA-256 were met, how the run ended, and that each 503 and each status has its cause, holds of all.
+/// that is answered 503 is done or leaves the key as it was. After one that is answered otherwise, every drive keeps
+/// the key's new state, and none shows the data that was taken out, unless it failed in that request. No request
+/// touches the file of another key. One that finds no memory leaves the file of every key, though its body may be
+/// written by then. In the end drive 0 keeps each key's state, and all drives but one at most keep the files of each
+/// version's data, of which the manifest names the key's file. This holds of drives that tell what they hold.
+///
+/// What was read and given, that a body is each one of its version's print and length or two byte strings with one
+/// SHA-256 were met, how the run ended, that nothing changes after the last answer unless memory ran out, and that each
+/// 503 and each status has its cause, holds of all.
 pub fn run<R: AllocGlobal, S: Source, K: Sink, D: Drive, C: Clock>(
     rt: &R,
     words: &[String],
