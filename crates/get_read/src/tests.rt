@@ -3,4 +3,5 @@
 mod golden;
 mod hello;
 mod made;
+mod rows;
 mod sizes;
