@@ -107,12 +107,12 @@ module _ {D : Type 0} (tells : D → Bool) (files : D → Files) (count : D → 
         → StagedOn (IsBitSet set.out k) (written k) (slice_index_or whys k Good) (slice_index_or old k default) (slice_index_or new k default)
 
 module _ {D : Type 0} (tells : D → Bool) (files : D → Files) where
-  -- one drive, on which a stage put none of these files in place, and changed no loose file but its own
+  -- one drive, on which nothing was put in place, and no loose file was changed but those of these files
   pub record PlacesNoneOn (out : Type 0) (written : List StagedFile) (old new : D) : Type 0 where
     pub leaves : IsTrue (tells old) → HasNoLoose written (files old) → Leaves [] written (files old) (files new)
     pub skipped : out → new ≡ old
 
-  -- each drive, where nothing of these files was put in place; what counts of them is their loose names
+  -- nothing was put in place on any drive; of these files only the loose names count
   pub record PlacesNothing (set : SetPlan) (written : List StagedFile) (old new : List D) : Type 0 where
     pub drives : length new ≡ length old
     pub each : (k : ℕ) (default : D) → k < set.drives

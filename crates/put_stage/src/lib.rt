@@ -7,9 +7,10 @@
 //!
 //! The crate stands on `shard_file`, `poly_code` and `manifest_file` for the files, on `body_print` for what a body's
 //! shards are, and on `drive_base` for drives. [`stage_whole`] promises that each drive that took all holds the manifest
-//! and the shard file of exactly this body, that a drive that failed has neither, the manifest alone or both, and that
-//! no drive is called where the body has another MD5 than stated, or where memory is missing. [`stage_manifest`] promises
-//! the same of the manifest that it is given, and that no other file is touched.
+//! and the shard file of exactly this body and no loose file of the stage, that a drive that failed has neither, the
+//! manifest alone or both, and that the drives are as they were where the body has another MD5 than stated, or where
+//! memory is missing. [`stage_manifest`] promises the same of the manifest that it is given, and that no other file is
+//! touched.
 #![tactic(auto)]
 
 mod answers;
