@@ -1,7 +1,9 @@
 //! Bodies are staged on drives in memory, which are damaged or lost, and read back.
 
+mod ailing;
 mod golden;
 mod hello;
 mod made;
 mod rows;
 mod sizes;
+mod stripes;

@@ -52,8 +52,29 @@ pub fn place(drive: &mut MemDrive, name: &str, bytes: &[u8]) -> Result<(), Fail>
     Ok(())
 }
 
+/// Bytes that differ from place to place.
+pub fn some_body(alloc: Global, long: usize) -> Result<Vec<u8>, AllocError> {
+    let mut body = Vec::new(alloc);
+    for i in 0..long {
+        body.push((i % 251) as u8)?;
+    }
+    Ok(body)
+}
+
 /// Puts the shard file of a drive in place anew, with the lowest bit of its first byte changed.
 pub fn damage(alloc: Global, drives: &mut [MemDrive], at: usize) -> Result<(), Fail>
+    ensures { length drives.new ≡ length drives.old }
+{
+    damage_byte(alloc, drives, at, 0)
+}
+
+/// Puts the shard file of a drive in place anew, with the lowest bit of the byte at a place changed.
+pub fn damage_byte(
+    alloc: Global,
+    drives: &mut [MemDrive],
+    at: usize,
+    byte: usize,
+) -> Result<(), Fail>
     ensures { length drives.new ≡ length drives.old }
 {
     let Some(drive) = drives.get_mut(at) else {
@@ -62,8 +83,8 @@ pub fn damage(alloc: Global, drives: &mut [MemDrive], at: usize) -> Result<(), F
     let size = drive.size(SHARD)?;
     let mut bytes = vec![in alloc; 0; size as usize]?;
     let _ = drive.read(SHARD, 0, &mut bytes)?;
-    if let Some(first) = bytes.get_mut(0) {
-        *first ^= 1;
+    if let Some(changed) = bytes.get_mut(byte) {
+        *changed ^= 1;
     }
     place(drive, SHARD, &bytes)
 }

@@ -2,23 +2,14 @@
 
 ghost use Rattle.std.specs.Prelude.{◌+◌, ◌≤◌};
 
-use super::made::{damage, fresh_drives, gave, id, plan};
+use super::made::{damage, fresh_drives, gave, id, plan, some_body};
 use crate::read_whole;
 use put_stage::stage_whole;
-use std::alloc::{AllocError, Global};
+use std::alloc::Global;
 use std::test::Fail;
 
 /// The lengths around a stripe and two.
 const LENGTHS: [usize; 6] = [0, 1, 1_048_575, 1_048_576, 1_048_577, 2_097_152];
-
-/// Bytes that differ from place to place.
-fn some_body(alloc: Global, long: usize) -> Result<Vec<u8>, AllocError> {
-    let mut body = Vec::new(alloc);
-    for i in 0..long {
-        body.push((i % 251) as u8)?;
-    }
-    Ok(body)
-}
 
 /// Whether a body comes back after the first drives, as many as have parity, were damaged.
 fn comes_back(alloc: Global, drives: u8, parity: u8, long: usize) -> Result<bool, Fail>
