@@ -322,14 +322,13 @@ pub found_few : {D : Type 0} (tells : D → Bool) (files : D → Files) (count :
     → place ≡ set.drives
     → length next.rows.items < data_drives set.drives set.parity
     → AreFound tells files count set part i place found whys old new → AreSifted size 0 found next whys whys_next
-    → NoneMore tells files count set part whys_next old new
+    → NoneMore tells files count set part i whys_next old new
 found_few tells files count set part i place size found next whys whys_next old new within is all few so_far sifted =
     let after = found_sifted tells files count set part i place size 0 found next whys whys_next old new is so_far sifted in
     record {
       counted = after.counted;
       few = omega (arith, few, all, after.sum);
       each = λ k d low. after.none k (omega (arith, low, all)) d;
-      stripe = i;
       within = within;
       gave = λ k d low good.
           let row = after.gave k (omega (arith, low, all)) good in (

@@ -3,6 +3,7 @@ use Rattle.std.proofs.Common.{◌≡◌, ◌⊎◌, ℕ, ◌+◌, ◌*◌, ◌<�
 use Rattle.std.specs.Prelude.{Bool, Err, IfErr, IsTrue, Ok, Result}
 use Rattle.std.specs.Int.{IsBitSet}
 use Rattle.std.proofs.Math.Seq.{take-add}
+use Rattle.std.proofs.lemmas.Bool.{cases_lt}
 use Rattle.std.proofs.lemmas.List.{append-nil, append_assoc, take_all}
 use Rattle.call_types.specs.declared.why.FileKind.TheVariants.{Format, Register, Manifest, Shard}
 use Rattle.call_types.specs.declared.why.Why.{Why}
@@ -19,9 +20,16 @@ use Rattle.body_print.specs.Shards.{HasRoots}
 use Rattle.get_read.specs.Blocks.{AreFew, IsVerified, ShowsBlock, ShowsTable}
 use Rattle.get_read.specs.Causes.{NoBlock}
 use Rattle.get_read.specs.Keeping.{AreKept}
-use Rattle.get_read.specs.Parts.{AddsPart, AddsStripe, PartClash}
+use Rattle.get_read.specs.Parts.{AddsPart, AddsStripe, PartClash, StripeIsFew}
 use Rattle.get_read.specs.declared.faults.ReadFaultKind.{ReadFaultKind}
 use Rattle.get_read.specs.declared.faults.ReadFaultKind.TheVariants.{InvalidRange, ShardQuorum, NoMemory}
+
+-- the first bytes, as many as there are
+take_within : (n long : ℕ) (bytes : List ℕ) → length bytes ≡ long → take n bytes ≡ take (min n long) bytes
+take_within n long bytes is = elim (cases_lt n long) [
+  | inl short ↦ ap (λ (m : ℕ). take m bytes) (omega arith)
+  | inr past ↦ take_all n bytes (omega arith) ∙ sym (take_all (min n long) bytes (omega arith))
+]
 
 -- a cause that is told of drives that were kept is told of what they were
 no_block_before : (d : ℕ) (part : ManifestPart) (i : ℕ) (root : List ℕ) (why : Why) (out : Type 0) (tells tells_mid : Bool) (files files_mid : Files)
@@ -96,21 +104,20 @@ module _ {D : Type 0} (tells : D → Bool) (files : D → Files) (count : D → 
         same = is.same;
       }
 
-  pub few_before : (set : SetPlan) (part : ManifestPart) (fault : ReadFaultKind) (old mid new : List D) → length old ≡ set.drives
-      → AreKept tells files count set.out old mid → AreFew tells files count set part fault mid new → AreFew tells files count set part fault old new
-  few_before set part (InvalidRange end) old mid new all kept few = few
-  few_before set part NoMemory old mid new all kept few = few
-  few_before set part (ShardQuorum whys) old mid new all kept few = record {
+  pub few_before : (set : SetPlan) (part : ManifestPart) (stripe : ℕ) (fault : ReadFaultKind) (old mid new : List D) → length old ≡ set.drives
+      → AreKept tells files count set.out old mid → AreFew tells files count set part stripe fault mid new → AreFew tells files count set part stripe fault old new
+  few_before set part stripe (InvalidRange end) old mid new all kept few = few
+  few_before set part stripe NoMemory old mid new all kept few = few
+  few_before set part stripe (ShardQuorum whys) old mid new all kept few = record {
     counted = few.counted;
     few = few.few;
     each = λ k default low.
         let below : k < length old = omega (arith, low, all) in
-        no_block_before (data_drives set.drives set.parity) part few.stripe (slice_index_or part.roots k []) (slice_index_or whys k Good) (IsBitSet set.out k)
+        no_block_before (data_drives set.drives set.parity) part stripe (slice_index_or part.roots k []) (slice_index_or whys k Good) (IsBitSet set.out k)
         (tells (slice_index_or old k default)) (tells (slice_index_or mid k default)) (files (slice_index_or old k default))
         (files (slice_index_or mid k default)) (count (slice_index_or old k default)) (count (slice_index_or mid k default))
         (count (slice_index_or new k default)) (kept.same k default below) (kept.held k default below) (kept.faults k default below)
         (few.each k default low);
-    stripe = few.stripe;
     within = few.within;
     gave = λ k default low good.
         let below : k < length old = omega (arith, low, all) in
@@ -118,18 +125,23 @@ module _ {D : Type 0} (tells : D → Bool) (files : D → Files) (count : D → 
           it.0,
           (
             it.1.0,
-            verified_before (data_drives set.drives set.parity) part few.stripe (slice_index_or part.roots k [])
+            verified_before (data_drives set.drives set.parity) part stripe (slice_index_or part.roots k [])
                 (tells (slice_index_or old k default)) (tells (slice_index_or mid k default)) (files (slice_index_or old k default))
                 (files (slice_index_or mid k default)) it.1.0 (kept.same k default below) (kept.held k default below) it.1.1,
           ),
         );
   }
 
-  pub refused_before : {T : Type 0} (set : SetPlan) (part : ManifestPart) (result : Result T ReadFaultKind) (old mid new : List D)
-      → length old ≡ set.drives → AreKept tells files count set.out old mid → IfErr result (λ fault. AreFew tells files count set part fault mid new)
-      → IfErr result (λ fault. AreFew tells files count set part fault old new)
-  refused_before set part (Ok value) old mid new all kept few = few
-  refused_before set part (Err fault) old mid new all kept few = few_before set part fault old mid new all kept few
+  -- the same of a stripe that begins before so many bytes
+  pub stripe_few : {T : Type 0} (set : SetPlan) (part : ManifestPart) (stripe wanted : ℕ) (result : Result T ReadFaultKind) (old mid new : List D)
+      → length old ≡ set.drives → stripe_size * stripe < wanted → AreKept tells files count set.out old mid
+      → IfErr result (λ fault. AreFew tells files count set part stripe fault mid new)
+      → IfErr result (λ fault. StripeIsFew tells files count set part wanted fault old new)
+  stripe_few set part stripe wanted (Ok value) old mid new all low kept few = tt
+  stripe_few set part stripe wanted (Err (InvalidRange end)) old mid new all low kept few = few
+  stripe_few set part stripe wanted (Err NoMemory) old mid new all low kept few = tt
+  stripe_few set part stripe wanted (Err (ShardQuorum whys)) old mid new all low kept few =
+      (stripe, low, few_before set part stripe (ShardQuorum whys) old mid new all kept few)
 
   -- before the first stripe
   pub front_none : (set : SetPlan) (part : ManifestPart) (drives : List D) (body : List ℕ) → AddsFront set part 0 drives body body
@@ -159,15 +171,22 @@ module _ {D : Type 0} (tells : D → Bool) (files : D → Files) (count : D → 
         ];
   }
 
-  -- all stripes
-  pub front_all : (set : SetPlan) (part : ManifestPart) (i : ℕ) (drives : List D) (old new : List ℕ) → stripe_count part.length ≤ i
-      → AddsFront set part i drives old new → AddsPart tells files set part drives old new
-  front_all set part i drives old new all front =
-      let reach : part.length ≤ stripe_size * i = omega (arith, stripes_reach part.length, all) in
+  -- as many stripes as have the bytes that are wanted
+  pub front_all : (set : SetPlan) (part : ManifestPart) (wanted i : ℕ) (drives : List D) (old new : List ℕ) → stripe_count (min part.length wanted) ≤ i
+      → AddsFront set part i drives old new → AddsPart tells files set part wanted drives old new
+  front_all set part wanted i drives old new all front =
+      let most = stripe_size * i in
+      let reach : min part.length wanted ≤ most = omega (arith, stripes_reach (min part.length wanted), all) in
       record {
-        long = omega (arith, front.long, reach);
+        gained = min most part.length;
+        within = omega arith;
+        enough = elim (cases_lt most part.length) [
+          | inl short ↦ inr (omega (arith, reach))
+          | inr past ↦ inl (omega arith)
+        ];
+        long = front.long;
         exact = λ bytes is roots. elim (front.exact bytes is roots) [
-          | inl same ↦ inl (same ∙ ap (λ (m : List ℕ). old ++ m) (take_all (stripe_size * i) bytes (omega (arith, is, reach))))
+          | inl same ↦ inl (same ∙ ap (λ (m : List ℕ). old ++ m) (take_within most part.length bytes is))
           | inr clash ↦ inr clash
         ];
       }

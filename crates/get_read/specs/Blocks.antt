@@ -80,8 +80,7 @@ module _ {D : Type 0} (tells : D → Bool) (files : D → Files) where
 
 module _ {D : Type 0} (tells : D → Bool) (files : D → Files) (count : D → ℕ) where
   -- fewer drives than a stripe has data blocks gave a verified block of it, none of which is out, and why each other gave none
-  pub record NoneMore (set : SetPlan) (part : ManifestPart) (whys : List Why) (old new : List D) : Type 0 where
-    pub stripe : ℕ
+  pub record NoneMore (set : SetPlan) (part : ManifestPart) (stripe : ℕ) (whys : List Why) (old new : List D) : Type 0 where
     pub within : stripe < stripe_count part.length
     pub counted : length whys ≡ set.drives
     pub few : good_count whys < data_drives set.drives set.parity
@@ -93,8 +92,8 @@ module _ {D : Type 0} (tells : D → Bool) (files : D → Files) (count : D → 
         → (IsBitSet set.out k → ⊥) × GaveBlock (data_drives set.drives set.parity) part stripe (slice_index_or part.roots k [])
         (tells (slice_index_or old k default)) (files (slice_index_or old k default))
 
-  -- the cause where too few blocks verified
-  abbrev pub AreFew : SetPlan → ManifestPart → ReadFaultKind → List D → List D → Type 0
-  AreFew set part (InvalidRange _) old new = ⊥
-  AreFew set part (ShardQuorum whys) old new = NoneMore set part whys old new
-  AreFew set part NoRoom old new = Unit {0}
+  -- the cause where too few blocks of a stripe verified
+  abbrev pub AreFew : SetPlan → ManifestPart → ℕ → ReadFaultKind → List D → List D → Type 0
+  AreFew set part stripe (InvalidRange _) old new = ⊥
+  AreFew set part stripe (ShardQuorum whys) old new = NoneMore set part stripe whys old new
+  AreFew set part stripe NoRoom old new = Unit {0}

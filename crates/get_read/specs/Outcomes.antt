@@ -1,5 +1,5 @@
 -- What a reader answers.
-use Rattle.std.specs.Prelude.{◌≡◌, ◌⊎◌, ◌<◌, ℕ, Bool, IsTrue, Some, List, length, take, drop, slice_index_or, Contains, Result, Ok, Err}
+use Rattle.std.specs.Prelude.{◌≡◌, ◌⊎◌, ◌<◌, ℕ, Bool, IsTrue, Some, List, length, take, drop, slice_index_or, Result, Ok, Err}
 use Rattle.std.specs.Int.{IsBitSet}
 use Rattle.stamp_id.specs.declared.version.VersionId.{VersionId}
 use Rattle.call_types.specs.declared.why.Why.{Why}
@@ -9,12 +9,11 @@ use Rattle.drive_base.specs.declared.plan.SetPlan.{SetPlan}
 use Rattle.manifest_file.specs.Canonical.{IsCanonical}
 use Rattle.manifest_file.specs.Spelling.{file_of}
 use Rattle.manifest_file.specs.declared.manifest.Manifest.{Manifest}
-use Rattle.manifest_file.specs.declared.manifest.ManifestPart.{ManifestPart}
 use Rattle.body_print.specs.Clashes.{Clash}
 use Rattle.body_print.specs.Names.{manifest_name}
 use Rattle.body_print.specs.Prints.{HasPrint}
-use Rattle.get_read.specs.Blocks.{NoneMore}
 use Rattle.get_read.specs.Causes.{Wanted, Serves, NoManifest}
+use Rattle.get_read.specs.Parts.{LacksStripe}
 use Rattle.get_read.specs.declared.faults.ReadFaultKind.{ReadFaultKind}
 use Rattle.get_read.specs.declared.faults.ReadFaultKind.TheVariants.{InvalidRange, ShardQuorum, NoMemory}
 
@@ -42,15 +41,14 @@ module _ {D : Type 0} (tells : D → Bool) (files : D → Files) (count : D → 
         (tells (slice_index_or old k default)) (files (slice_index_or old k default))
         (count (slice_index_or old k default)) (count (slice_index_or new k default))
 
-  -- a manifest with the print was read from a drive, and of a stripe of one of its parts too few drives gave a block
+  -- a manifest with the print was read from a drive, and of a stripe of its parts, which begins before what is asked for ends,
+  -- too few drives gave a block
   pub record FewBlocks (set : SetPlan) (print : List ℕ) (id : VersionId) (reach : ℕ) (whys : List Why) (old new : List D) : Type 0 where
     pub manifest : Manifest
     pub found : IsFound tells files id manifest old
     pub canonical : IsCanonical manifest
     pub serves : Serves (wanted_of set print reach) manifest
-    pub part : ManifestPart
-    pub among : Contains manifest.parts part
-    pub lacking : NoneMore tells files count set part whys old new
+    pub lacks : LacksStripe tells files count set manifest.parts reach whys old new
 
   -- the cause of a refused read: all drives were tried, and too few gave what was asked
   abbrev pub IsRefused : SetPlan → List ℕ → VersionId → ℕ → ReadFaultKind → List D → List D → Type 0

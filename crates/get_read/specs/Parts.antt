@@ -1,5 +1,5 @@
 -- What reading parts adds to a body.
-use Rattle.std.specs.Prelude.{◌≡◌, ◌≢◌, ◌⊎◌, ◌+◌, ◌-◌, ◌<◌, ℕ, Bool, List, [], ◌++◌, Contains, length, slice_index_or, take}
+use Rattle.std.specs.Prelude.{◌≡◌, ◌≢◌, ◌⊎◌, ◌+◌, ◌-◌, ◌*◌, ◌<◌, ◌≤◌, ℕ, Bool, List, [], ◌++◌, Some, length, slice_get, slice_index_or, take}
 use Rattle.std.specs.List.{concat}
 use Rattle.sha2.specs.Sha256.{sha256}
 use Rattle.drive_base.specs.Files.{Files}
@@ -11,8 +11,11 @@ use Rattle.body_print.specs.Clashes.{WasRead, IsTableOrBlock}
 use Rattle.manifest_file.specs.Print.{cut_of}
 use Rattle.body_print.specs.Prints.{IsCutOf}
 use Rattle.body_print.specs.Shards.{HasRoots}
-use Rattle.get_read.specs.Blocks.{AreFew}
+use Rattle.call_types.specs.declared.why.Why.{Why}
+use Rattle.get_read.specs.Blocks.{NoneMore}
+use Rattle.get_read.specs.Causes.{body_length}
 use Rattle.get_read.specs.declared.faults.ReadFaultKind.{ReadFaultKind}
+use Rattle.get_read.specs.declared.faults.ReadFaultKind.TheVariants.{InvalidRange, ShardQuorum, NoMemory}
 
 -- a body is cut as parts say: into as many byte strings, of their lengths and with their roots
 pub record IsCutAs (n p : ℕ) (parts : List ManifestPart) (cut : List (List ℕ)) : Type 0 where
@@ -41,20 +44,41 @@ module _ {D : Type 0} (tells : D → Bool) (files : D → Files) where
         → HasRoots set.drives (data_drives set.drives set.parity) bytes part.roots
         → (new ≡ old ++ piece stripe_size bytes i) ⊎ PartClash set.drives (data_drives set.drives set.parity) bytes drives
 
-  -- the body has gained as many bytes as the part has, and they are those of each byte string of this length that has
-  -- the part's roots, or there is a clash
-  pub record AddsPart (set : SetPlan) (part : ManifestPart) (drives : List D) (old new : List ℕ) : Type 0 where
-    pub long : length new ≡ length old + part.length
+  -- the body has gained as many bytes as were wanted, or all of the part, and they are the first ones of each byte string
+  -- of the part's length that has its roots, or there is a clash
+  pub record AddsPart (set : SetPlan) (part : ManifestPart) (wanted : ℕ) (drives : List D) (old new : List ℕ) : Type 0 where
+    pub gained : ℕ
+    pub within : gained ≤ part.length
+    pub enough : (gained ≡ part.length) ⊎ (wanted ≤ gained)
+    pub long : length new ≡ length old + gained
     pub exact : (bytes : List ℕ) → length bytes ≡ part.length
         → HasRoots set.drives (data_drives set.drives set.parity) bytes part.roots
-        → (new ≡ old ++ bytes) ⊎ PartClash set.drives (data_drives set.drives set.parity) bytes drives
+        → (new ≡ old ++ take gained bytes) ⊎ PartClash set.drives (data_drives set.drives set.parity) bytes drives
 
-  -- bytes are the first parts, joined, of each body that is cut as the parts say, or there is a clash
+  -- bytes are the first ones of the parts, joined, of each body that is cut as the parts say, or there is a clash
   abbrev pub AreFront : SetPlan → List ManifestPart → List D → List ℕ → Type 0
-  AreFront set parts drives body = (i : ℕ) × ((cut : List (List ℕ)) → IsCutAs set.drives set.parity parts cut
-      → (body ≡ concat (take i cut)) ⊎ CutClash set.drives set.parity cut drives)
+  AreFront set parts drives body = (cut : List (List ℕ)) → IsCutAs set.drives set.parity parts cut
+      → (body ≡ take (length body) (concat cut)) ⊎ CutClash set.drives set.parity cut drives
 
 module _ {D : Type 0} (tells : D → Bool) (files : D → Files) (count : D → ℕ) where
-  -- the cause where too few blocks of one of the parts verified
-  abbrev pub SomeAreFew : SetPlan → List ManifestPart → ReadFaultKind → List D → List D → Type 0
-  SomeAreFew set parts fault old new = (part : ManifestPart) × Contains parts part × AreFew tells files count set part fault old new
+  -- the cause where too few blocks of a stripe of a part verified, which begins before so many bytes of the part
+  abbrev pub StripeIsFew : SetPlan → ManifestPart → ℕ → ReadFaultKind → List D → List D → Type 0
+  StripeIsFew set part wanted (InvalidRange _) old new = ⊥
+  StripeIsFew set part wanted (ShardQuorum whys) old new =
+      (stripe : ℕ) × (stripe_size * stripe < wanted) × NoneMore tells files count set part stripe whys old new
+  StripeIsFew set part wanted NoMemory old new = Unit {0}
+
+  -- too few drives gave a block of a stripe of one of the parts, which begins before so many bytes of them all
+  pub record LacksStripe (set : SetPlan) (parts : List ManifestPart) (reach : ℕ) (whys : List Why) (old new : List D) : Type 0 where
+    pub place : ℕ
+    pub part : ManifestPart
+    pub at : slice_get parts place ≡ Some part
+    pub stripe : ℕ
+    pub needed : body_length (take place parts) + stripe_size * stripe < reach
+    pub lacking : NoneMore tells files count set part stripe whys old new
+
+  -- the cause where too few blocks of a stripe of one of the parts verified
+  abbrev pub SomeAreFew : SetPlan → List ManifestPart → ℕ → ReadFaultKind → List D → List D → Type 0
+  SomeAreFew set parts reach (InvalidRange _) old new = ⊥
+  SomeAreFew set parts reach (ShardQuorum whys) old new = LacksStripe set parts reach whys old new
+  SomeAreFew set parts reach NoMemory old new = Unit {0}

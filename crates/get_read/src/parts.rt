@@ -7,7 +7,7 @@ ghost use Rattle.drive_base.specs.Plan.{data_drives};
 ghost use Rattle.get_read.specs.Blocks.{AreFew, AreHeld};
 ghost use Rattle.get_read.specs.Causes.{body_length};
 ghost use Rattle.get_read.specs.Keeping.{AreKept};
-ghost use Rattle.get_read.specs.Parts.{AddsPart, AddsStripe, AreFront, SomeAreFew};
+ghost use Rattle.get_read.specs.Parts.{AddsPart, AddsStripe, AreFront, SomeAreFew, StripeIsFew};
 
 use crate::faults::ReadFaultKind;
 use crate::stripes::{add_stripe, blocks_of};
@@ -17,7 +17,7 @@ use manifest_file::ManifestPart;
 use shard_file::{STRIPE, block_len};
 use std::alloc::{AllocError, Global};
 
-/// The bytes of the first parts of a body, as many parts as reach to a length.
+/// The first bytes of a body, as many stripes of its parts as reach to a length. No stripe is read beyond it.
 pub fn parts_of<D: Drive>(
     alloc: Global,
     set: SetPlan,
@@ -30,7 +30,7 @@ pub fn parts_of<D: Drive>(
     requires reach { long ≤ body_length parts.now }
     ensures reach { IfOk result (λ body. long ≤ length body.items) }
     ensures front { IfOk result (λ body. AreFront D.tells D.files set parts.now drives.old body.items) }
-    ensures few { IfErr result (λ fault. SomeAreFew D.tells D.files D.count set parts.now fault drives.old drives.new) }
+    ensures few { IfErr result (λ fault. SomeAreFew D.tells D.files D.count set parts.now long fault drives.old drives.new) }
     ensures kept { AreKept D.tells D.files D.count set.out drives.old drives.new }
 {
     let mut body = Vec::new(alloc);
@@ -38,29 +38,31 @@ pub fn parts_of<D: Drive>(
         if body.len() as u64 >= long {
             return Ok(body);
         }
-        add_part(alloc, set, part, drives, &mut body)?;
+        let missing = long - body.len() as u64;
+        add_part(alloc, set, part, missing, drives, &mut body)?;
     }
     Ok(body)
 }
 
-/// Adds the bytes of a part to the body.
+/// Adds the first stripes of a part to the body, as many as have the bytes that are wanted.
 fn add_part<D: Drive>(
     alloc: Global,
     set: SetPlan,
     part: &ManifestPart,
+    wanted: u64,
     drives: &mut [D],
     body: &mut Vec<u8>,
 ) -> Result<(), ReadFaultKind>
     requires drives { length drives.old ≡ set.drives }
     requires roots { length part.now.roots ≡ set.drives }
-    ensures added { IsOk result → AddsPart D.tells D.files set part.now drives.old body.old.items body.new.items }
-    ensures few { IfErr result (λ fault. AreFew D.tells D.files D.count set part.now fault drives.old drives.new) }
+    ensures added { IsOk result → AddsPart D.tells D.files set part.now wanted drives.old body.old.items body.new.items }
+    ensures few { IfErr result (λ fault. StripeIsFew D.tells D.files D.count set part.now wanted fault drives.old drives.new) }
     ensures kept { AreKept D.tells D.files D.count set.out drives.old drives.new }
 {
     let name = name_of_shard(alloc, part.id)?;
     let mut tables = no_tables(alloc, set.drives)?;
     let tables = tables.as_mut_slice();
-    for stripe in 0..part.length.div_ceil(STRIPE) {
+    for stripe in 0..part.length.min(wanted).div_ceil(STRIPE) {
         stripe_at(
             alloc,
             set,
@@ -95,7 +97,7 @@ fn stripe_at<D: Drive>(
     ensures held { AreHeld D.tells D.files (data_drives set.drives set.parity) part.now tables.new drives.new }
     ensures tables { length tables.new ≡ length tables.old }
     ensures added { IsOk result → AddsStripe D.tells D.files set part.now stripe drives.old body.old.items body.new.items }
-    ensures few { IfErr result (λ fault. AreFew D.tells D.files D.count set part.now fault drives.old drives.new) }
+    ensures few { IfErr result (λ fault. AreFew D.tells D.files D.count set part.now stripe fault drives.old drives.new) }
     ensures kept { AreKept D.tells D.files D.count set.out drives.old drives.new }
 {
     let long = (part.length - stripe * STRIPE).min(STRIPE);

@@ -44,7 +44,7 @@ pub fn blocks_of<D: Drive>(
     ensures held { AreHeld D.tells D.files (data_drives set.drives set.parity) part.now tables.new drives.new }
     ensures tables { length tables.new ≡ length tables.old }
     ensures enough { IfOk result (λ blocks. AreEnough D.tells D.files set part.now stripe blocks.rows.items blocks.bytes.items drives.old) }
-    ensures few { IfErr result (λ fault. AreFew D.tells D.files D.count set part.now fault drives.old drives.new) }
+    ensures few { IfErr result (λ fault. AreFew D.tells D.files D.count set part.now stripe fault drives.old drives.new) }
     ensures kept { AreKept D.tells D.files D.count set.out drives.old drives.new }
 {
     let mut found = Blocks {

@@ -14,9 +14,10 @@ use std::alloc::Global;
 /// The first bytes, so many, of the body with this print, from the manifest and the shard files of an id.
 ///
 /// The drives are asked one after the other: for the manifest until one has it, and for each stripe until as many gave a
-/// verified block as the stripe has data blocks. `ShardQuorum` comes only after all drives were asked, with the cause for
-/// each: none had a manifest of this print and of the set's numbers that reaches so far, or too few had a block of some
-/// stripe. No drive is changed, and one that is out isn't called.
+/// verified block as the stripe has data blocks. No stripe is read that begins past the bytes that are asked for.
+/// `ShardQuorum` comes only after all drives were asked, with the cause for each: none had a manifest of this print and of
+/// the set's numbers that reaches so far, or too few had a block of some stripe that was read. No drive is changed, and one
+/// that is out isn't called.
 pub fn read_whole<D: Drive>(
     alloc: Global,
     set: SetPlan,

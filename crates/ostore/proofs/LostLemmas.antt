@@ -1,6 +1,6 @@
 -- Why the data of a version wasn't read: a drive that keeps it failed.
 use Rattle.std.proofs.Common.{◌≡◌, ◌≢◌, inl, inr, ℕ, zero, suc, ◌<◌, ◌≤◌, Bool, false, IsTrue, List, [], ◌∷◌, length, map, slice_index_or, Some, None, refl, sym, ap, ◌∙◌, subst, arith}
-use Rattle.std.specs.Prelude.{Contains}
+use Rattle.std.specs.Prelude.{slice_get}
 use Rattle.std.specs.Int.{IsBitSet}
 use Rattle.std.proofs.lemmas.List.{get_or-map, length-map}
 use Rattle.field_reader.specs.Format.{fault_at, place_of}
@@ -164,9 +164,9 @@ only_manifest bodies k id body named m canonical few brought only there = by onl
         files_injective m (manifest_made id other coding) canonical (manifest_canonical id other coding (subst (λ b. length b ≤ 5368709120) (sym same) few)) file in
         subst (λ b. IsOnePart id b m) same (record { coding = coding; is = made })
 
-only_part : (one part : ManifestPart) → Contains (one ∷ []) part → part ≡ one
-only_part one part (zero, lt, is) = sym is
-only_part one part (suc k, lt, is) = absurd (omega arith)
+only_part : (one part : ManifestPart) (place : ℕ) → slice_get (one ∷ []) place ≡ Some part → part ≡ one
+only_part one part zero is = cc
+only_part one part (suc place) is = absurd cc
 
 another : (lost : ℕ) → (k : ℕ) × (k < 4) × (k ≢ lost)
 another zero = (1, omega arith, λ same. (let e : 1 ≡ 0 = same in omega arith))
@@ -220,8 +220,8 @@ module _ {D : Type 0} (tells : D → Bool) (files : D → Files) (count : D → 
       let shown = λ (d : D). found d (held.told at d at_low) in
       let one = λ (d : D). only_manifest bodies at id held.body (files (slice_index_or old at d)).kept few.manifest few.canonical small held.brought (held.only at d at_low)
       (ap (λ (f : Named (List ℕ)). f (manifest_name id)) (sym (held.shows at d at_low)) ∙ shown d) in
-      let counted : length whys ≡ 4 = few.lacking.counted in
-      let fewer : good_count whys < 2 = few.lacking.few in
+      let counted : length whys ≡ 4 = few.lacks.lacking.counted in
+      let fewer : good_count whys < 2 = few.lacks.lacking.few in
       let (k, low, other, bad) = another_fails is_good whys Good h.lost (omega arith) in
       let lt : k < length old = (let four : length old ≡ 4 = held.four in omega arith) in
       (k, lt, λ d. of_part d (one d) k lt other bad)
@@ -232,20 +232,20 @@ module _ {D : Type 0} (tells : D → Bool) (files : D → Files) (count : D → 
           let h = held.holders in
           let low : k < 4 = (let four : length old ≡ 4 = held.four in omega arith) in
           let made : ManifestPart = record { id = id; length = length held.body; roots = map root_of one.coding.shards } in
-          let part : few.part ≡ made = only_part made few.part (subst (λ (m : Manifest). Contains m.parts few.part) one.is few.among) in
+          let part : few.lacks.part ≡ made = only_part made few.lacks.part few.lacks.place (subst (λ (m : Manifest). slice_get m.parts few.lacks.place ≡ Some few.lacks.part) one.is few.lacks.at) in
           let shards : one.coding.shards ≡ h.coding.shards = shards_are_one 4 2 held.body one.coding.shards h.coding.shards (omega arith) (omega arith) one.coding.are h.coding.are in
           let counted : length one.coding.shards ≡ 4 = one.coding.are.count in
           let blocks = slice_index_or h.coding.shards k [] in
-          let root : slice_index_or few.part.roots k [] ≡ root_of blocks =
+          let root : slice_index_or few.lacks.part.roots k [] ≡ root_of blocks =
           ap (λ (p : ManifestPart). slice_index_or p.roots k []) part ∙ get_or-map root_of one.coding.shards k [] [] (omega arith)
           ∙ ap (λ (s : List (List (List ℕ))). root_of (slice_index_or s k [])) shards in
-          let are : AreShardBlocks 2 few.part.length blocks =
+          let are : AreShardBlocks 2 few.lacks.part.length blocks =
           subst (λ (p : ManifestPart). AreShardBlocks 2 p.length blocks) (sym part) (shards_have_their_blocks 4 2 held.body h.coding.shards k h.coding.are low) in
-          let there : (files (slice_index_or old k d)).shown (shard_name few.part.id) ≡ Some (shard_bytes blocks) =
+          let there : (files (slice_index_or old k d)).shown (shard_name few.lacks.part.id) ≡ Some (shard_bytes blocks) =
           subst (λ (p : ManifestPart). (files (slice_index_or old k d)).shown (shard_name p.id) ≡ Some (shard_bytes blocks)) (sym part)
           (ap (λ (f : Named (List ℕ)). f (shard_name id)) (held.shows k d lt) ∙ (h.holds k d lt other).shard) in
-          no_block_rose few.part few.lacking.stripe (slice_index_or few.part.roots k []) (slice_index_or whys k Good) (IsBitSet 0 k) (tells (slice_index_or old k d)) (files (slice_index_or old k d))
-          (count (slice_index_or old k d)) (count (slice_index_or new k d)) blocks (none_out k) (held.told k d lt) bad are few.lacking.within root there (few.lacking.each k d low)
+          no_block_rose few.lacks.part few.lacks.stripe (slice_index_or few.lacks.part.roots k []) (slice_index_or whys k Good) (IsBitSet 0 k) (tells (slice_index_or old k d)) (files (slice_index_or old k d))
+          (count (slice_index_or old k d)) (count (slice_index_or new k d)) blocks (none_out k) (held.told k d lt) bad are few.lacks.lacking.within root there (few.lacks.lacking.each k d low)
 
   -- data that is held was not read: some drive's count rose
   pub data_cause : (id : VersionId) (print : List ℕ) (size : ℕ) (bodies : Named (List ℕ)) (old new : List D) → IsHeldWell id print size bodies old

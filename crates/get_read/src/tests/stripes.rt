@@ -52,10 +52,12 @@ fn digest_of(
     Ok(Sha256::digest(&bytes))
 }
 
-/// What a read of a body answers after these blocks of the drives were damaged, each of which becomes its drive's cause.
+/// What a read of so many bytes of a body answers after these blocks of the drives were damaged. Each becomes its
+/// drive's cause.
 fn answer_after(
     alloc: Global,
     body: &[u8],
+    long: u64,
     damages: &[(usize, Block)],
     causes: &mut Whys,
 ) -> Result<Result<Vec<u8>, ReadFaultKind>, Fail> {
@@ -76,7 +78,7 @@ fn answer_after(
             causes.set(*at, Why::Damaged(Damage::Digest { stored, computed }));
         }
     }
-    Ok(read_whole(alloc, set, staged.print, id(), staged.length, drives))
+    Ok(read_whole(alloc, set, staged.print, id(), long, drives))
 }
 
 #[test]
@@ -86,10 +88,10 @@ fn a_drive_with_a_bad_block_of_one_stripe_gives_that_of_the_next(
     let body = some_body(rt.alloc(), LONG)?;
     let mut causes = Whys::all_good(4);
     let damages = [(0, FIRST), (1, SECOND), (2, SECOND)];
-    let answer = answer_after(rt.alloc(), &body, &damages, &mut causes)?;
+    let answer = answer_after(rt.alloc(), &body, LONG as u64, &damages, &mut causes)?;
     assert!(rt; gave(answer, &body));
     let damages = [(0, SECOND), (1, FIRST), (2, FIRST)];
-    let answer = answer_after(rt.alloc(), &body, &damages, &mut causes)?;
+    let answer = answer_after(rt.alloc(), &body, LONG as u64, &damages, &mut causes)?;
     assert!(rt; gave(answer, &body));
     Ok(())
 }
@@ -100,12 +102,27 @@ fn two_bad_blocks_of_a_stripe_leave_it_and_three_are_told(rt: HostRuntime) -> Re
     for block in [FIRST, SECOND] {
         let mut causes = Whys::all_good(4);
         let damages = [(0, block), (2, block)];
-        let answer = answer_after(rt.alloc(), &body, &damages, &mut causes)?;
+        let answer = answer_after(rt.alloc(), &body, LONG as u64, &damages, &mut causes)?;
         assert!(rt; gave(answer, &body));
         let mut causes = Whys::all_good(4);
         let damages = [(0, block), (2, block), (3, block)];
-        let answer = answer_after(rt.alloc(), &body, &damages, &mut causes)?;
+        let answer = answer_after(rt.alloc(), &body, LONG as u64, &damages, &mut causes)?;
         assert_eq!(rt; answer.err(), Some(ReadFaultKind::ShardQuorum(causes)));
     }
+    Ok(())
+}
+
+#[test]
+fn a_stripe_beyond_the_length_is_not_read(rt: HostRuntime) -> Result<(), Fail> {
+    let body = some_body(rt.alloc(), LONG)?;
+    let mut causes = Whys::all_good(4);
+    let damages = [(0, SECOND), (1, SECOND), (2, SECOND)];
+    for long in [1, LONG - 1] {
+        let front = some_body(rt.alloc(), long)?;
+        let answer = answer_after(rt.alloc(), &body, long as u64, &damages, &mut causes)?;
+        assert!(rt; gave(answer, &front));
+    }
+    let answer = answer_after(rt.alloc(), &body, LONG as u64, &damages, &mut causes)?;
+    assert_eq!(rt; answer.err(), Some(ReadFaultKind::ShardQuorum(causes)));
     Ok(())
 }

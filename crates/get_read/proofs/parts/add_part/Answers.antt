@@ -1,10 +1,10 @@
-use Rattle.std.proofs.Common.{rules, ◌<◌, ◌≤◌, ◌∙◌, ℕ, List, length, slice_index_or, subst, ap, inl, refl, arith}
+use Rattle.std.proofs.Common.{rules, ◌<◌, ◌≤◌, ◌∙◌, ℕ, List, length, min, slice_index_or, subst, ap, inl, refl, arith}
 use Rattle.std.specs.Global.{Global}
 use Rattle.std.specs.Prelude.{IfErr, Vec}
 use Rattle.shard_file.specs.Stripes.{stripe_count}
 use Rattle.get_read.specs.Blocks.{AreFew}
 use Rattle.get_read.proofs.KeepingLemmas.{kept_alone, kept_on}
-use Rattle.get_read.proofs.PartLemmas.{refused_before, front_all, front_more, front_none}
+use Rattle.get_read.proofs.PartLemmas.{stripe_few, front_all, front_more, front_none}
 use Rattle.get_read.proofs.parts.add_part.Goals as goal
 
 pub loop-stripe-init : goal.loop-stripe-init
@@ -42,8 +42,8 @@ loop-stripe-preserved g c =
 pub returns-clause-added : goal.returns-clause-added
 returns-clause-added g c = λ ok.
     let D = g.D.Drive in
-    let all : stripe_count c.args.part.now.length ≤ c.loop-stripe.stripe = omega arith in
-    front_all D.tells D.files D.count c.args.set c.args.part.now c.loop-stripe.stripe c.args.drives.now c.args.body.now.items c.loop-stripe.body.items all
+    let all : stripe_count (min c.args.part.now.length c.args.wanted) ≤ c.loop-stripe.stripe = omega arith in
+    front_all D.tells D.files D.count c.args.set c.args.part.now c.args.wanted c.loop-stripe.stripe c.args.drives.now c.args.body.now.items c.loop-stripe.body.items all
     c.loop-stripe.invariant.added
 
 pub returns-in_err-stripe_at-clause-few : goal.returns-in_err-stripe_at-clause-few
@@ -51,6 +51,6 @@ returns-in_err-stripe_at-clause-few g c =
     let D = g.D.Drive in
     let mid = c.loop-stripe.drives in
     let new = c.stripe_at.new.drives in
-    let few : IfErr c.from_residual-in_err-stripe_at.result (λ fault. AreFew D.tells D.files D.count c.args.set c.args.part.now fault mid new) = search rules in
-    refused_before D.tells D.files D.count c.args.set c.args.part.now c.from_residual-in_err-stripe_at.result c.args.drives.now mid new c.requires.drives
-    c.loop-stripe.invariant.kept few
+    let few : IfErr c.from_residual-in_err-stripe_at.result (λ fault. AreFew D.tells D.files D.count c.args.set c.args.part.now c.loop-stripe.stripe fault mid new) = search rules in
+    stripe_few D.tells D.files D.count c.args.set c.args.part.now c.loop-stripe.stripe c.args.wanted c.from_residual-in_err-stripe_at.result c.args.drives.now
+    mid new c.requires.drives (omega arith) c.loop-stripe.invariant.kept few

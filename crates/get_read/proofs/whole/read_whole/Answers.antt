@@ -26,11 +26,11 @@ returns-in_err-body-clause-refused g c =
       stay = c.manifest_for.ensures.stay;
     } in
     let p = err_from_is_err_and result c.from_residual-in_err-body.ensures.1 in
-    let few : IfErr result (λ fault. SomeAreFew D.tells D.files D.count set c.as_slice.result.now fault mid new) = rw (p.1, p.2) c.in_err-body.ensures.few in
-    let some : IfErr result (λ fault. SomeAreFew D.tells D.files D.count set m.parts fault mid new) =
-    subst (λ (parts : List ManifestPart). IfErr result (λ fault. SomeAreFew D.tells D.files D.count set parts fault mid new)) c.as_slice.ensures few in
+    let few : IfErr result (λ fault. SomeAreFew D.tells D.files D.count set c.as_slice.result.now c.args.long fault mid new) = rw (p.1, p.2) c.in_err-body.ensures.few in
+    let some : IfErr result (λ fault. SomeAreFew D.tells D.files D.count set m.parts c.args.long fault mid new) =
+    subst (λ (parts : List ManifestPart). IfErr result (λ fault. SomeAreFew D.tells D.files D.count set parts c.args.long fault mid new)) c.as_slice.ensures few in
     refused_whole D.tells D.files D.count set c.args.print c.args.id c.args.long m result old new given.0 given.1 given.2
-    (some_before D.tells D.files D.count set m.parts result old mid new c.requires kept some)
+    (some_before D.tells D.files D.count set m.parts c.args.long result old mid new c.requires kept some)
 
 pub returns-clause-exact : goal.returns-clause-exact
 returns-clause-exact g c =
