@@ -36,7 +36,7 @@ pub struct PlainEnded<D> {
 /// source to the sink. The word behind it is the versioning of the one bucket, `pic`: `off`, `on` or `suspended`;
 /// `pipe` alone is `pipe off`.
 ///
-/// The replies are those of S3's versioned objects, one after another, from keys without versions. A PUT or a DELETE
+/// The replies are those of versioned objects as S3 has them, one after another, from keys without versions. A PUT or a DELETE
 /// that is answered 503 is done or leaves the key as it was. After one that is answered otherwise, every drive keeps
 /// the key's new state, and none shows the data that was taken out, unless it failed in that request. No request
 /// touches the file of another key. One that finds no memory leaves the file of every key, though its body may be

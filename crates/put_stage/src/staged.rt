@@ -24,14 +24,16 @@ pub struct Staged {
 pub enum StageFault {
     /// Fewer drives than a write needs did all calls: why, for each drive.
     WriteQuorum(Whys),
-    /// The MD5 that was stated isn't the body's, which is `computed`. Nothing was put in place.
+    /// The MD5 that was stated isn't the body's. Nothing was put in place.
     BadDigest {
+        /// The MD5 that was stated.
         stated: [u8; 16],
+        /// The body's.
         computed: [u8; 16],
     },
-    /// The feed ended before the stated length.
+    /// The body ended before its stated length. No call answers so yet.
     BodyCut,
-    /// The feed's source failed.
+    /// The source of the body failed. No call answers so yet.
     ReadFault,
     /// There was not enough memory. Nothing was put in place.
     NoMemory,

@@ -28,7 +28,7 @@ fn staged(
     stage_whole(alloc, plan(out), id(), "k/pic/a", body, md5, drives)
 }
 
-/// How many drives show the shard file and the manifest of `hello`.
+/// Which drives show the shard file and the manifest of `hello`.
 fn that_show_hello(alloc: Global, drives: &mut [MemDrive]) -> Result<[bool; 4], Fail> {
     let mut shown = [false; 4];
     for (place, drive) in drives.iter_mut().enumerate() {
