@@ -14,8 +14,8 @@ use Rattle.ostore.specs.Commits.{IsPrepared}
 use Rattle.ostore.specs.Drives.{AllTell, name_of, loose_name_of}
 use Rattle.ostore.specs.Heads.{SpellsDelete}
 use Rattle.ostore.specs.Leaves.{sides, Shows, CommitLeaves, LooksInVain, ChangesNothing, WritesInVain, Makes}
-use Rattle.ostore.specs.Objects.{Objects, Answer, delete, replied, unavailable, with_numbers, with_change}
-use Rattle.ostore.specs.Session.{ClearsKey, WritesKey, OthersStay, Exchange, Gives, wires, TurnOver, Step as ExchangeStep, moment}
+use Rattle.ostore.specs.Objects.{Objects, Answer, delete, replied, unavailable, MayDelete, with_numbers, with_change}
+use Rattle.ostore.specs.Session.{ClearsKey, WritesKey, MayKeep, OthersStay, Exchange, Gives, wires, TurnOver, Step as ExchangeStep, moment}
 use Rattle.ostore.specs.Slots.{slot_of, Drawn, with_drawn, IsIdOf}
 use Rattle.ostore.specs.Holders.{IsHeld}
 use Rattle.ostore.specs.Store.{Ready, IsSound}
@@ -25,7 +25,7 @@ use Rattle.ostore.proofs.StandsLemmas.{all_or_not, shown_is, shows_only, look_ca
 use Rattle.ostore.proofs.StateLemmas.{delete_step_keeps, delete_step_uploads, sound_drawn_later, marker_is_sound}
 use Rattle.ostore.proofs.TurnLemmas.{counts_each, cause_of_some, answered}
 use Rattle.ostore.proofs.DrawnLemmas.{grows_with_drawn, with_drawn_here, next_was_drawn}
-use Rattle.ostore.proofs.WriteLemmas.{writes_made, stays_seen, keys_same, others_refused, others_made}
+use Rattle.ostore.proofs.WriteLemmas.{writes_made, maybe_written, may_keep_seen, stays_seen, keys_same, others_refused, others_made}
 
 -- the exchange of a DELETE
 abbrev deleted : List ℕ → Pick → List ℕ → Answer → Exchange
@@ -46,7 +46,7 @@ module _ {D : Type 0} (clock : Option ℕ) (mode : Mode) (tell : D → Bool) (fi
         asks = asks;
         fits = tt;
         shows = λ all. shows_only clock mode tell files count number (number + number) objects old (begins.ready all);
-        writes = λ all. tt;
+        writes = λ all. inl (keys_same clock mode tell files count objects objects old new begins.same looks.stays all key);
         spares = λ all other apart. keys_same clock mode tell files count objects objects old new begins.same looks.stays all other;
         clears = λ all. tt;
         serves = λ all. inl refl;
@@ -122,6 +122,23 @@ module _ {D : Type 0} (clock : Option ℕ) (mode : Mode) (tell : D → Bool) (fi
   delete_datas number most key pick objects id now reply state old ready step =
       delete_step_keeps (λ v. IsHeld files objects.bodies key old v.what) (objects.states key) state mode pick id now reply step (ready.datas key) tt
 
+  -- the DELETE was prepared, and isn't answered: it takes place or not
+  may_change : (number : ℕ) (key : List ℕ) (pick : Pick) (objects : Objects) (id : VersionId) (now : ℕ) (old new : List D) (before : Drawn) (text gone file : List ℕ)
+      → Begins clock mode tell files count number key objects id now old new before
+      → (p : IsPrepared mode (act.Delete pick) id now (Shows tell files count old (name_of key)) text (Some file) gone) → AllTell (map tell old)
+      → (made : Objects) → (made ≡ with_numbers objects key 2) ⊎ (made ≡ with_change objects key p.changes.new 2) → MayDelete clock mode objects key pick made
+  may_change number key pick objects id now old new before text gone file begins p all made is =
+      let same = shown_is clock mode tell files count number (number + number) objects key p.state old begins.some all (begins.ready all) p.canonical p.shown in
+      record {
+        id = id;
+        now = now;
+        next = is_next clock mode tell files count number key objects id now old new before begins all;
+        reply = p.changes.reply;
+        state = p.changes.new;
+        step = step_of mode (act.Delete pick) id now objects key (Shows tell files count old (name_of key)) text gone (Some file) p same;
+        is = is;
+      }
+
   -- some drive refused the write, and these are the objects then
   refused_so : (number : ℕ) (key : List ℕ) (pick : Pick) (objects : Objects) (id : VersionId) (now : ℕ) (old new : List D) (turn : Turn)
       (left given later : Option (List ℕ)) (reads faults more : ℕ) (before after : Drawn) (bytes : List ℕ)
@@ -141,21 +158,19 @@ module _ {D : Type 0} (clock : Option ℕ) (mode : Mode) (tell : D → Bool) (fi
         asks = asks;
         fits = tt;
         shows = λ all. shows_only clock mode tell files count number (number + number) objects old (begins.ready all);
-        writes = λ all. tt;
+        writes = λ all.
+            let change = with_change objects key p.changes.new 2 in
+            inr (
+              change,
+              may_change number key pick objects id now old new before vain.text vain.gone vain.file begins p all change (inr refl),
+              subst (λ s. MayKeep key s (moment clock mode tell files count objects old) (moment clock mode tell files count objects_after new)) (sym (state_here objects.states key p.changes.new))
+                  (may_keep_seen clock mode tell files count key p.changes.new objects objects_after old new begins.same
+                  (maybe_written clock mode tell files count number (number + number) key vain.file objects p.changes.new old new begins.few all (begins.ready all) p.changes.has_file.3 vain.writes)),
+            );
         spares = λ all other apart. stays_seen clock mode tell files count (name_of other) objects objects_after old new begins.same
             (others_refused clock mode tell files count number (number + number) key vain.file other objects old new begins.few all (begins.ready all) vain.writes apart);
         clears = λ all. tt;
-        serves = λ all.
-            let same = shown_is clock mode tell files count number (number + number) objects key p.state old begins.some all (begins.ready all) p.canonical p.shown in
-            inr (record {
-              id = id;
-              now = now;
-              next = is_next clock mode tell files count number key objects id now old new before begins all;
-              reply = p.changes.reply;
-              state = p.changes.new;
-              step = step_of mode (act.Delete pick) id now objects key (Shows tell files count old (name_of key)) vain.text vain.gone (Some vain.file) p same;
-              is = is;
-            });
+        serves = λ all. inr (may_change number key pick objects id now old new before vain.text vain.gone vain.file begins p all objects_after is);
         cause = cause_of_some clock mode tell files count old new begins.same vain.cause;
         counts = counts_each clock mode tell files count old new begins.same begins.counts;
       }) vain.gives

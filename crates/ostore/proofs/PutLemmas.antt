@@ -20,7 +20,7 @@ use Rattle.ostore.specs.Holders.{IsPrintOf, Coding, shard_file, manifest_file, H
 use Rattle.ostore.specs.Leaves.{sides, Shows, FilesStay, Starves, LooksInVain, ChangesNothing}
 use Rattle.ostore.specs.Objects.{Objects, Answer, Asks, put, replied, unavailable, put_act, MayPut, with_numbers, with_change, with_body}
 use Rattle.ostore.specs.Replies.{unavailable_text}
-use Rattle.ostore.specs.Session.{ClearsKey, WritesKey, KeysStay, OthersStay, StaysAt, Exchange, Gives, wires, TurnOver, Step as ExchangeStep, moment}
+use Rattle.ostore.specs.Session.{ClearsKey, WritesKey, KeysStay, MayKeep, OthersStay, StaysAt, Exchange, Gives, wires, TurnOver, Step as ExchangeStep, moment}
 use Rattle.ostore.specs.Slots.{slot_of, Drawn, with_drawn}
 use Rattle.ostore.specs.Store.{HasNoLoose, Ready}
 use Rattle.ostore.proofs.ChangeLemmas.{Begins, is_next, agrees_none, step_of, agrees_drawn, room_drawn}
@@ -32,7 +32,7 @@ use Rattle.ostore.proofs.TurnLemmas.{tells_each, tells_same, counts_each, cause_
 use Rattle.ostore.proofs.DrawnLemmas.{with_drawn_here, next_not_drawn}
 use Rattle.version_list.specs.Answers.{IsServed}
 use Rattle.ostore.proofs.HolderLemmas.{staged_kept}
-use Rattle.ostore.proofs.WriteLemmas.{KeptAt, stays_seen, kept_later, kept_same}
+use Rattle.ostore.proofs.WriteLemmas.{KeptAt, MayKeepAt, stays_seen, may_keep_seen, kept_later, kept_same}
 
 -- the exchange of a PUT
 abbrev pub putting : List ℕ → List ℕ → List ℕ → Answer → Exchange
@@ -154,6 +154,18 @@ module _ {D : Type 0} (clock : Option ℕ) (mode : Mode) (tell : D → Bool) (fi
       (kept_later clock mode tell files count (name_of other) old mid new st.length_mid
       (staged_keys number key body st.coding objects id now old mid new before st.begins st.stages all other) after)
 
+  -- what each drive may keep of a change after that
+  pub maybe_then : (number : ℕ) (key body : List ℕ) (objects later : Objects) (id : VersionId) (now : ℕ) (old mid new : List D) (before staged : Drawn) (state : KeyState)
+      → (st : Staged number key body objects id now old mid new before staged) → AllTell (map tell old) → MayKeepAt clock mode tell files count key state mid new
+      → MayKeep key state (moment clock mode tell files count objects old) (moment clock mode tell files count later new)
+  maybe_then number key body objects later id now old mid new before staged state st all after =
+      may_keep_seen clock mode tell files count key state objects later old new st.begins.same
+      (λ k d lt. let low : k < length mid = (let n : length mid ≡ length old = st.length_mid in omega arith) in
+      elim (after k d low) [
+        | inl stays ↦ inl (stays ∙ staged_keys number key body st.coding objects id now old mid new before st.begins st.stages all key k d lt)
+        | inr stands ↦ inr stands
+      ])
+
   -- where the drives held what they held after the data was written
   keys_stayed : (number : ℕ) (key body : List ℕ) (objects later : Objects) (id : VersionId) (now : ℕ) (old mid new : List D) (before staged : Drawn)
       → (st : Staged number key body objects id now old mid new before staged) → FilesStay tell files count mid new → AllTell (map tell old)
@@ -203,7 +215,12 @@ module _ {D : Type 0} (clock : Option ℕ) (mode : Mode) (tell : D → Bool) (fi
         asks = asks;
         fits = tt;
         shows = λ all. shows_only clock mode tell files count number (number + number) objects old (begins.ready all);
-        writes = λ all. tt;
+        writes = λ all. (
+          with_numbers (with_body objects id body) key 1,
+          may_put number key print body objects id now old new before begins printed all,
+          λ k d inside. inl (stays_seen clock mode tell files count (name_of key) objects (with_numbers (with_body objects id body) key 1) old new begins.same
+              (staged_keys number key body coding objects id now old new new before begins stages all key) k d inside),
+        );
         spares = λ all other apart. stays_seen clock mode tell files count (name_of other) objects (with_numbers (with_body objects id body) key 1) old new begins.same
             (staged_keys number key body coding objects id now old new new before begins stages all other);
         clears = λ all. tt;
@@ -245,7 +262,11 @@ module _ {D : Type 0} (clock : Option ℕ) (mode : Mode) (tell : D → Bool) (fi
         asks = asks;
         fits = tt;
         shows = λ all. shows_only clock mode tell files count number (number + number) objects old (st.begins.ready all);
-        writes = λ all. tt;
+        writes = λ all. (
+          with_numbers (with_body objects id body) key 1,
+          may_put number key st.print body objects id now old new before st.begins st.printed all,
+          λ k d inside. inl (keys_stayed number key body objects (with_numbers (with_body objects id body) key 1) id now old mid new before staged st looks.stays all key k d inside),
+        );
         spares = λ all other apart. keys_stayed number key body objects (with_numbers (with_body objects id body) key 1) id now old mid new before staged st looks.stays all other;
         clears = λ all. tt;
         serves = may_put number key st.print body objects id now old new before st.begins st.printed;

@@ -8,24 +8,25 @@ use Rattle.drive_base.specs.Files.{Files}
 use Rattle.version_list.specs.declared.state.KeyState.{KeyState}
 use Rattle.version_list.specs.Step.{Step}
 use Rattle.ostore.specs.declared.connection.Turn.{Turn}
+use Rattle.ostore.specs.Commits.{IsPrepared}
 use Rattle.ostore.specs.Drives.{AllTell, name_of, loose_name_of}
 use Rattle.body_print.specs.Names.{shard_name}
 use Rattle.ostore.specs.Holders.{IsHeld}
 use Rattle.ostore.specs.Leaves.{sides, CommitLeaves, WritesInVain, Makes, Shows}
-use Rattle.ostore.specs.Objects.{Objects, Asks, put, replied, unavailable, put_act, with_numbers, with_change, with_body}
-use Rattle.ostore.specs.Session.{Gives, Agrees, wires, TurnOver}
+use Rattle.ostore.specs.Objects.{Objects, Asks, put, replied, unavailable, put_act, MayPut, with_numbers, with_change, with_body}
+use Rattle.ostore.specs.Session.{Gives, Agrees, MayKeep, moment, wires, TurnOver}
 use Rattle.ostore.specs.Slots.{slot_of, Drawn, with_drawn}
 use Rattle.ostore.specs.Store.{Ready, IsSound}
 use Rattle.ostore.proofs.ChangeLemmas.{is_next, drawn_of, step_of, made_ready, refused_ready, agrees_drawn, room_drawn}
 use Rattle.ostore.proofs.ClearLemmas.{clears_made, state_here}
 use Rattle.ostore.proofs.MakingLemmas.{cause_later}
-use Rattle.ostore.proofs.PutLemmas.{Staged, putting, staged_ready, all_mid, some_mid, same_mid, put_shown, put_starves, put_looks, put_nothing, twice_drawn, numbers_twice, change_twice, put_steps, keys_then}
+use Rattle.ostore.proofs.PutLemmas.{Staged, putting, staged_ready, all_mid, some_mid, same_mid, put_shown, put_starves, put_looks, put_nothing, twice_drawn, numbers_twice, change_twice, put_steps, keys_then, maybe_then}
 use Rattle.ostore.proofs.StandsLemmas.{all_or_not, shows_only}
 use Rattle.ostore.proofs.StateLemmas.{step_keeps, step_uploads, sound_drawn_later, put_is_sound}
 use Rattle.ostore.proofs.TurnLemmas.{counts_each, cause_of_some, answered}
 use Rattle.ostore.proofs.DrawnLemmas.{grows_with_drawn, with_drawn_here, next_was_drawn}
 use Rattle.ostore.proofs.NameLemmas.{with_name-here}
-use Rattle.ostore.proofs.WriteLemmas.{writes_made, others_refused, others_made}
+use Rattle.ostore.proofs.WriteLemmas.{writes_made, maybe_written, others_refused, others_made}
 
 -- the number that was drawn after the id's
 agrees_two : (objects : Objects) (key : List ℕ) (before staged after : Drawn) → Agrees before objects
@@ -63,6 +64,26 @@ module _ {D : Type 0} (clock : Option ℕ) (mode : Mode) (tell : D → Bool) (fi
   twice objects after key state (inl e) = inl (e ∙ numbers_twice objects key)
   twice objects after key state (inr e) = inr (e ∙ change_twice objects key state)
 
+  -- the PUT was prepared, and isn't answered: it takes place or not
+  may_change : (number : ℕ) (key body : List ℕ) (objects : Objects) (id : VersionId) (now : ℕ) (old mid new : List D) (before staged : Drawn) (text gone file : List ℕ)
+      → (st : Staged clock mode tell files count number key body objects id now old mid new before staged)
+      → (p : IsPrepared mode (put_act id st.print body) id now (Shows tell files count mid (name_of key)) text (Some file) gone) → AllTell (map tell old)
+      → (made : Objects) → (made ≡ with_numbers (with_body objects id body) key 2) ⊎ (made ≡ with_change (with_body objects id body) key p.changes.new 2)
+      → MayPut clock mode objects key body made
+  may_change number key body objects id now old mid new before staged text gone file st p all made is =
+      let same = put_shown clock mode tell files count number key body objects id now old mid new before staged st text gone (Some file) p all in
+      record {
+        id = id;
+        now = now;
+        next = is_next clock mode tell files count number key objects id now old new before st.begins all;
+        reply = p.changes.reply;
+        print = st.print;
+        printed = st.printed;
+        state = p.changes.new;
+        step = step_of mode (put_act id st.print body) id now objects key (Shows tell files count mid (name_of key)) text gone (Some file) p same;
+        is = inr is;
+      }
+
   -- some drive refused the write, and these are the objects then
   refused_so : (number : ℕ) (key body : List ℕ) (objects : Objects) (id : VersionId) (now : ℕ) (old mid new : List D) (turn : Turn)
       (left given later : Option (List ℕ)) (reads faults more : ℕ) (before staged after : Drawn) (bytes : List ℕ)
@@ -82,24 +103,20 @@ module _ {D : Type 0} (clock : Option ℕ) (mode : Mode) (tell : D → Bool) (fi
         asks = asks;
         fits = tt;
         shows = λ all. shows_only clock mode tell files count number (number + number) objects old (st.begins.ready all);
-        writes = λ all. tt;
+        writes = λ all.
+            let change = with_change (with_body objects id body) key p.changes.new 2 in (
+              change,
+              may_change number key body objects id now old mid new before staged vain.text vain.gone vain.file st p all change (inr refl),
+              subst (λ s. MayKeep key s (moment clock mode tell files count objects old) (moment clock mode tell files count objects_after new)) (sym (state_here objects.states key p.changes.new))
+                  (maybe_then clock mode tell files count number key body objects objects_after id now old mid new before staged p.changes.new st all
+                  (maybe_written clock mode tell files count number (number + number + 1) key vain.file (with_numbers (with_body objects id body) key 1) p.changes.new mid new st.begins.few
+                  (all_mid clock mode tell files count number key body objects id now old mid new before staged st all) (staged_ready clock mode tell files count number key body objects id now old mid new before staged st all) p.changes.has_file.3 vain.writes)),
+            );
         spares = λ all other apart. keys_then clock mode tell files count number key body objects objects_after id now old mid new before staged st all other
             (others_refused clock mode tell files count number (number + number + 1) key vain.file other (with_numbers (with_body objects id body) key 1) mid new st.begins.few
             (all_mid clock mode tell files count number key body objects id now old mid new before staged st all) (staged_ready clock mode tell files count number key body objects id now old mid new before staged st all) vain.writes apart);
         clears = λ all. tt;
-        serves = λ all.
-            let same = put_shown clock mode tell files count number key body objects id now old mid new before staged st vain.text vain.gone (Some vain.file) p all in
-            record {
-              id = id;
-              now = now;
-              next = is_next clock mode tell files count number key objects id now old new before st.begins all;
-              reply = p.changes.reply;
-              print = st.print;
-              printed = st.printed;
-              state = p.changes.new;
-              step = step_of mode (put_act id st.print body) id now objects key (Shows tell files count mid (name_of key)) vain.text vain.gone (Some vain.file) p same;
-              is = inr is;
-            };
+        serves = λ all. may_change number key body objects id now old mid new before staged vain.text vain.gone vain.file st p all objects_after is;
         cause = cause_of_some clock mode tell files count old new st.begins.same (cause_later tell files count old mid new st.length_mid st.tells_mid st.counts_mid vain.cause);
         counts = counts_each clock mode tell files count old new st.begins.same st.begins.counts;
       }) vain.gives

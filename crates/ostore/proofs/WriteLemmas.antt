@@ -1,5 +1,5 @@
 -- What a request leaves on the drives under the names of keys.
-use Rattle.std.proofs.Common.{◌≡◌, ◌≢◌, inr, ℕ, ◌<◌, Bool, false, IsTrue, List, length, map, slice_index_or, Option, Some, sym, ap, ◌∙◌, subst, arith, bytes_eq}
+use Rattle.std.proofs.Common.{◌≡◌, ◌≢◌, ◌⊎◌, inl, inr, ℕ, ◌<◌, Bool, false, IsTrue, List, length, map, slice_index_or, Option, Some, sym, ap, ◌∙◌, subst, arith, bytes_eq}
 use Rattle.std.proofs.lemmas.List.{get_or-map, length-map}
 use Rattle.call_types.specs.declared.names.Mode.{Mode}
 use Rattle.drive_base.specs.Files.{Files}
@@ -9,7 +9,7 @@ use Rattle.ostore.specs.Drives.{AllTell, AtEach, DriveView, views_of, name_of, l
 use Rattle.ostore.specs.KeyFiles.{StandsFor, key_file}
 use Rattle.ostore.specs.Leaves.{FilesStay, WritesAll, WritesMaybe}
 use Rattle.ostore.specs.Objects.{Objects}
-use Rattle.ostore.specs.Session.{KeysStay, StaysAt, WritesKey, moment}
+use Rattle.ostore.specs.Session.{KeysStay, MayKeep, StaysAt, WritesKey, moment}
 use Rattle.ostore.specs.Store.{Ready}
 use Rattle.ostore.proofs.DriveLemmas.{kept_elsewhere}
 use Rattle.ostore.proofs.ListLemmas.{first_of}
@@ -22,17 +22,32 @@ module _ {D : Type 0} (clock : Option ℕ) (mode : Mode) (tell : D → Bool) (fi
   abbrev pub KeptAt : List ℕ → List D → List D → Type 0
   KeptAt name old new = AtEach (λ a b. (files b).kept name ≡ (files a).kept name) old new
 
-  -- the same of what is seen of the drives
-  pub stays_seen : (name : List ℕ) (objects later : Objects) (old new : List D) → length new ≡ length old → KeptAt name old new
-      → StaysAt name (moment clock mode tell files count objects old) (moment clock mode tell files count later new)
-  stays_seen name objects later old new same each k view inside =
+  -- each drive keeps under a key's name what it kept, or the file of this state
+  abbrev pub MayKeepAt : List ℕ → KeyState → List D → List D → Type 0
+  MayKeepAt key state old new =
+      AtEach (λ a b. ((files b).kept (name_of key) ≡ (files a).kept (name_of key)) ⊎ StandsFor ((files b).kept (name_of key)) state) old new
+
+  -- what holds of the files of each drive holds of what is seen of it
+  pub seen : (R : Files → Files → Type 0) (old new : List D) → length new ≡ length old → AtEach (λ a b. R (files a) (files b)) old new
+      → (k : ℕ) (view : DriveView) → k < length (views_of tell files new) → R (slice_index_or (views_of tell files old) k view).files (slice_index_or (views_of tell files new) k view).files
+  seen R old new same each k view inside =
       let low : k < length new = subst (λ n. k < n) (length-map new (λ (x : D). record { tells = tell x; files = files x })) inside in
       let low_old : k < length old = omega arith in
       let d = first_of new (omega arith) in
-      subst (λ (v : DriveView). v.files.kept name ≡ (slice_index_or (views_of tell files old) k view).files.kept name)
+      subst (λ (v : DriveView). R (slice_index_or (views_of tell files old) k view).files v.files)
       (sym (get_or-map (λ (x : D). record { tells = tell x; files = files x }) new k d view low))
-      (subst (λ (v : DriveView). (files (slice_index_or new k d)).kept name ≡ v.files.kept name)
+      (subst (λ (v : DriveView). R v.files (files (slice_index_or new k d)))
       (sym (get_or-map (λ (x : D). record { tells = tell x; files = files x }) old k d view low_old)) (each k d low_old))
+
+  -- what is kept under a name, as it is seen
+  pub stays_seen : (name : List ℕ) (objects later : Objects) (old new : List D) → length new ≡ length old → KeptAt name old new
+      → StaysAt name (moment clock mode tell files count objects old) (moment clock mode tell files count later new)
+  stays_seen name objects later old new same each = seen (λ (a b : Files). b.kept name ≡ a.kept name) old new same each
+
+  pub may_keep_seen : (key : List ℕ) (state : KeyState) (objects later : Objects) (old new : List D) → length new ≡ length old → MayKeepAt key state old new
+      → MayKeep key state (moment clock mode tell files count objects old) (moment clock mode tell files count later new)
+  may_keep_seen key state objects later old new same each =
+      seen (λ (a b : Files). (b.kept (name_of key) ≡ a.kept (name_of key)) ⊎ StandsFor (b.kept (name_of key)) state) old new same each
 
   -- two changes of the drives that leave a name
   pub kept_later : (name : List ℕ) (old mid new : List D) → length mid ≡ length old → KeptAt name old mid → KeptAt name mid new → KeptAt name old new
@@ -53,7 +68,16 @@ module _ {D : Type 0} (clock : Option ℕ) (mode : Mode) (tell : D → Bool) (fi
       kept_elsewhere (loose_name_of number) (name_of key) file (name_of other) (files (slice_index_or old k d)) (files (slice_index_or new k d))
       (writes k d lt (tells_each clock mode tell files count old all k d lt) ((ready.every k d lt).unused.writes number (omega arith) few)) apart
 
-  -- and so does one that was made on every drive, with the data that is gone removed
+  -- and the key's own is what it was, or that of the new state
+  pub maybe_written : (number most : ℕ) (key file : List ℕ) (held : Objects) (state : KeyState) (old new : List D) → number < 1000000 → AllTell (map tell old) → Ready files number most held old
+      → file ≡ key_file state → WritesMaybe tell files count (loose_name_of number) (name_of key) file old new → MayKeepAt key state old new
+  maybe_written number most key file held state old new few all ready is writes k d lt =
+      elim (writes k d lt (tells_each clock mode tell files count old all k d lt) ((ready.every k d lt).unused.writes number (omega arith) few)) [
+        | inl w ↦ inl (ap (λ f. f (name_of key)) w.kept)
+        | inr w ↦ inr (subst (λ shown. StandsFor shown state) (sym (ap (λ f. f (name_of key)) w.kept ∙ with_name-here (files (slice_index_or old k d)).kept (name_of key) (Some file))) is)
+      ]
+
+  -- others' files stay where a change was made on every drive, with the data that is gone removed
   pub others_made : (number most : ℕ) (key file gone other : List ℕ) (held : Objects) (before after : KeyState) (old new : List D) → number < 1000000 → AllTell (map tell old) → Ready files number most held old
       → gone ≡ gone_bytes before.versions after.versions
       → WritesAll tell files count (loose_name_of number) (name_of key) file gone old new → bytes_eq key other ≡ false → KeptAt (name_of other) old new

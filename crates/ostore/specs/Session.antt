@@ -7,6 +7,7 @@ use Rattle.ostore.specs.declared.connection.Turn.{Turn}
 use Rattle.ostore.specs.declared.connection.Turn.TheVariants.{Answered, Ended}
 use Rattle.ostore.specs.declared.connection.ConnectionEnd.{ConnectionEnd}
 use Rattle.ostore.specs.declared.connection.ConnectionEnd.TheVariants.{Over, Closed, InputCut, ReadFault, WriteFault, NoMemory}
+use Rattle.version_list.specs.declared.state.KeyState.{KeyState}
 use Rattle.ostore.specs.Holders.{HasOnly}
 use Rattle.ostore.specs.Heads.{HasNoBlankLine, SpellsPut, IsRefusedHead}
 use Rattle.ostore.specs.Replies.{bad_request}
@@ -18,7 +19,7 @@ use Rattle.call_types.specs.declared.version.What.{What}
 use Rattle.call_types.specs.declared.version.What.TheVariants.{Marker, Object}
 use Rattle.call_types.specs.declared.reply.Reply.{Reply}
 use Rattle.call_types.specs.declared.reply.Reply.TheVariants.{Found}
-use Rattle.ostore.specs.Objects.{Request, Answer, put, get, delete, replied, unavailable, Asks, answer_text, Objects, with_numbers, with_body, Serves}
+use Rattle.ostore.specs.Objects.{Request, Answer, put, get, delete, replied, unavailable, Asks, answer_text, Objects, with_numbers, with_body, MayPut, MayDelete, Serves}
 use Rattle.ostore.specs.Drives.{AllTell, NoneFell, DrivesCause, DriveView, views_of, name_of}
 use Rattle.ostore.specs.KeyFiles.{StandsFor}
 use Rattle.ostore.specs.Slots.{slot_of, Drawn, IsIdOf}
@@ -89,12 +90,21 @@ pub record WritesKey (key : List ℕ) (old new : Moment) : Type 0 where
   pub other : new.objects.states key ≢ old.objects.states key → (k : ℕ) (d : DriveView) → k < length new.drives
       → StandsFor ((slice_index_or new.drives k d).files.kept (name_of key)) (new.objects.states key)
 
--- a change that was answered stands on every drive
-abbrev pub HasWritten : Request → Answer → Moment → Moment → Type 0
-HasWritten (put key body) (replied reply told) old new = WritesKey key old new
-HasWritten (get key pick) (replied reply told) old new = ⊤
-HasWritten (delete key pick) (replied reply told) old new = WritesKey key old new
-HasWritten request unavailable old new = ⊤
+-- each drive keeps under the key's name what it kept, or the file of this state
+abbrev pub MayKeep : List ℕ → KeyState → Moment → Moment → Type 0
+MayKeep key state old new = (k : ℕ) (d : DriveView) → k < length new.drives
+    → ((slice_index_or new.drives k d).files.kept (name_of key) ≡ (slice_index_or old.drives k d).files.kept (name_of key))
+    ⊎ StandsFor ((slice_index_or new.drives k d).files.kept (name_of key)) state
+
+-- A change that was answered stands on every drive. Of one that was not, each drive has the new state or what it had.
+abbrev pub HasWritten : Option ℕ → Mode → Request → Answer → Moment → Moment → Type 0
+HasWritten clock mode (put key body) (replied reply told) old new = WritesKey key old new
+HasWritten clock mode (get key pick) (replied reply told) old new = ⊤
+HasWritten clock mode (delete key pick) (replied reply told) old new = WritesKey key old new
+HasWritten clock mode (put key body) unavailable old new = (made : Objects) × MayPut clock mode old.objects key body made × MayKeep key (made.states key) old new
+HasWritten clock mode (get key pick) unavailable old new = ⊤
+HasWritten clock mode (delete key pick) unavailable old new =
+    StaysAt (name_of key) old new ⊎ ((made : Objects) × MayDelete clock mode old.objects key pick made × MayKeep key (made.states key) old new)
 
 -- bytes are each body of this length with this print, or what the drives show and what is hashed for that body are two
 -- byte strings with one SHA-256
@@ -130,7 +140,7 @@ pub record Step (clock : Option ℕ) (mode : Mode) (tells : List Bool) (old : Mo
   pub fits : Fits old.drives exchange.request exchange.answer
   pub shows : AllTell tells → ShowOnly old.objects old.drives
   pub serves : AllTell tells → Serves clock mode old.drives old.objects exchange.request exchange.answer new.objects
-  pub writes : AllTell tells → HasWritten exchange.request exchange.answer old new
+  pub writes : AllTell tells → HasWritten clock mode exchange.request exchange.answer old new
   pub spares : AllTell tells → HasSpared exchange.request old new
   pub clears : AllTell tells → HasCleared exchange.request exchange.answer old new
   pub cause : HasCause tells exchange.request exchange.answer old.counts new.counts
