@@ -17,8 +17,8 @@ use Rattle.ostore.specs.Leaves.{sides, FilesStay, Starves, WritesAll, WritesMayb
 use Rattle.ostore.specs.Objects.{Objects, Request, Asks, IsNext, with_state, with_numbers, with_change}
 use Rattle.ostore.specs.Session.{wires, Agrees, TurnOver}
 use Rattle.ostore.specs.Slots.{slot_of, Drawn, with_drawn, IsIdOf}
-use Rattle.ostore.specs.Store.{Ready, IsSound}
-use Rattle.ostore.proofs.GoneLemmas.{OnData, IsNotAmong, gone_names_not_new, gone_names_not_other}
+use Rattle.ostore.specs.Store.{NamesData, Ready, IsSound}
+use Rattle.ostore.proofs.GoneLemmas.{OnData, IsNotAmong, gone_names_not_new, gone_names_not_other, named_has}
 use Rattle.ostore.proofs.StandsLemmas.{shows_only}
 use Rattle.ostore.proofs.StateLemmas.{next_is_fresh-sound}
 use Rattle.ostore.proofs.StoreLemmas.{ready_same, ready_next, ready_written, ready_refused, ready_removed}
@@ -30,7 +30,7 @@ use Rattle.call_types.specs.declared.act.Act.{Act}
 use Rattle.version_list.specs.Step.{Step}
 use Rattle.drive_files.specs.Writing.{IsInPlace}
 use Rattle.ostore.specs.Commits.{IsPrepared}
-use Rattle.ostore.proofs.WriteLemmas.{keys_same}
+use Rattle.ostore.proofs.WriteLemmas.{datas_same, keys_same}
 
 -- the id that a slot draws next, in the slot of a key
 next_of : (key : List ℕ) (objects : Objects) (id : VersionId) (slot : ℕ) (drawn : Drawn) → slot ≡ slot_of key → Agrees drawn objects
@@ -144,6 +144,7 @@ module _ {D : Type 0} (clock : Option ℕ) (mode : Mode) (tell : D → Bool) (fi
         objects = inl refl;
         shows = λ all. shows_only clock mode tell files count (number + 1) (number + number + 2) objects new (ready_stays number key objects id now old new before begins starves.stays all);
         keys = keys_same clock mode tell files count objects objects old new begins.same starves.stays;
+        datas = datas_same clock mode tell files count objects objects old new begins.same starves.stays;
         counts = counts_each clock mode tell files count old new begins.same begins.counts;
       })
       (record { took = nothing_taken left; gave = starves.given ∙ nothing_given given; reads = omega arith; writes = omega arith })
@@ -170,6 +171,16 @@ module _ {D : Type 0} (clock : Option ℕ) (mode : Mode) (tell : D → Bool) (fi
       by false e = subst (λ t. AllByRecursion (λ v. OnData (IsNotAmong (data_names ids)) v.what) (cond t new (objects.states other)).versions) (sym e)
           (subst (λ l. AllByRecursion (λ v. OnData (IsNotAmong (data_names l)) v.what) (objects.states other).versions) (sym are)
           (gone_names_not_other objects.drawn owner objects.bodies key other (objects.states key).versions new.versions (objects.states other).versions (sound key) (sound other) e))
+
+  -- data that a version has after the change isn't among the names of what is gone
+  pub not_among : (owner : List ℕ → List ℕ) (objects : Objects) (key : List ℕ) (old new : KeyState)
+      → ((other : List ℕ) → AllByRecursion (IsSound objects.drawn owner objects.bodies other) (objects.states other).versions)
+      → old ≡ objects.states key → (other : List ℕ) (x : VersionId) → NamesData (with_state objects.states key new other) x
+      → IsNotAmong (data_names (gone_ids old.versions new.versions)) x
+  not_among owner objects key old new sound same other x has =
+      let ids = gone_ids old.versions new.versions in
+      named_has (IsNotAmong (data_names ids)) (with_state objects.states key new other).versions x
+      (apart_after owner objects key new ids sound (ap (λ (s : KeyState). gone_ids s.versions new.versions) same) other) has
 
   -- ---- the drives after a change
 

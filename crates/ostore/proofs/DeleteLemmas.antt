@@ -15,17 +15,17 @@ use Rattle.ostore.specs.Drives.{AllTell, name_of, loose_name_of}
 use Rattle.ostore.specs.Heads.{SpellsDelete}
 use Rattle.ostore.specs.Leaves.{sides, Shows, CommitLeaves, LooksInVain, ChangesNothing, WritesInVain, Makes}
 use Rattle.ostore.specs.Objects.{Objects, Answer, delete, replied, unavailable, MayDelete, with_numbers, with_change}
-use Rattle.ostore.specs.Session.{ClearsKey, WritesKey, MayKeep, OthersStay, Exchange, Gives, wires, TurnOver, Step as ExchangeStep, moment}
+use Rattle.ostore.specs.Session.{ClearsKey, KeepsData, WritesKey, MayKeep, OthersStay, Exchange, Gives, wires, TurnOver, Step as ExchangeStep, moment}
 use Rattle.ostore.specs.Slots.{slot_of, Drawn, with_drawn, IsIdOf}
 use Rattle.ostore.specs.Holders.{IsHeld}
 use Rattle.ostore.specs.Store.{Ready, IsSound}
-use Rattle.ostore.proofs.ChangeLemmas.{Begins, is_next, room_now, room_drawn, agrees_none, agrees_drawn, ready_stays, starved, drawn_of, step_of, made_ready, refused_ready}
+use Rattle.ostore.proofs.ChangeLemmas.{not_among, Begins, is_next, room_now, room_drawn, agrees_none, agrees_drawn, ready_stays, starved, drawn_of, step_of, made_ready, refused_ready}
 use Rattle.ostore.proofs.ClearLemmas.{clears_made, state_here}
 use Rattle.ostore.proofs.StandsLemmas.{all_or_not, shown_is, shows_only, look_cause}
 use Rattle.ostore.proofs.StateLemmas.{delete_step_keeps, delete_step_uploads, sound_drawn_later, marker_is_sound}
 use Rattle.ostore.proofs.TurnLemmas.{counts_each, cause_of_some, answered}
 use Rattle.ostore.proofs.DrawnLemmas.{grows_with_drawn, with_drawn_here, next_was_drawn}
-use Rattle.ostore.proofs.WriteLemmas.{writes_made, maybe_written, may_keep_seen, stays_seen, keys_same, others_refused, others_made}
+use Rattle.ostore.proofs.WriteLemmas.{data_made, data_refused, data_seen, datas_same, writes_made, maybe_written, may_keep_seen, stays_seen, keys_same, others_refused, others_made}
 
 -- the exchange of a DELETE
 abbrev deleted : List ℕ → Pick → List ℕ → Answer → Exchange
@@ -48,6 +48,8 @@ module _ {D : Type 0} (clock : Option ℕ) (mode : Mode) (tell : D → Bool) (fi
         shows = λ all. shows_only clock mode tell files count number (number + number) objects old (begins.ready all);
         writes = λ all. inl (keys_same clock mode tell files count objects objects old new begins.same looks.stays all key);
         spares = λ all other apart. keys_same clock mode tell files count objects objects old new begins.same looks.stays all other;
+        keeps = datas_same clock mode tell files count objects objects old new begins.same looks.stays;
+        stores = λ all. tt;
         clears = λ all. tt;
         serves = λ all. inl refl;
         cause = look_cause clock mode tell files count number (number + number) objects key id old new begins.some begins.same begins.ready (λ all. (is_next clock mode tell files count number key objects id now old new before begins all).fresh) looks.cause;
@@ -62,8 +64,9 @@ module _ {D : Type 0} (clock : Option ℕ) (mode : Mode) (tell : D → Bool) (fi
       → (AllTell (map tell old) → WritesKey key (moment clock mode tell files count objects old) (moment clock mode tell files count later new))
       → (AllTell (map tell old) → OthersStay key (moment clock mode tell files count objects old) (moment clock mode tell files count later new))
       → (AllTell (map tell old) → ClearsKey key (moment clock mode tell files count objects old) (moment clock mode tell files count later new))
+      → (AllTell (map tell old) → KeepsData (moment clock mode tell files count objects old) (moment clock mode tell files count later new))
       → ExchangeStep clock mode (map tell old) (moment clock mode tell files count objects old) (deleted key pick bytes (replied p.changes.reply [])) (moment clock mode tell files count later new)
-  delete_steps number key pick objects later id now old new before bytes text gone file begins asks p is writes spares clears = record {
+  delete_steps number key pick objects later id now old new before bytes text gone file begins asks p is writes spares clears keeps = record {
     asks = asks;
     fits = refl;
     shows = λ all. shows_only clock mode tell files count number (number + number) objects old (begins.ready all);
@@ -82,6 +85,8 @@ module _ {D : Type 0} (clock : Option ℕ) (mode : Mode) (tell : D → Bool) (fi
     writes = writes;
     spares = spares;
     clears = clears;
+    keeps = keeps;
+    stores = λ all. tt;
     cause = tt;
     counts = counts_each clock mode tell files count old new begins.same begins.counts;
   }
@@ -100,7 +105,8 @@ module _ {D : Type 0} (clock : Option ℕ) (mode : Mode) (tell : D → Bool) (fi
       (delete_steps number key pick objects objects id now old new before bytes nothing.text nothing.gone None begins asks p (λ same. inl (p.changes.has_file ∙ same, refl))
       (λ all. record { same = λ e. keys_same clock mode tell files count objects objects old new begins.same nothing.stays all key; other = λ differs. absurd (differs refl) })
       (λ all other apart. keys_same clock mode tell files count objects objects old new begins.same nothing.stays all other)
-      (λ all data_id had lost. absurd (lost had)))
+      (λ all data_id had lost. absurd (lost had))
+      (datas_same clock mode tell files count objects objects old new begins.same nothing.stays))
       (subst (λ t. Gives t turn given later faults more) p.changes.texts nothing.gives)
 
   -- the versions after a DELETE are sound, and their data is on the drives
@@ -167,6 +173,9 @@ module _ {D : Type 0} (clock : Option ℕ) (mode : Mode) (tell : D → Bool) (fi
                   (may_keep_seen clock mode tell files count key p.changes.new objects objects_after old new begins.same
                   (maybe_written clock mode tell files count number (number + number) key vain.file objects p.changes.new old new begins.few all (begins.ready all) p.changes.has_file.3 vain.writes)),
             );
+        keeps = λ all other x had has. data_seen clock mode tell files count x objects objects_after old new begins.same
+            (data_refused clock mode tell files count number (number + number) key vain.file objects old new begins.few all (begins.ready all) vain.writes x);
+        stores = λ all. tt;
         spares = λ all other apart. stays_seen clock mode tell files count (name_of other) objects objects_after old new begins.same
             (others_refused clock mode tell files count number (number + number) key vain.file other objects old new begins.few all (begins.ready all) vain.writes apart);
         clears = λ all. tt;
@@ -221,7 +230,13 @@ module _ {D : Type 0} (clock : Option ℕ) (mode : Mode) (tell : D → Bool) (fi
       (others_made clock mode tell files count number (number + number) key makes.file makes.gone other objects p.state p.changes.new old new begins.few all (begins.ready all) p.changes.has_file.4 makes.writes apart))
       (λ all. clears_made clock mode tell files count key objects (with_change objects key p.changes.new 2) p.state p.changes.new (loose_name_of number) (name_of key) makes.file makes.gone old old new
       refl (λ k d lt. omega arith) all (shown_is clock mode tell files count number (number + number) objects key p.state old begins.some all (begins.ready all) p.canonical p.shown)
-      (state_here objects.states key p.changes.new) p.changes.has_file.4 makes.writes))
+      (state_here objects.states key p.changes.new) p.changes.has_file.4 makes.writes)
+      (λ all other x had has.
+      let r = begins.ready all in
+      data_seen clock mode tell files count x objects (with_change objects key p.changes.new 2) old new begins.same
+      (data_made clock mode tell files count number (number + number) key makes.file makes.gone objects p.state p.changes.new old new begins.few all r p.changes.has_file.4 makes.writes x
+      (not_among clock mode tell files count r.owner objects key p.state p.changes.new r.sound.versions
+      (shown_is clock mode tell files count number (number + number) objects key p.state old begins.some all r p.canonical p.shown) other x has))))
       (subst (λ t. Gives t turn given later faults more) p.changes.texts makes.gives)
 
   pub delete_turn : (number : ℕ) (key : List ℕ) (pick : Pick) (objects : Objects) (id : VersionId) (now : ℕ) (old new : List D) (turn : Turn)

@@ -32,7 +32,7 @@ use Rattle.ostore.proofs.StateLemmas.{reads_one}
 use Rattle.ostore.proofs.StoreLemmas.{ready_same}
 use Rattle.ostore.proofs.TurnLemmas.{tells_each, tells_same, counts_each, counts_same, cause_of_some, answered, unanswered, room_kept}
 use Rattle.ostore.proofs.ChangeLemmas.{ready_after}
-use Rattle.ostore.proofs.WriteLemmas.{keys_same}
+use Rattle.ostore.proofs.WriteLemmas.{datas_same, keys_same}
 
 -- the exchange of a GET
 abbrev asked : List ℕ → Pick → List ℕ → Answer → Exchange
@@ -82,6 +82,8 @@ module _ {D : Type 0} (clock : Option ℕ) (mode : Mode) (tell : D → Bool) (fi
         shows = λ all. shows_only clock mode tell files count number (number + number) objects old (opens.ready all);
         writes = λ all. tt;
         spares = keys_same clock mode tell files count objects objects old new opens.same opens.stays;
+        keeps = datas_same clock mode tell files count objects objects old new opens.same opens.stays;
+        stores = λ all. tt;
         clears = λ all. tt;
         serves = λ all. (
           inr (record {
@@ -113,6 +115,8 @@ module _ {D : Type 0} (clock : Option ℕ) (mode : Mode) (tell : D → Bool) (fi
         shows = λ all. shows_only clock mode tell files count number (number + number) objects old (opens.ready all);
         writes = λ all. tt;
         spares = keys_same clock mode tell files count objects objects old new opens.same opens.stays;
+        keeps = datas_same clock mode tell files count objects objects old new opens.same opens.stays;
+        stores = λ all. tt;
         clears = λ all. tt;
         serves = λ all.
             let r = opens.ready all in
@@ -207,6 +211,8 @@ module _ {D : Type 0} (clock : Option ℕ) (mode : Mode) (tell : D → Bool) (fi
         shows = λ all. shows_only clock mode tell files count number (number + number) objects old (opens.ready all);
         writes = λ all. tt;
         spares = keys_same clock mode tell files count objects objects old new opens.same opens.stays;
+        keeps = datas_same clock mode tell files count objects objects old new opens.same opens.stays;
+        stores = λ all. tt;
         clears = λ all. tt;
         serves = λ all. refl;
         cause = elim (unread (first_of old (some_of number objects old new drawn opens))) [
@@ -227,6 +233,7 @@ module _ {D : Type 0} (clock : Option ℕ) (mode : Mode) (tell : D → Bool) (fi
         objects = inl refl;
         shows = λ all. shows_only clock mode tell files count (number + 1) (number + number + 2) objects new (opened_ready number objects old new drawn opens all);
         keys = keys_same clock mode tell files count objects objects old new opens.same opens.stays;
+        datas = datas_same clock mode tell files count objects objects old new opens.same opens.stays;
         counts = counts_each clock mode tell files count old new opens.same opens.counts;
       })
       (record { took = nothing_taken left; gave = nothing_given given; reads = omega arith; writes = omega arith })

@@ -1,5 +1,5 @@
 -- Data that no version has any more.
-use Rattle.std.proofs.Common.{◌≡◌, ◌≢◌, ℕ, Bool, true, false, not, cond, ◌||◌, filter, List, [], ◌∷◌, refl, sym, ap, ◌∙◌, subst}
+use Rattle.std.proofs.Common.{◌≡◌, ◌≢◌, ℕ, Bool, IsTrue, true, false, not, cond, ◌||◌, filter, List, [], ◌∷◌, refl, sym, ap, ◌∙◌, subst}
 use Rattle.std.specs.Prelude.{bytes_eq, ⊤}
 use Rattle.std.specs.List.{AllByRecursion, list_any, filter_map, cons_option}
 use Rattle.std.proofs.lemmas.Slice.Eq.{bytes_eq-Decides}
@@ -12,7 +12,7 @@ use Rattle.drive_base.specs.Files.{Named}
 use Rattle.version_list.specs.Naming.{same_id}
 use Rattle.version_list.specs.Gone.{data_of, is_data, has_data, gone_ids}
 use Rattle.version_list.proofs.Distinct.{each_item}
-use Rattle.version_list.proofs.NamingLemmas.{same_id-refl}
+use Rattle.version_list.proofs.NamingLemmas.{same_id-refl, same_id-true}
 use Rattle.body_print.specs.Names.{shard_name, manifest_name}
 use Rattle.ostore.specs.Holders.{data_names}
 use Rattle.ostore.specs.Slots.{Drawn}
@@ -42,6 +42,45 @@ data_once F (Object data_id print size md5 parts upload kind) rest has all = (ha
 each_data : (F : VersionId → Type 0) (versions : List Version) → AllByRecursion (λ v. OnData F v.what) versions → AllByRecursion F (filter_map (λ v. data_of v.what) versions)
 each_data F [] all = tt
 each_data F (v ∷ versions) all = data_once F v.what (filter_map (λ v. data_of v.what) versions) all.0 (each_data F versions all.1)
+
+-- what holds of each version's data holds of data that is named
+pub named_has : (F : VersionId → Type 0) (versions : List Version) (id : VersionId) → AllByRecursion (λ v. OnData F v.what) versions
+    → IsTrue (list_any (has_data id) versions) → F id
+named_has F [] id all has = absurd cc
+named_has F (v ∷ versions) id all has = by (λ rest. named_has F versions id all.1 rest) v.what all.0 has
+  where
+    one : (IsTrue (list_any (has_data id) versions) → F id) → (x : VersionId) (same : Bool) → same_id x id ≡ same → F x
+        → IsTrue (same || list_any (has_data id) versions) → F id
+    one again x true is here has = subst F (same_id-true x id is) here
+    one again x false is here has = again has
+
+    by : (IsTrue (list_any (has_data id) versions) → F id) → (what : What) → OnData F what → IsTrue (is_data id what || list_any (has_data id) versions) → F id
+    by again Marker here has = again has
+    by again (Object data_id print size md5 parts upload kind) here has = one again data_id (same_id data_id id) refl here has
+
+or_left : (a b : Bool) → a ≡ true → IsTrue (a || b)
+or_left true b is = refl
+or_left false b is = absurd cc
+
+or_right : (a b : Bool) → IsTrue b → IsTrue (a || b)
+or_right true b is = refl
+or_right false b is = is
+
+-- the data of each of some versions is named by them all
+each_named_in : (all versions : List Version) → ((id : VersionId) → IsTrue (list_any (has_data id) versions) → IsTrue (list_any (has_data id) all))
+    → AllByRecursion (λ v. OnData (λ id. IsTrue (list_any (has_data id) all)) v.what) versions
+each_named_in all [] up = tt
+each_named_in all (v ∷ rest) up =
+    (here v.what refl, each_named_in all rest (λ id has. up id (or_right (is_data id v.what) (list_any (has_data id) rest) has)))
+  where
+    here : (what : What) → v.what ≡ what → OnData (λ id. IsTrue (list_any (has_data id) all)) what
+    here Marker is = tt
+    here (Object data_id print size md5 parts upload kind) is =
+        up data_id (or_left (is_data data_id v.what) (list_any (has_data data_id) rest) (ap (is_data data_id) is ∙ same_id-refl data_id))
+
+-- each version's data is named
+pub each_named : (versions : List Version) → AllByRecursion (λ v. OnData (λ id. IsTrue (list_any (has_data id) versions)) v.what) versions
+each_named versions = each_named_in versions versions (λ id has. has)
 
 -- the data that is gone is that of old versions
 pub gone_from_old : (F : VersionId → Type 0) (old new : List Version) → AllByRecursion (λ v. OnData F v.what) old → AllByRecursion F (gone_ids old new)

@@ -12,6 +12,7 @@ use Rattle.call_types.specs.declared.why.Why.{Why}
 use Rattle.call_types.specs.declared.why.Why.TheVariants.{Good, Failed, Damaged, Behind, Lacks}
 use Rattle.call_types.specs.declared.version.What.{What}
 use Rattle.call_types.specs.declared.version.What.TheVariants.{Marker, Object}
+use Rattle.drive_base.specs.Faults.{Rose}
 use Rattle.drive_base.specs.Files.{Files, Named, with_name}
 use Rattle.manifest_file.specs.Print.{print_text, print_of_parts}
 use Rattle.manifest_file.specs.Spelling.{file_of}
@@ -20,8 +21,8 @@ use Rattle.body_print.specs.Names.{shard_name, manifest_name, loose_shard_name, 
 use Rattle.body_print.specs.Prints.{IsCutOf, IsPrintText}
 use Rattle.body_print.specs.Shards.{AreShards}
 use Rattle.body_print.proofs.PrintLemmas.{print_texts_are_one}
-use Rattle.put_stage.specs.OnDrives.{Leaves, MayBeStaged, LeavesOf, CauseOf, manifest_and_shard}
-use Rattle.put_stage.specs.Outcomes.{manifest_of, Wrote, IsShort}
+use Rattle.put_stage.specs.OnDrives.{Leaves, MayBeStaged, StagedFile, LeavesOf, CauseOf, manifest_and_shard}
+use Rattle.put_stage.specs.Outcomes.{files_of, manifest_of, Wrote, IsShort}
 use Rattle.ostore.specs.Store.{HasNoLoose}
 use Rattle.ostore.specs.Drives.{SomeDrive, DriveCause, name_of}
 use Rattle.ostore.specs.Holders.{the_set, IsPrintOf, Coding, shard_file, manifest_file, Holds, IsNothingOr, HasOnly, HasHolders, IsHeld}
@@ -160,6 +161,19 @@ may_be_staged (Damaged damage) id m s a b w = absurd w
 may_be_staged (Behind behind) id m s a b w = absurd w
 may_be_staged (Lacks kind) id m s a b w = inl w
 
+-- a drive that tells and isn't out has both files of a body after a stage, or its count rose
+stored_or_rose : (why : Why) (written : List StagedFile) (id : VersionId) (body : List ℕ) (coding : Coding body) (k : ℕ) (out : Type 0) (tells : Bool) (a b : Files) (old new : ℕ)
+    → (out → ⊥) → IsTrue tells → LeavesOf why (manifest_and_shard id (manifest_file id body coding) (shard_file body coding k)) a b
+    → CauseOf why written out tells old new → Rose old new ⊎ Holds id body coding k b
+stored_or_rose Good written id body coding k out tells a b old new in_use told leaves cause = inr (both_hold id body coding k a b leaves.placed)
+stored_or_rose (Failed before after) written id body coding k out tells a b old new in_use told leaves cause = inl cause.3
+stored_or_rose (Damaged damage) written id body coding k out tells a b old new in_use told leaves cause = absurd cause
+stored_or_rose (Behind ballot) written id body coding k out tells a b old new in_use told leaves cause = absurd cause
+stored_or_rose (Lacks Format) written id body coding k out tells a b old new in_use told leaves cause = absurd (in_use cause.0)
+stored_or_rose (Lacks Manifest) written id body coding k out tells a b old new in_use told leaves cause = absurd (cause.2 told)
+stored_or_rose (Lacks Shard) written id body coding k out tells a b old new in_use told leaves cause = absurd (cause.2 told)
+stored_or_rose (Lacks Register) written id body coding k out tells a b old new in_use told leaves cause = absurd cause
+
 -- why a drive that isn't out did not take a stage
 stage_cause : (why : Why) (id : VersionId) (m s : List ℕ) (out : Type 0) (tells : Bool) (old new : ℕ) → (out → ⊥) → is_good why ≡ false → CauseOf why (manifest_and_shard id m s) out tells old new → DriveCause tells old new
 stage_cause Good id m s out tells old new in_use e cause = absurd cc
@@ -220,6 +234,19 @@ module _ {D : Type 0} (tells : D → Bool) (files : D → Files) (count : D → 
       let coding : Coding body = record { shards = shards; are = w.are; key = key; short = short } in
       subst (λ s. LeavesOf (slice_index_or whys k Good) (manifest_and_shard id (manifest_file id body coding) s) (files (slice_index_or old k d)) (files (slice_index_or new k d)))
       (shard_there body shards k w.are lt) ((w.on.each k d lt).leaves told (unused.manifest, (unused.shard, tt)))
+
+  -- each drive holds a body that was staged, or its count rose
+  pub holds_or_rose : (id : VersionId) (key body : List ℕ) (short : length (name_of key) < 2 ^ 16) (shards : List (List (List ℕ))) (whys : List Why) (old new : List D)
+      → (w : Wrote tells files count the_set id (name_of key) body shards whys old new) → (k : ℕ) (d : D) → k < 4
+      → IsTrue (tells (slice_index_or old k d)) → HasNoLoose id (files (slice_index_or old k d))
+      → let coding : Coding body = record { shards = shards; are = w.are; key = key; short = short } in
+      Rose (count (slice_index_or old k d)) (count (slice_index_or new k d)) ⊎ Holds id body coding k (files (slice_index_or new k d))
+  holds_or_rose id key body short shards whys old new w k d lt told unused =
+      let coding : Coding body = record { shards = shards; are = w.are; key = key; short = short } in
+      stored_or_rose (slice_index_or whys k Good) (files_of id (file_of (manifest_of the_set id (name_of key) (length body) (map root_of shards))) (map shard_bytes shards) k)
+      id body coding k (IsBitSet 0 k) (tells (slice_index_or old k d)) (files (slice_index_or old k d)) (files (slice_index_or new k d))
+      (count (slice_index_or old k d)) (count (slice_index_or new k d)) (none_out k) told
+      (each_staged id key body short shards whys old new w k d lt told unused) (w.on.each k d lt).cause
 
   -- the drives hold a body that was staged
   pub staged_holders : (id : VersionId) (key body : List ℕ) (short : length (name_of key) < 2 ^ 16) (shards : List (List (List ℕ))) (whys : List Why) (old new : List D)

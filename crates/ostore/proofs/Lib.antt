@@ -1,5 +1,6 @@
 pub mod BlankLines
 pub mod BodyLemmas
+pub mod BroughtLemmas
 pub mod ChangeLemmas
 pub mod ClearLemmas
 pub mod CommitLemmas

@@ -32,15 +32,16 @@ module _ {D : Type 0} (tell : D → Bool) (files : D → Files) (count : D → �
 
   -- a write, and then the removal of data
   pub writes_and_removes : (loose name file gone : List ℕ) (old mid new : List D)
-      → length mid ≡ length old → length new ≡ length mid → AtEach (λ a b. tell b ≡ tell a) old mid → AtEach (λ a b. count a ≤ count b) old mid
+      → length mid ≡ length old → length new ≡ length mid → AtEach (λ a b. tell b ≡ tell a) old mid → AtEach (λ a b. count a ≤ count b) old mid → AtEach (λ a b. count a ≤ count b) mid new
       → AtEach (λ a b. IsTrue (tell a) → (files a).loose loose ≡ None → IsInPlace loose name file (files a) (files b)) old mid
       → ((ids : List VersionId) → gone ≡ flat_map id_bytes ids → AtEach (λ a b. IsTrue (tell a) → OnlyRemoves (data_names ids) (files a) (files b)) mid new)
       → ((ids : List VersionId) → gone ≡ flat_map id_bytes ids → AtEach (λ a b. IsTrue (tell a) → HasRemoved (data_names ids) (files b) (count a) (count b)) mid new)
       → WritesAll tell files count loose name file gone old new
-  writes_and_removes loose name file gone old mid new same later tells counts writes removes removed = record {
+  writes_and_removes loose name file gone old mid new same later tells counts rises writes removes removed = record {
     mid = mid;
     same = same;
     later = later;
+    rises = rises;
     tells = tells;
     counts = counts;
     writes = writes;

@@ -20,19 +20,24 @@ use Rattle.ostore.specs.Holders.{IsPrintOf, Coding, shard_file, manifest_file, H
 use Rattle.ostore.specs.Leaves.{sides, Shows, FilesStay, Starves, LooksInVain, ChangesNothing}
 use Rattle.ostore.specs.Objects.{Objects, Answer, Asks, put, replied, unavailable, put_act, MayPut, with_numbers, with_change, with_body}
 use Rattle.ostore.specs.Replies.{unavailable_text}
-use Rattle.ostore.specs.Session.{ClearsKey, WritesKey, KeysStay, MayKeep, OthersStay, StaysAt, Exchange, Gives, wires, TurnOver, Step as ExchangeStep, moment}
-use Rattle.ostore.specs.Slots.{slot_of, Drawn, with_drawn}
-use Rattle.ostore.specs.Store.{HasNoLoose, Ready}
+use Rattle.ostore.specs.Session.{ClearsKey, DataStays, KeepsData, StoresBody, WritesKey, KeysStay, MayKeep, OthersStay, StaysAt, Exchange, Gives, wires, TurnOver, Step as ExchangeStep, moment}
+use Rattle.ostore.specs.Slots.{slot_of, Drawn, WasDrawn, with_drawn}
+use Rattle.ostore.specs.Store.{HasNoLoose, IsSound, NamesData, Ready}
 use Rattle.ostore.proofs.ChangeLemmas.{Begins, is_next, agrees_none, step_of, agrees_drawn, room_drawn}
 use Rattle.ostore.proofs.StandsLemmas.{shown_is, shows_only, look_cause}
 use Rattle.ostore.proofs.SessionLemmas.{rose_later, nothing_taken, nothing_given}
 use Rattle.ostore.proofs.StateLemmas.{put_version, with_front}
-use Rattle.ostore.proofs.StoreLemmas.{ready_same, ready_later, ready_staged}
+use Rattle.ostore.proofs.StoreLemmas.{drawn_data, ready_same, ready_later, ready_staged}
 use Rattle.ostore.proofs.TurnLemmas.{tells_each, tells_same, counts_each, cause_of_some, unanswered, answered}
-use Rattle.ostore.proofs.DrawnLemmas.{with_drawn_here, next_not_drawn}
+use Rattle.ostore.proofs.DrawnLemmas.{drawn_differs, with_drawn_here, next_not_drawn}
 use Rattle.version_list.specs.Answers.{IsServed}
 use Rattle.ostore.proofs.HolderLemmas.{staged_kept}
-use Rattle.ostore.proofs.WriteLemmas.{KeptAt, MayKeepAt, stays_seen, may_keep_seen, kept_later, kept_same}
+use Rattle.ostore.proofs.WriteLemmas.{DataKept, KeptAt, MayKeepAt, data_later, data_same, data_seen, stays_seen, may_keep_seen, kept_later, kept_same}
+use Rattle.ostore.proofs.BroughtLemmas.{StoredAt}
+use Rattle.ostore.proofs.GoneLemmas.{OnData, named_has}
+use Rattle.version_list.proofs.Distinct.{each_item}
+use Rattle.body_print.specs.Names.{shard_name, manifest_name}
+use Rattle.ostore.proofs.NameLemmas.{shard_names_differ, manifest_names_differ}
 
 -- the exchange of a PUT
 abbrev pub putting : List ℕ → List ℕ → List ℕ → Answer → Exchange
@@ -93,7 +98,9 @@ module _ {D : Type 0} (clock : Option ℕ) (mode : Mode) (tell : D → Bool) (fi
     pub printed : IsPrintOf body print
     pub small : length body ≤ 5368709120
     pub coding : Coding body
+    pub of_key : coding.key ≡ key
     pub stages : IsStagedAs id body coding old mid
+    pub stored : AllTell (map tell old) → StoredAt clock mode tell files count id body coding old mid
     pub holders : AllTell (map tell old) → HasHolders files key id body mid
 
   -- the drives keep the objects with the body, whatever each of them has of its files
@@ -144,6 +151,43 @@ module _ {D : Type 0} (clock : Option ℕ) (mode : Mode) (tell : D → Bool) (fi
       staged_kept id (manifest_file id body coding) (shard_file body coding k) (name_of other) (files (slice_index_or old k d)) (files (slice_index_or mid k d))
       (stages k d lt (tells_each clock mode tell files count old all k d lt)
       (((begins.ready all).every k d lt).unused.datas id (next_not_drawn objects.drawn (slot_of key) id begins.next))) refl refl
+
+  -- nor the data of any version
+  pub staged_data : (number : ℕ) (key body : List ℕ) (coding : Coding body) (objects : Objects) (id : VersionId) (now : ℕ) (old mid new : List D) (before : Drawn)
+      → Begins clock mode tell files count number key objects id now old new before → IsStagedAs id body coding old mid → AllTell (map tell old)
+      → (other : List ℕ) (x : VersionId) → NamesData (objects.states other) x → DataKept clock mode tell files count x old mid
+  staged_data number key body coding objects id now old mid new before begins stages all other x had =
+      let r = begins.ready all in
+      let was : WasDrawn objects.drawn (slot_of other) x =
+      named_has (WasDrawn objects.drawn (slot_of other)) (objects.states other).versions x
+      (each_item (IsSound objects.drawn r.owner objects.bodies other) (λ v. OnData (WasDrawn objects.drawn (slot_of other)) v.what)
+      (λ v sound. drawn_data objects.drawn r.owner objects.bodies other v.what sound.data) (objects.states other).versions (r.sound.versions other)) had in
+      let differ : id ≢ x = drawn_differs objects.drawn (slot_of other) id x (next_not_drawn objects.drawn (slot_of key) id begins.next) was in
+      let staged = λ (k : ℕ) (d : D) (lt : k < length old). stages k d lt (tells_each clock mode tell files count old all k d lt)
+      ((r.every k d lt).unused.datas id (next_not_drawn objects.drawn (slot_of key) id begins.next)) in (
+        (λ k d lt. staged_kept id (manifest_file id body coding) (shard_file body coding k) (shard_name x) (files (slice_index_or old k d)) (files (slice_index_or mid k d))
+            (staged k d lt) (shard_names_differ id x differ) refl),
+        (λ k d lt. staged_kept id (manifest_file id body coding) (shard_file body coding k) (manifest_name x) (files (slice_index_or old k d)) (files (slice_index_or mid k d))
+            (staged k d lt) refl (manifest_names_differ id x differ)),
+      )
+
+  -- nor does what leaves it after that
+  pub data_then : (number : ℕ) (key body : List ℕ) (objects later : Objects) (id : VersionId) (now : ℕ) (old mid new : List D) (before staged : Drawn)
+      → (st : Staged number key body objects id now old mid new before staged) → AllTell (map tell old) → (other : List ℕ) (x : VersionId)
+      → NamesData (objects.states other) x → DataKept clock mode tell files count x mid new
+      → DataStays x (moment clock mode tell files count objects old) (moment clock mode tell files count later new)
+  data_then number key body objects later id now old mid new before staged st all other x had after =
+      data_seen clock mode tell files count x objects later old new st.begins.same
+      (data_later clock mode tell files count x old mid new st.length_mid
+      (staged_data number key body st.coding objects id now old mid new before st.begins st.stages all other x had) after)
+
+  -- where the drives held what they held after the data was written
+  data_stayed : (number : ℕ) (key body : List ℕ) (objects later : Objects) (id : VersionId) (now : ℕ) (old mid new : List D) (before staged : Drawn)
+      → (st : Staged number key body objects id now old mid new before staged) → FilesStay tell files count mid new → AllTell (map tell old)
+      → KeepsData (moment clock mode tell files count objects old) (moment clock mode tell files count later new)
+  data_stayed number key body objects later id now old mid new before staged st stays all other x had has =
+      data_then number key body objects later id now old mid new before staged st all other x had
+      (data_same clock mode tell files count x mid new (all_mid number key body objects id now old mid new before staged st all) stays)
 
   -- nor does what leaves a key's file after that
   pub keys_then : (number : ℕ) (key body : List ℕ) (objects later : Objects) (id : VersionId) (now : ℕ) (old mid new : List D) (before staged : Drawn)
@@ -224,6 +268,9 @@ module _ {D : Type 0} (clock : Option ℕ) (mode : Mode) (tell : D → Bool) (fi
         spares = λ all other apart. stays_seen clock mode tell files count (name_of other) objects (with_numbers (with_body objects id body) key 1) old new begins.same
             (staged_keys number key body coding objects id now old new new before begins stages all other);
         clears = λ all. tt;
+        keeps = λ all other x had has. data_seen clock mode tell files count x objects (with_numbers (with_body objects id body) key 1) old new begins.same
+            (staged_data number key body coding objects id now old new new before begins stages all other x had);
+        stores = λ all. tt;
         serves = may_put number key print body objects id now old new before begins printed;
         cause = cause_of_some clock mode tell files count old new begins.same cause;
         counts = counts_each clock mode tell files count old new begins.same begins.counts;
@@ -244,6 +291,7 @@ module _ {D : Type 0} (clock : Option ℕ) (mode : Mode) (tell : D → Bool) (fi
         objects = inr (record { key = key; body = body; id = id; asks = subst (Asks (put key body)) (sym (append-nil bytes)) asks; next = st.begins.next; is = refl });
         shows = λ all. shows_only clock mode tell files count (number + 1) (number + number + 2) (with_numbers (with_body objects id body) key 1) new (staged_stays number key body objects id now old mid new before staged st starves.stays all);
         keys = keys_stayed number key body objects (with_numbers (with_body objects id body) key 1) id now old mid new before staged st starves.stays;
+        datas = data_stayed number key body objects (with_numbers (with_body objects id body) key 1) id now old mid new before staged st starves.stays;
         counts = counts_each clock mode tell files count old new st.begins.same st.begins.counts;
       })
       (record { took = nothing_taken left; gave = starves.given ∙ nothing_given given; reads = omega arith; writes = omega arith })
@@ -268,6 +316,8 @@ module _ {D : Type 0} (clock : Option ℕ) (mode : Mode) (tell : D → Bool) (fi
           λ k d inside. inl (keys_stayed number key body objects (with_numbers (with_body objects id body) key 1) id now old mid new before staged st looks.stays all key k d inside),
         );
         spares = λ all other apart. keys_stayed number key body objects (with_numbers (with_body objects id body) key 1) id now old mid new before staged st looks.stays all other;
+        keeps = data_stayed number key body objects (with_numbers (with_body objects id body) key 1) id now old mid new before staged st looks.stays;
+        stores = λ all. tt;
         clears = λ all. tt;
         serves = may_put number key st.print body objects id now old new before st.begins st.printed;
         cause = cause_then number key body objects id now old mid new before staged st (look_cause clock mode tell files count number (number + number + 1) (with_numbers (with_body objects id body) key 1) key id mid new (some_mid number key body objects id now old mid new before staged st) (same_mid number key body objects id now old mid new before staged st)
@@ -291,8 +341,10 @@ module _ {D : Type 0} (clock : Option ℕ) (mode : Mode) (tell : D → Bool) (fi
       → (AllTell (map tell old) → WritesKey key (moment clock mode tell files count objects old) (moment clock mode tell files count later new))
       → (AllTell (map tell old) → OthersStay key (moment clock mode tell files count objects old) (moment clock mode tell files count later new))
       → (AllTell (map tell old) → ClearsKey key (moment clock mode tell files count objects old) (moment clock mode tell files count later new))
+      → (AllTell (map tell old) → KeepsData (moment clock mode tell files count objects old) (moment clock mode tell files count later new))
+      → (AllTell (map tell old) → StoresBody key body (moment clock mode tell files count objects old) (moment clock mode tell files count later new))
       → ExchangeStep clock mode (map tell old) (moment clock mode tell files count objects old) (putting key body bytes (replied p.changes.reply [])) (moment clock mode tell files count later new)
-  put_steps number key body objects later id now old mid new before staged bytes text gone file st asks p is writes spares clears = record {
+  put_steps number key body objects later id now old mid new before staged bytes text gone file st asks p is writes spares clears keeps stores = record {
     asks = asks;
     fits = refl;
     shows = λ all. shows_only clock mode tell files count number (number + number) objects old (st.begins.ready all);
@@ -313,6 +365,8 @@ module _ {D : Type 0} (clock : Option ℕ) (mode : Mode) (tell : D → Bool) (fi
     writes = writes;
     spares = spares;
     clears = clears;
+    keeps = keeps;
+    stores = stores;
     cause = tt;
     counts = counts_each clock mode tell files count old new st.begins.same st.begins.counts;
   }
@@ -330,5 +384,7 @@ module _ {D : Type 0} (clock : Option ℕ) (mode : Mode) (tell : D → Bool) (fi
       (put_steps number key body objects (with_numbers (with_body objects id body) key 1) id now old mid new before staged bytes nothing.text nothing.gone None st asks p (λ same. inr (p.changes.has_file ∙ same, refl))
       (λ all. record { same = λ e. keys_stayed number key body objects (with_numbers (with_body objects id body) key 1) id now old mid new before staged st nothing.stays all key; other = λ differs. absurd (differs refl) })
       (λ all other apart. keys_stayed number key body objects (with_numbers (with_body objects id body) key 1) id now old mid new before staged st nothing.stays all other)
-      (λ all data_id had lost. absurd (lost had)))
+      (λ all data_id had lost. absurd (lost had))
+      (data_stayed number key body objects (with_numbers (with_body objects id body) key 1) id now old mid new before staged st nothing.stays)
+      (λ all data_id has lost. absurd (lost has)))
       (subst (λ t. Gives t turn given later faults more) p.changes.texts nothing.gives)

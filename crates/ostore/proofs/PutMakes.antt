@@ -17,16 +17,17 @@ use Rattle.ostore.specs.Objects.{Objects, Asks, put, replied, unavailable, put_a
 use Rattle.ostore.specs.Session.{Gives, Agrees, MayKeep, moment, wires, TurnOver}
 use Rattle.ostore.specs.Slots.{slot_of, Drawn, with_drawn}
 use Rattle.ostore.specs.Store.{Ready, IsSound}
-use Rattle.ostore.proofs.ChangeLemmas.{is_next, drawn_of, step_of, made_ready, refused_ready, agrees_drawn, room_drawn}
+use Rattle.ostore.proofs.ChangeLemmas.{not_among, is_next, drawn_of, step_of, made_ready, refused_ready, agrees_drawn, room_drawn}
 use Rattle.ostore.proofs.ClearLemmas.{clears_made, state_here}
 use Rattle.ostore.proofs.MakingLemmas.{cause_later}
-use Rattle.ostore.proofs.PutLemmas.{Staged, putting, staged_ready, all_mid, some_mid, same_mid, put_shown, put_starves, put_looks, put_nothing, twice_drawn, numbers_twice, change_twice, put_steps, keys_then, maybe_then}
+use Rattle.ostore.proofs.PutLemmas.{Staged, putting, staged_ready, all_mid, some_mid, same_mid, put_shown, put_starves, put_looks, put_nothing, twice_drawn, numbers_twice, change_twice, put_steps, data_then, keys_then, maybe_then}
 use Rattle.ostore.proofs.StandsLemmas.{all_or_not, shows_only}
 use Rattle.ostore.proofs.StateLemmas.{step_keeps, step_uploads, sound_drawn_later, put_is_sound}
 use Rattle.ostore.proofs.TurnLemmas.{counts_each, cause_of_some, answered}
 use Rattle.ostore.proofs.DrawnLemmas.{grows_with_drawn, with_drawn_here, next_was_drawn}
 use Rattle.ostore.proofs.NameLemmas.{with_name-here}
-use Rattle.ostore.proofs.WriteLemmas.{writes_made, maybe_written, others_refused, others_made}
+use Rattle.ostore.proofs.BroughtLemmas.{brought_by, stores_made}
+use Rattle.ostore.proofs.WriteLemmas.{data_made, data_refused, writes_made, maybe_written, others_refused, others_made}
 
 -- the number that was drawn after the id's
 agrees_two : (objects : Objects) (key : List ℕ) (before staged after : Drawn) → Agrees before objects
@@ -112,6 +113,10 @@ module _ {D : Type 0} (clock : Option ℕ) (mode : Mode) (tell : D → Bool) (fi
                   (maybe_written clock mode tell files count number (number + number + 1) key vain.file (with_numbers (with_body objects id body) key 1) p.changes.new mid new st.begins.few
                   (all_mid clock mode tell files count number key body objects id now old mid new before staged st all) (staged_ready clock mode tell files count number key body objects id now old mid new before staged st all) p.changes.has_file.3 vain.writes)),
             );
+        keeps = λ all other x had has. data_then clock mode tell files count number key body objects objects_after id now old mid new before staged st all other x had
+            (data_refused clock mode tell files count number (number + number + 1) key vain.file (with_numbers (with_body objects id body) key 1) mid new st.begins.few
+            (all_mid clock mode tell files count number key body objects id now old mid new before staged st all) (staged_ready clock mode tell files count number key body objects id now old mid new before staged st all) vain.writes x);
+        stores = λ all. tt;
         spares = λ all other apart. keys_then clock mode tell files count number key body objects objects_after id now old mid new before staged st all other
             (others_refused clock mode tell files count number (number + number + 1) key vain.file other (with_numbers (with_body objects id body) key 1) mid new st.begins.few
             (all_mid clock mode tell files count number key body objects id now old mid new before staged st all) (staged_ready clock mode tell files count number key body objects id now old mid new before staged st all) vain.writes apart);
@@ -171,7 +176,21 @@ module _ {D : Type 0} (clock : Option ℕ) (mode : Mode) (tell : D → Bool) (fi
       (λ all. clears_made clock mode tell files count key objects (with_change (with_body objects id body) key p.changes.new 2) p.state p.changes.new (loose_name_of number) (name_of key) makes.file makes.gone old mid new
       st.length_mid st.counts_mid (all_mid clock mode tell files count number key body objects id now old mid new before staged st all)
       (put_shown clock mode tell files count number key body objects id now old mid new before staged st makes.text makes.gone (Some makes.file) p all)
-      (state_here objects.states key p.changes.new) p.changes.has_file.4 makes.writes))
+      (state_here objects.states key p.changes.new) p.changes.has_file.4 makes.writes)
+      (λ all other x had has.
+      let r = staged_ready clock mode tell files count number key body objects id now old mid new before staged st all in
+      data_then clock mode tell files count number key body objects (with_change (with_body objects id body) key p.changes.new 2) id now old mid new before staged st all other x had
+      (data_made clock mode tell files count number (number + number + 1) key makes.file makes.gone (with_numbers (with_body objects id body) key 1) p.state p.changes.new mid new st.begins.few
+      (all_mid clock mode tell files count number key body objects id now old mid new before staged st all) r p.changes.has_file.4 makes.writes x
+      (not_among clock mode tell files count r.owner (with_numbers (with_body objects id body) key 1) key p.state p.changes.new r.sound.versions
+      (put_shown clock mode tell files count number key body objects id now old mid new before staged st makes.text makes.gone (Some makes.file) p all) other x has)))
+      (λ all.
+      let same = put_shown clock mode tell files count number key body objects id now old mid new before staged st makes.text makes.gone (Some makes.file) p all in
+      stores_made clock mode tell files count number (number + number + 1) key body objects (with_numbers (with_body objects id body) key 1) (with_change (with_body objects id body) key p.changes.new 2)
+      id st.coding p.state p.changes.new makes.file makes.gone old mid new st.begins.few
+      (all_mid clock mode tell files count number key body objects id now old mid new before staged st all) (staged_ready clock mode tell files count number key body objects id now old mid new before staged st all)
+      st.length_mid st.of_key (st.stored all) same (state_here objects.states key p.changes.new) p.changes.has_file.4
+      (brought_by p.state p.changes.new mode id st.print body now p.changes.reply p.changes.step) makes.writes))
       (subst (λ t. Gives t turn given later faults more) p.changes.texts makes.gives)
 
   pub put_turn : (number : ℕ) (key body : List ℕ) (objects : Objects) (id : VersionId) (now : ℕ) (old mid new : List D) (turn : Turn)

@@ -71,7 +71,7 @@ nothing_given (Some given) = ap Some (sym (append-nil given))
 -- where nothing changed, however the connection ended
 pub rests_same : (tells : List Bool) (tail : List ℕ) (moment : Moment) (end : ConnectionEnd) → (AllTell tells → ShowOnly moment.objects moment.drives)
     → Rests tells end tail moment moment
-rests_same tells tail moment NoMemory shows = record { objects = inl refl; shows = shows; keys = λ all key k d inside. refl; counts = none_fell_same moment.counts }
+rests_same tells tail moment NoMemory shows = record { objects = inl refl; shows = shows; keys = λ all key k d inside. refl; datas = λ all key id had has. (λ k d inside. refl, λ k d inside. refl); counts = none_fell_same moment.counts }
 rests_same tells tail moment Over shows = refl
 rests_same tells tail moment InputCut shows = refl
 rests_same tells tail moment ReadFault shows = refl

@@ -21,7 +21,7 @@ use Rattle.ostore.specs.Replies.{unavailable_text}
 use Rattle.ostore.specs.Session.{Gives, wires, TurnOver}
 use Rattle.ostore.specs.Slots.{slot_of, Drawn, with_drawn}
 use Rattle.ostore.proofs.ChangeLemmas.{Begins}
-use Rattle.ostore.proofs.HolderLemmas.{each_may_be_staged, staged_holders, short_cause, print_by_shards}
+use Rattle.ostore.proofs.HolderLemmas.{each_may_be_staged, holds_or_rose, staged_holders, short_cause, print_by_shards}
 use Rattle.ostore.proofs.PutLemmas.{Staged, put_unstaged}
 use Rattle.ostore.proofs.PutMakes.{put_turn}
 use Rattle.ostore.proofs.TurnLemmas.{tells_each}
@@ -56,6 +56,9 @@ module _ {D : Type 0} (clock : Option ℕ) (mode : Mode) (tell : D → Bool) (fi
     printed = print_by_shards body told.print s.shards s.wrote.are few s.told.print;
     small = few;
     coding = record { shards = s.shards; are = s.wrote.are; key = key; short = short };
+    of_key = refl;
+    stored = λ all k d lt. holds_or_rose tell files count id key body short s.shards s.whys old mid s.wrote k d (omega arith)
+        (tells_each clock mode tell files count old all k d lt) (((begins.ready all).every k d lt).unused.datas id (next_not_drawn objects.drawn (slot_of key) id begins.next));
     stages = λ k d lt told_on unused. each_may_be_staged tell files count id key body short s.shards s.whys old mid s.wrote k d (omega arith) told_on unused;
     holders = λ all.
         staged_holders tell files count id key body short s.shards s.whys old mid four s.wrote s.told.enough

@@ -60,6 +60,7 @@ module _ {D : Type 0} (tell : D → Bool) (files : D → Files) (count : D → �
     pub mid : List D
     pub same : length mid ≡ length old
     pub later : length new ≡ length mid
+    pub rises : AtEach (λ a b. count a ≤ count b) mid new
     pub tells : AtEach (λ a b. tell b ≡ tell a) old mid
     pub counts : AtEach (λ a b. count a ≤ count b) old mid
     pub writes : AtEach (λ a b. IsTrue (tell a) → (files a).loose loose ≡ None → IsInPlace loose name file (files a) (files b)) old mid

@@ -1,6 +1,7 @@
 -- A connection: the requests that were read, the replies that were given, and how it ended.
 use Rattle.std.specs.Prelude.{⊤, map, Bool, ◌≡◌, ◌≢◌, ◌⊎◌, ◌+◌, ◌<◌, ◌≤◌, ℕ, List, [], ◌∷◌, ◌++◌, length, take, Option, IfSome, slice_index_or, bytes_eq, false}
 use Rattle.std.specs.Io.KnownBytes.{prepend_known, append_known, IsAtEnd}
+use Rattle.drive_base.specs.Faults.{Rose}
 use Rattle.drive_base.specs.Files.{Files}
 use Rattle.io_base.specs.Count.{CountRose}
 use Rattle.ostore.specs.declared.connection.Turn.{Turn}
@@ -8,10 +9,11 @@ use Rattle.ostore.specs.declared.connection.Turn.TheVariants.{Answered, Ended}
 use Rattle.ostore.specs.declared.connection.ConnectionEnd.{ConnectionEnd}
 use Rattle.ostore.specs.declared.connection.ConnectionEnd.TheVariants.{Over, Closed, InputCut, ReadFault, WriteFault, NoMemory}
 use Rattle.version_list.specs.declared.state.KeyState.{KeyState}
-use Rattle.ostore.specs.Holders.{HasOnly}
+use Rattle.ostore.specs.Holders.{Coding, Holds, HasOnly}
 use Rattle.ostore.specs.Heads.{HasNoBlankLine, SpellsPut, IsRefusedHead}
 use Rattle.ostore.specs.Replies.{bad_request}
 use Rattle.body_print.specs.Clashes.{Clash}
+use Rattle.body_print.specs.Names.{shard_name, manifest_name}
 use Rattle.body_print.specs.Prints.{HasPrint}
 use Rattle.stamp_id.specs.declared.version.VersionId.{VersionId}
 use Rattle.call_types.specs.declared.names.Mode.{Mode}
@@ -106,6 +108,27 @@ HasWritten clock mode (get key pick) unavailable old new = ⊤
 HasWritten clock mode (delete key pick) unavailable old new =
     StaysAt (name_of key) old new ⊎ ((made : Objects) × MayDelete clock mode old.objects key pick made × MayKeep key (made.states key) old new)
 
+-- each drive keeps both files of an id's data as it kept them
+abbrev pub DataStays : VersionId → Moment → Moment → Type 0
+DataStays id old new = StaysAt (shard_name id) old new × StaysAt (manifest_name id) old new
+
+-- data that a version of a key had and one has still is touched on no drive
+abbrev pub KeepsData : Moment → Moment → Type 0
+KeepsData old new = (key : List ℕ) (id : VersionId) → NamesData (old.objects.states key) id → NamesData (new.objects.states key) id → DataStays id old new
+
+-- each drive keeps both files of the body, which a version of the key has that had no such data, or its count rose
+abbrev pub StoresBody : List ℕ → List ℕ → Moment → Moment → Type 0
+StoresBody key body old new = (id : VersionId) → NamesData (new.objects.states key) id → (NamesData (old.objects.states key) id → ⊥)
+    → (coding : Coding body) × (coding.key ≡ key) × ((k : ℕ) (d : DriveView) → k < length new.drives
+    → Rose (slice_index_or old.counts k 0) (slice_index_or new.counts k 0) ⊎ Holds id body coding k (slice_index_or new.drives k d).files)
+
+-- the body of a PUT that was answered is on every drive that didn't fail
+abbrev pub HasStored : Request → Answer → Moment → Moment → Type 0
+HasStored (put key body) (replied reply told) old new = StoresBody key body old new
+HasStored (get key pick) (replied reply told) old new = ⊤
+HasStored (delete key pick) (replied reply told) old new = ⊤
+HasStored request unavailable old new = ⊤
+
 -- bytes are each body of this length with this print, or what the drives show and what is hashed for that body are two
 -- byte strings with one SHA-256
 pub record IsRead (drives : List DriveView) (size : ℕ) (print bytes : List ℕ) : Type 0 where
@@ -143,6 +166,8 @@ pub record Step (clock : Option ℕ) (mode : Mode) (tells : List Bool) (old : Mo
   pub writes : AllTell tells → HasWritten clock mode exchange.request exchange.answer old new
   pub spares : AllTell tells → HasSpared exchange.request old new
   pub clears : AllTell tells → HasCleared exchange.request exchange.answer old new
+  pub keeps : AllTell tells → KeepsData old new
+  pub stores : AllTell tells → HasStored exchange.request exchange.answer old new
   pub cause : HasCause tells exchange.request exchange.answer old.counts new.counts
   pub counts : NoneFell old.counts new.counts
 
@@ -155,11 +180,13 @@ pub record HasStaged (tail : List ℕ) (old new : Objects) : Type 0 where
   pub next : IsIdOf (slot_of key) (old.drawn (slot_of key) + 1) id
   pub is : new ≡ with_numbers (with_body old id body) key 1
 
--- Memory ran out: the objects and the keys' files are as they were, but for a body that was staged. No count falls.
+-- Memory ran out: the objects, the keys' files and their versions' data are as they were, but for a body that was staged. No
+-- count falls.
 pub record RunsOut (tells : List Bool) (tail : List ℕ) (old new : Moment) : Type 0 where
   pub objects : (new.objects ≡ old.objects) ⊎ HasStaged tail old.objects new.objects
   pub shows : AllTell tells → ShowOnly new.objects new.drives
   pub keys : AllTell tells → KeysStay old new
+  pub datas : AllTell tells → KeepsData old new
   pub counts : NoneFell old.counts new.counts
 
 -- what follows the last exchange changes nothing, unless memory ran out

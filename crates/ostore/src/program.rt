@@ -38,9 +38,9 @@ pub struct PlainEnded<D> {
 ///
 /// The replies are those of versioned objects as S3 has them, one after another, from keys without versions. A PUT or a DELETE
 /// that is answered 503 is done or leaves the key as it was. After one that is answered otherwise, every drive keeps
-/// the key's new state, and none shows the data that was taken out, unless it failed in that request. No request
-/// touches the file of another key. One that finds no memory leaves the file of every key, though its body may be
-/// written by then. In the end drive 0 keeps each key's state, and all drives but one at most keep the files of each
+/// the key's new state, and each keeps both files of a body that was put and shows none of the data that was taken out,
+/// unless it failed in that request. No request touches the file of another key, or data that stays. One that finds no
+/// memory leaves the file of every key, though its body may be written by then. In the end drive 0 keeps each key's state, and all drives but one at most keep the files of each
 /// version's data, of which the manifest names the key's file. This holds of drives that tell what they hold.
 ///
 /// What was read and given, that a body is each one of its version's print and length or two byte strings with one

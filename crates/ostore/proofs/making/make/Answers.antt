@@ -39,7 +39,7 @@ returns-in-Ok-write_all-clause-leaves g c =
     c.prepare.auto.drives c.prepare.ensures.tells c.prepare.ensures.files c.in-Ok-write_all.ensures.ok in
     let all = writes_and_removes g.D.Drive.tells g.D.Drive.files g.D.Drive.count c.as_str-2.result.now c.as_str-3.result.now c.as_slice-2.result.now c.as_slice-in-Ok-write_all-2.result.now c.args.drives.now c.write_all.new.drives c.remove_data.new.drives
     (c.write_all.auto.drives ∙ c.prepare.auto.drives) c.remove_data.auto.drives (tells_later g.D.Drive.tells g.D.Drive.files g.D.Drive.count _ c.prepare.new.drives _ c.prepare.auto.drives c.prepare.ensures.tells c.write_all.ensures.tells)
-    (counts_later g.D.Drive.tells g.D.Drive.files g.D.Drive.count _ c.prepare.new.drives _ c.prepare.auto.drives c.prepare.ensures.counts c.write_all.ensures.counts)
+    (counts_later g.D.Drive.tells g.D.Drive.files g.D.Drive.count _ c.prepare.new.drives _ c.prepare.auto.drives c.prepare.ensures.counts c.write_all.ensures.counts) c.remove_data.ensures.counts
     written c.remove_data.ensures.removes c.remove_data.ensures.removed in
     inr (inr (inr (inr (record {
       text = c.in-Ok.prepared.text.items;
