@@ -1,11 +1,8 @@
 -- Counted faults: which answers a call may give, and when a count rises.
-use Rattle.std.specs.Prelude.{◌≡◌, ◌⊎◌, ℕ, ◌<◌, ◌≤◌, Result, Ok, Err}
+use Rattle.std.specs.Prelude.{◌≡◌, ℕ, Result, Ok, Err}
+use Rattle.fault_base.specs.Counts.{Rose}
 use Rattle.drive_base.specs.declared.fault.DriveFault.{DriveFault}
 use Rattle.drive_base.specs.declared.fault.DriveFault.TheVariants.{Absent, Failed, NoMemory}
-
--- the count of faults rose, or it stands at the last value of a `u64`
-abbrev pub Rose : ℕ → ℕ → Type 0
-Rose old new = (old ≤ new) × ((old < new) ⊎ (18446744073709551615 ≤ new))
 
 -- the faults of a call that may answer `Absent`: the count rises with `Failed` and with no other answer
 abbrev pub Counts : {T : Type 0} → Result T DriveFault → ℕ → ℕ → Type 0

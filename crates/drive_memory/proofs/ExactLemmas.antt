@@ -1,7 +1,8 @@
 -- What follows from the exact contract of a call that changes files.
 use Rattle.std.specs.Prelude.{◌≡◌, ℕ, false, List, ◌++◌, Some, None, Result, Ok, Err, refl}
 use Rattle.std.proofs.Common.{inl, inr}
-use Rattle.drive_base.specs.Faults.{Counts, CountsAppend, Rose}
+use Rattle.drive_base.specs.Faults.{Counts, CountsAppend}
+use Rattle.fault_base.specs.Counts.{Rose}
 use Rattle.drive_base.specs.Files.{Files}
 use Rattle.drive_base.specs.Leaves.{AnyLoose, AppendLeaves, Placed, PlacedOrNot, RenameLeaves, loose_bytes}
 use Rattle.drive_base.specs.declared.fault.DriveFault.{DriveFault}

@@ -1,6 +1,6 @@
 -- When the calls of a memory drive fail, what a failed call counts, and how a call moves the fuse.
 use Rattle.std.specs.Prelude.{◌≡◌, ◌⊎◌, ℕ, ◌+◌, min, true, false, Result, Ok, Err}
-use Rattle.drive_base.specs.Faults.{Rose}
+use Rattle.fault_base.specs.Counts.{Rose}
 use Rattle.drive_base.specs.declared.fault.DriveFault.{DriveFault}
 use Rattle.drive_base.specs.declared.fault.DriveFault.TheVariants.{Absent, Failed, NoMemory}
 use Rattle.drive_memory.specs.Fuses.{is_spent, is_due, burned}

@@ -2,7 +2,7 @@
 
 ghost use Rattle.std.specs.Prelude.{◌≡◌, true, false, Some, None};
 ghost use Rattle.std.specs.Bool.{OnTrue, OnFalse};
-ghost use Rattle.drive_base.specs.Faults.{Rose};
+ghost use Rattle.fault_base.specs.Counts.{Rose};
 ghost use Rattle.drive_memory.specs.Exact.{Answered, FailsReading};
 ghost use Rattle.drive_memory.specs.Gates.{Faulted, Wanted, Meets, Settles};
 ghost use Rattle.drive_memory.specs.MemDrive.{files_of, fault_count, starved_count, is_lost, fuse_of};

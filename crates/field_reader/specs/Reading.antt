@@ -1,10 +1,16 @@
 -- What a reader answers.
 use Rattle.std.specs.Prelude.{◌≡◌, ℕ, Result, Ok, Err}
+use Rattle.field_reader.specs.declared.fault.Misspelled.{Misspelled}
 use Rattle.field_reader.specs.declared.fault.ReadFault.{ReadFault}
 use Rattle.field_reader.specs.declared.fault.ReadFault.TheVariants.{At, NoMemory}
 use Rattle.field_reader.specs.Format.{Spot, Found}
 
--- The answer is what the format finds, its value seen by a view, and the reader stands behind it. It may lack memory.
+-- The answer is what the format finds, its value seen by a view, and the reader stands behind it.
+abbrev pub Takes : {X Y : Type 0} → (X → Y) → Result X Misspelled → Spot → Found Y → Type 0
+Takes view (Ok value) after found = found ≡ Ok (view value, after)
+Takes view (Err misspelled) after found = found ≡ Err misspelled.0
+
+-- The same of a reader that takes memory, which it may lack.
 abbrev pub Gives : {X Y : Type 0} → (X → Y) → Result X ReadFault → Spot → Found Y → Type 0
 Gives view (Ok value) after found = found ≡ Ok (view value, after)
 Gives view (Err (At place)) after found = found ≡ Err place

@@ -5,14 +5,26 @@ ghost use Rattle.field_reader.specs.declared.fault.ReadFault.TheVariants.{At, No
 
 use std::alloc::{AllocError, AllocFailed};
 
-/// Why a content could not be read.
+/// A content is no spelling. It tells the place of the first fault: the start of the first field that breaks its rule,
+/// the number of bytes of the content where bytes are missing, or the first byte too many.
+#[derive(Clone, Copy, Debug, PartialEq, Eq)]
+pub struct Misspelled(pub u64);
+
+/// Why a content could not be read into values that take memory.
 #[derive(Clone, Copy, Debug, PartialEq, Eq)]
 pub enum ReadFault {
-    /// The place of the first fault: the start of the first field that breaks its rule, the number of bytes of the
-    /// content where bytes are missing, or the first byte too many.
+    /// It is no spelling: the place of the first fault, as [`Misspelled`] tells it.
     At(u64),
     /// There was not enough memory.
     NoMemory,
+}
+
+impl From<Misspelled> for ReadFault {
+    ghost from_gives = { λ misspelled e. e ≡ At misspelled.0 };
+
+    fn from(misspelled: Misspelled) -> ReadFault {
+        ReadFault::At(misspelled.0)
+    }
 }
 
 impl From<AllocError> for ReadFault {
@@ -32,12 +44,12 @@ impl<T: Drop> From<AllocFailed<T>> for ReadFault {
 }
 
 /// The fault of a field that starts at `start`, unless it keeps its rule.
-pub fn refuse_unless(kept: bool, start: u64) -> Result<(), ReadFault>
-    ensures { result ≡ (if kept then Ok tt else Err (At start)) }
+pub fn refuse_unless(kept: bool, start: u64) -> Result<(), Misspelled>
+    ensures { result ≡ (if kept then Ok tt else Err (record { 0 = start })) }
 {
     if kept {
         Ok(())
     } else {
-        Err(ReadFault::At(start))
+        Err(Misspelled(start))
     }
 }

@@ -3,9 +3,9 @@
 ghost use Rattle.std.specs.Prelude.{◌≡◌, length, OnErr, IfOk};
 ghost use Rattle.std.specs.Int.{w8, w16, w32, w64};
 ghost use Rattle.field_reader.specs.Format.{start, field, number, short_text, ends};
-ghost use Rattle.field_reader.specs.Reading.{Gives};
+ghost use Rattle.field_reader.specs.Reading.{Takes};
 
-use crate::fault::{ReadFault, refuse_unless};
+use crate::fault::{Misspelled, refuse_unless};
 use std::marker::Model;
 
 /// A content, and how far it was read. A contract sees the place of the next byte, and the bytes from there on.
@@ -50,22 +50,22 @@ impl<'a> Fields<'a> {
 
     /// Takes the next `size` bytes. Where fewer are left, the fault is at the end and nothing is taken.
     #[tactic(auto, unfolding(crate::specs::Format::field))]
-    pub fn take_slice(&mut self, size: usize) -> Result<&'a [u8], ReadFault>
-        ensures taken { Gives (λ bytes. bytes.now) result self.new (field size self.old) }
+    pub fn take_slice(&mut self, size: usize) -> Result<&'a [u8], Misspelled>
+        ensures taken { Takes (λ bytes. bytes.now) result self.new (field size self.old) }
         ensures size { IfOk result (λ bytes. length bytes.now ≡ size) }
         ensures err { OnErr result (self.new ≡ self.old) }
     {
         let rest = self.rest();
         if rest.len() < size {
-            return Err(ReadFault::At(self.content.len() as u64));
+            return Err(Misspelled(self.content.len() as u64));
         }
         self.next += size;
         Ok(&rest[..size])
     }
 
     /// Takes the next `N` bytes. Where fewer are left, the fault is at the end and nothing is taken.
-    pub fn take_bytes<const N: usize>(&mut self) -> Result<[u8; N], ReadFault>
-        ensures taken { Gives (λ bytes. bytes) result self.new (field N self.old) }
+    pub fn take_bytes<const N: usize>(&mut self) -> Result<[u8; N], Misspelled>
+        ensures taken { Takes (λ bytes. bytes) result self.new (field N self.old) }
         ensures err { OnErr result (self.new ≡ self.old) }
     {
         let bytes = self.take_slice(N)?;
@@ -76,8 +76,8 @@ impl<'a> Fields<'a> {
 
     /// Takes one byte. Where none is left, the fault is at the end and nothing is taken.
     #[tactic(auto, unfolding(crate::specs::Format::number, crate::specs::Format::field))]
-    pub fn take_u8(&mut self) -> Result<u8, ReadFault>
-        ensures taken { Gives (λ number. number) result self.new (number w8 self.old) }
+    pub fn take_u8(&mut self) -> Result<u8, Misspelled>
+        ensures taken { Takes (λ number. number) result self.new (number w8 self.old) }
         ensures err { OnErr result (self.new ≡ self.old) }
     {
         let bytes = self.take_slice(1)?;
@@ -86,8 +86,8 @@ impl<'a> Fields<'a> {
 
     /// Takes a number of two bytes. Where fewer are left, the fault is at the end and nothing is taken.
     #[tactic(auto, unfolding(crate::specs::Format::number))]
-    pub fn take_u16(&mut self) -> Result<u16, ReadFault>
-        ensures taken { Gives (λ number. number) result self.new (number w16 self.old) }
+    pub fn take_u16(&mut self) -> Result<u16, Misspelled>
+        ensures taken { Takes (λ number. number) result self.new (number w16 self.old) }
         ensures err { OnErr result (self.new ≡ self.old) }
     {
         Ok(u16::from_be_bytes(self.take_bytes()?))
@@ -95,8 +95,8 @@ impl<'a> Fields<'a> {
 
     /// Takes a number of four bytes. Where fewer are left, the fault is at the end and nothing is taken.
     #[tactic(auto, unfolding(crate::specs::Format::number))]
-    pub fn take_u32(&mut self) -> Result<u32, ReadFault>
-        ensures taken { Gives (λ number. number) result self.new (number w32 self.old) }
+    pub fn take_u32(&mut self) -> Result<u32, Misspelled>
+        ensures taken { Takes (λ number. number) result self.new (number w32 self.old) }
         ensures err { OnErr result (self.new ≡ self.old) }
     {
         Ok(u32::from_be_bytes(self.take_bytes()?))
@@ -104,26 +104,34 @@ impl<'a> Fields<'a> {
 
     /// Takes a number of eight bytes. Where fewer are left, the fault is at the end and nothing is taken.
     #[tactic(auto, unfolding(crate::specs::Format::number))]
-    pub fn take_u64(&mut self) -> Result<u64, ReadFault>
-        ensures taken { Gives (λ number. number) result self.new (number w64 self.old) }
+    pub fn take_u64(&mut self) -> Result<u64, Misspelled>
+        ensures taken { Takes (λ number. number) result self.new (number w64 self.old) }
         ensures err { OnErr result (self.new ≡ self.old) }
     {
         Ok(u64::from_be_bytes(self.take_bytes()?))
     }
 
-    /// Takes a short text: one byte of length, and so many bytes. Where bytes are missing, the fault is at the end.
+    /// Takes a short text: one byte of length, and so many bytes. Where bytes are missing, the fault is at the end and
+    /// nothing is taken.
     #[tactic(auto, unfolding(crate::specs::Format::short_text))]
-    pub fn take_short_text(&mut self) -> Result<&'a [u8], ReadFault>
-        ensures { Gives (λ text. text.now) result self.new (short_text self.old) }
+    pub fn take_short_text(&mut self) -> Result<&'a [u8], Misspelled>
+        ensures taken { Takes (λ text. text.now) result self.new (short_text self.old) }
+        ensures err { OnErr result (self.new ≡ self.old) }
     {
-        let size = self.take_u8()?;
-        self.take_slice(size as usize)
+        let mut ahead = Fields {
+            content: self.content,
+            next: self.next,
+        };
+        let size = ahead.take_u8()?;
+        let text = ahead.take_slice(size as usize)?;
+        *self = ahead;
+        Ok(text)
     }
 
     /// Ends the reading. Where bytes are left, the fault is at the first of them.
     #[tactic(auto, unfolding(crate::specs::Format::ends))]
-    pub fn finish(&self) -> Result<(), ReadFault>
-        ensures { Gives (λ unit. unit) result self.now (ends self.now) }
+    pub fn finish(&self) -> Result<(), Misspelled>
+        ensures { Takes (λ unit. unit) result self.now (ends self.now) }
     {
         refuse_unless(self.next == self.content.len(), self.next as u64)
     }

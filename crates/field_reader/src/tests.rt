@@ -2,7 +2,7 @@ use super::*;
 use std::alloc::AllocError;
 use std::test::Fail;
 
-fn read_all(content: &[u8]) -> Result<(u8, u16, u32, u64, u8), ReadFault> {
+fn read_all(content: &[u8]) -> Result<(u8, u16, u32, u64, u8), Misspelled> {
     let mut fields = Fields::new(content);
     let byte = fields.take_u8()?;
     let start = fields.at();
@@ -49,12 +49,12 @@ fn takes_fields(rt: HostRuntime) -> Result<(), Fail> {
     for size in 0..out.len() {
         let front = &out.as_slice()[..size];
         assert!(rt;
-            read_all(front) == Err(ReadFault::At(size as u64)),
+            read_all(front) == Err(Misspelled(size as u64)),
             "at {size}"
         );
     }
     out.push(0)?;
-    assert!(rt; read_all(out.as_slice()) == Err(ReadFault::At(21)));
-    assert!(rt; read_all([7, 0x80, 0].as_slice()) == Err(ReadFault::At(1)));
+    assert!(rt; read_all(out.as_slice()) == Err(Misspelled(21)));
+    assert!(rt; read_all([7, 0x80, 0].as_slice()) == Err(Misspelled(1)));
     Ok(())
 }

@@ -12,9 +12,9 @@ use Rattle.manifest_file.specs.declared.manifest.ManifestPart.{ManifestPart}
 use Rattle.body_print.specs.Names.{shard_name}
 use Rattle.get_read.specs.Blocks.{IsFetched, IsNoBlock, ShowsBlock}
 use Rattle.get_read.specs.Causes.{IsShardDamage, IsTableOf, NoBlock}
-use Rattle.drive_files.specs.Reading.{IsRefusedBy}
-use Rattle.drive_files.specs.declared.cause.NotGiven.{NotGiven}
-use Rattle.drive_files.specs.declared.cause.NotGiven.TheVariants.{Because, NoMemory}
+use Rattle.file_access.specs.Reading.{IsRefusedBy}
+use Rattle.file_access.specs.declared.cause.NotGiven.{NotGiven}
+use Rattle.file_access.specs.declared.cause.NotGiven.TheVariants.{Because, NoMemory}
 use Rattle.get_read.proofs.Widening.{Widens}
 
 -- what a drive shows under a name later, it showed under that name before

@@ -1,13 +1,13 @@
 -- The damages of pieces of a shard file are damages of its table and its blocks.
 use Rattle.std.proofs.Common.{◌≡◌, ℕ, ◌+◌, ◌-◌, ◌*◌, ◌<◌, ◌≤◌, ◌∙◌, List, [], ◌∷◌, length, slice_index_or, take, drop, map, replicate, ap, refl, sym, arith}
 use Rattle.std.proofs.lemmas.List.{length-drop, length-replicate, length-take, take_all}
-use Rattle.seal_file.specs.declared.damage.Damage.TheVariants.{Short, Digest, Kind, Spelling}
+use Rattle.seal_file.specs.declared.damage.Damage.TheVariants.{Short, Digest, Kind, Spelling, Long}
 use Rattle.sha2.proofs.Facts256.{length-sha256}
 use Rattle.shard_file.proofs.ShardLemmas.{length-shard, length-shard_block, length-table_of}
 use Rattle.shard_file.specs.Shards.{AreShardBlocks, HoldsBlock, shard_bytes, table_of}
 use Rattle.shard_file.specs.Stripes.{block_size, stripe_count, stripe_length, stripe_lengths}
 use Rattle.get_read.specs.Causes.{IsBlockDamage, IsBlockPlace, IsTableDamage, IsTablePlace}
-use Rattle.drive_files.specs.Reading.{EndsBefore}
+use Rattle.file_access.specs.Reading.{EndsBefore}
 use Rattle.get_read.specs.Steps.{IsPieceDamage}
 use Rattle.get_read.proofs.Widening.{Widens}
 
@@ -75,6 +75,7 @@ table_widens d n at size root some is ends file (Digest stored computed) damage 
 )
 table_widens d n at size root some is ends file (Kind found) damage = damage
 table_widens d n at size root some is ends file (Spelling place) damage = damage
+table_widens d n at size root some is ends file (Long n) damage = damage
 
 -- a block stands before its digest, and so before the end
 block_before_end : (d n i at long digest_at : ℕ) (blocks : List (List ℕ)) → at + long ≤ digest_at → HoldBlocks d n i at long digest_at
@@ -92,6 +93,7 @@ block_widens d n i at long digest_at table apart holds file (Short told) damage 
 block_widens d n i at long digest_at table apart holds file (Digest told computed) damage = absurd damage
 block_widens d n i at long digest_at table apart holds file (Kind found) damage = damage
 block_widens d n i at long digest_at table apart holds file (Spelling place) damage = damage
+block_widens d n i at long digest_at table apart holds file (Long size) damage = damage
 
 -- where the block of a stripe stands in each shard file
 pub block_place : (d n i at long digest_at : ℕ) → HoldBlocks d n i at long digest_at → IsBlockPlace d n i at long

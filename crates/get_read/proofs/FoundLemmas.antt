@@ -16,7 +16,7 @@ use Rattle.call_types.specs.declared.why.Why.TheVariants.{Good}
 use Rattle.drive_base.specs.Files.{Files}
 use Rattle.drive_base.specs.Plan.{data_drives}
 use Rattle.drive_base.specs.declared.plan.SetPlan.{SetPlan}
-use Rattle.drive_files.specs.declared.cause.NotGiven.TheVariants.{Because}
+use Rattle.file_access.specs.declared.cause.NotGiven.TheVariants.{Because}
 use Rattle.manifest_file.specs.declared.manifest.ManifestPart.{ManifestPart}
 use Rattle.poly_code.specs.Codeword.{AreDistinct}
 use Rattle.shard_file.specs.Stripes.{piece, stripe_count, stripe_length, block_size}

@@ -13,9 +13,9 @@ use Rattle.manifest_file.specs.declared.manifest.Manifest.{Manifest as ManifestR
 use Rattle.body_print.specs.Names.{manifest_name}
 use Rattle.get_read.specs.Causes.{Wanted}
 use Rattle.get_read.specs.Manifests.{GivesManifest, IsServed}
-use Rattle.drive_files.specs.Reading.{IsRefusedBy, IsWhole, NeverDamaged}
-use Rattle.drive_files.specs.declared.cause.NotGiven.{NotGiven}
-use Rattle.drive_files.specs.declared.cause.NotGiven.TheVariants.{Because, NoMemory}
+use Rattle.file_access.specs.Reading.{IsRefusedBy, IsWhole, NeverDamaged}
+use Rattle.file_access.specs.declared.cause.NotGiven.{NotGiven}
+use Rattle.file_access.specs.declared.cause.NotGiven.TheVariants.{Because, NoMemory}
 
 -- a drive that gave no file gave no manifest
 pub refused_manifest : (wanted : Wanted) (id : VersionId) (out : Type 0) (fault : NotGiven) (tells : Bool) (files : Files) (old new : ℕ)

@@ -6,8 +6,8 @@ use Rattle.drive_base.specs.Files.{Files}
 use Rattle.shard_file.specs.Stripes.{stripe_count}
 use Rattle.get_read.specs.Blocks.{ShowsBlock, ShowsTable}
 use Rattle.get_read.specs.Causes.{IsBlockPlace, IsTablePlace}
-use Rattle.drive_files.specs.Reading.{IsPieceAt}
-use Rattle.drive_files.specs.declared.cause.NotGiven.{NotGiven}
+use Rattle.file_access.specs.Reading.{IsPieceAt}
+use Rattle.file_access.specs.declared.cause.NotGiven.{NotGiven}
 
 -- bytes that were read at the place of the table
 pub shown_table : (d n at size : ℕ) (result : Result (Vec ℕ Global) NotGiven) (tells : Bool) (files : Files) (name : List ℕ) → size ≡ 32 * stripe_count n

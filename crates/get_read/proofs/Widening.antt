@@ -6,9 +6,9 @@ use Rattle.call_types.specs.declared.why.FileKind.{FileKind}
 use Rattle.call_types.specs.declared.why.Why.{Why}
 use Rattle.call_types.specs.declared.why.Why.TheVariants.{Good, Failed, Damaged, Behind, Lacks}
 use Rattle.drive_base.specs.Files.{Files}
-use Rattle.drive_files.specs.Reading.{IsWhyNot, IsRefusedBy}
-use Rattle.drive_files.specs.declared.cause.NotGiven.{NotGiven}
-use Rattle.drive_files.specs.declared.cause.NotGiven.TheVariants.{Because, NoMemory}
+use Rattle.file_access.specs.Reading.{IsWhyNot, IsRefusedBy}
+use Rattle.file_access.specs.declared.cause.NotGiven.{NotGiven}
+use Rattle.file_access.specs.declared.cause.NotGiven.TheVariants.{Because, NoMemory}
 
 -- each damage of one kind is one of another kind
 abbrev pub Widens : (List ℕ → Damage → Type 0) → (List ℕ → Damage → Type 0) → Type 0

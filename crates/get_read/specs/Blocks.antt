@@ -13,8 +13,8 @@ use Rattle.shard_file.specs.Stripes.{piece, stripe_count, stripe_length, block_s
 use Rattle.poly_code.specs.Codeword.{AreDistinct}
 use Rattle.body_print.specs.Names.{shard_name}
 use Rattle.get_read.specs.Causes.{IsBlockOf, IsTableOf, NoBlock, digest_in}
-use Rattle.drive_files.specs.declared.cause.NotGiven.{NotGiven}
-use Rattle.drive_files.specs.declared.cause.NotGiven.TheVariants.{Because, NoMemory}
+use Rattle.file_access.specs.declared.cause.NotGiven.{NotGiven}
+use Rattle.file_access.specs.declared.cause.NotGiven.TheVariants.{Because, NoMemory}
 use Rattle.get_read.specs.declared.faults.ReadFaultKind.{ReadFaultKind}
 use Rattle.get_read.specs.declared.faults.ReadFaultKind.TheVariants.{InvalidRange, ShardQuorum, NoMemory as NoRoom}
 

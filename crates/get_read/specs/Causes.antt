@@ -6,12 +6,12 @@ use Rattle.field_reader.specs.Format.{fault_at}
 use Rattle.stamp_id.specs.declared.version.VersionId.{VersionId}
 use Rattle.seal_file.specs.Sealing.{sealed, IsDamage}
 use Rattle.seal_file.specs.declared.damage.Damage.{Damage}
-use Rattle.seal_file.specs.declared.damage.Damage.TheVariants.{Short, Digest, Kind, Spelling}
+use Rattle.seal_file.specs.declared.damage.Damage.TheVariants.{Short, Digest, Kind, Spelling, Long}
 use Rattle.call_types.specs.declared.why.FileKind.TheVariants.{Format, Register, Manifest, Shard}
 use Rattle.call_types.specs.declared.why.Why.{Why}
 use Rattle.call_types.specs.declared.why.Why.TheVariants.{Good, Failed, Damaged, Behind, Lacks}
 use Rattle.drive_base.specs.Files.{Files}
-use Rattle.drive_files.specs.Reading.{FailedWhile}
+use Rattle.file_access.specs.Reading.{FailedWhile}
 use Rattle.manifest_file.specs.Canonical.{IsCanonical}
 use Rattle.manifest_file.specs.Layout.{manifest}
 use Rattle.manifest_file.specs.Print.{text_under}
@@ -78,6 +78,7 @@ IsTableDamage d n root file (Digest stored computed) = (stored ≡ root) × (roo
     × ((at : ℕ) × (long : ℕ) × (long ≡ 32 * stripe_count n) × IsTablePlace d n at long × (computed ≡ sha256 (take long (drop at file))))
 IsTableDamage d n root file (Kind _) = ⊥
 IsTableDamage d n root file (Spelling _) = ⊥
+IsTableDamage d n root file (Long _) = ⊥
 
 -- the damage where the block of a stripe is read: its digest isn't the table's, or the file is too short
 abbrev pub IsBlockDamage : ℕ → ℕ → ℕ → List ℕ → List ℕ → Damage → Type 0
@@ -86,6 +87,7 @@ IsBlockDamage d n i table file (Digest stored computed) = (stored ≡ digest_in 
     × ((at : ℕ) × (long : ℕ) × IsBlockPlace d n i at long × (computed ≡ sha256 (take long (drop at file))))
 IsBlockDamage d n i table file (Kind _) = ⊥
 IsBlockDamage d n i table file (Spelling _) = ⊥
+IsBlockDamage d n i table file (Long _) = ⊥
 
 -- these bytes are a file's at the place of the digest table
 abbrev pub IsTableOf : ℕ → ℕ → List ℕ → List ℕ → Type 0

@@ -9,8 +9,8 @@ use Rattle.manifest_file.specs.Spelling.{file_of}
 use Rattle.manifest_file.specs.declared.manifest.Manifest.{Manifest as ManifestRecord}
 use Rattle.body_print.specs.Names.{manifest_name}
 use Rattle.get_read.specs.Causes.{Wanted, Serves, IsManifestDamage, NoManifest}
-use Rattle.drive_files.specs.declared.cause.NotGiven.{NotGiven}
-use Rattle.drive_files.specs.declared.cause.NotGiven.TheVariants.{Because, NoMemory}
+use Rattle.file_access.specs.declared.cause.NotGiven.{NotGiven}
+use Rattle.file_access.specs.declared.cause.NotGiven.TheVariants.{Because, NoMemory}
 
 -- only a damage is told, and the file has it
 abbrev pub IsDamagedSo : Wanted → List ℕ → Why → Type 0

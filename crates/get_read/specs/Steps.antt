@@ -2,9 +2,9 @@
 use Rattle.std.specs.Prelude.{◌≡◌, ◌≢◌, ℕ, ◌+◌, ◌<◌, List, length, take, drop}
 use Rattle.sha2.specs.Sha256.{sha256}
 use Rattle.seal_file.specs.declared.damage.Damage.{Damage}
-use Rattle.seal_file.specs.declared.damage.Damage.TheVariants.{Short, Digest, Kind, Spelling}
+use Rattle.seal_file.specs.declared.damage.Damage.TheVariants.{Short, Digest, Kind, Spelling, Long}
 use Rattle.drive_base.specs.Files.{Files}
-use Rattle.drive_files.specs.Reading.{IsPieceAt}
+use Rattle.file_access.specs.Reading.{IsPieceAt}
 
 -- a file ends before so many bytes from a place on, and its length is told, or these bytes haven't the stored digest
 abbrev pub IsPieceDamage : ℕ → ℕ → List ℕ → List ℕ → Damage → Type 0
@@ -13,6 +13,7 @@ IsPieceDamage at long stored file (Digest told computed) =
     (told ≡ stored) × (stored ≢ computed) × (computed ≡ sha256 (take long (drop at file)))
 IsPieceDamage at long stored file (Kind _) = ⊥
 IsPieceDamage at long stored file (Spelling _) = ⊥
+IsPieceDamage at long stored file (Long _) = ⊥
 
 -- the shown file of this name has these bytes somewhere
 abbrev pub ShowsPiece : Files → List ℕ → List ℕ → Type 0

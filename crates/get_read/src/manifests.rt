@@ -14,7 +14,7 @@ use crate::faults::ReadFaultKind;
 use body_print::name_of_manifest;
 use call_types::{FileKind, Why, Whys};
 use drive_base::{Drive, SetPlan};
-use drive_files::{NotGiven, file_on};
+use file_access::{NotGiven, file_on};
 use manifest_file::{Manifest, ManifestPart, print_of, read};
 use seal_file::{Damage, FileRead};
 use stamp_id::VersionId;

@@ -9,7 +9,7 @@ ghost use Rattle.body_print.specs.Names.{shard_name};
 ghost use Rattle.body_print.specs.Shards.{AreStripeBlocks};
 ghost use Rattle.call_types.specs.declared.why.FileKind.TheVariants.{Shard};
 ghost use Rattle.get_read.specs.Causes.{IsTableDamage};
-ghost use Rattle.drive_files.specs.Reading.{IsRefusedBy};
+ghost use Rattle.file_access.specs.Reading.{IsRefusedBy};
 ghost use Rattle.get_read.specs.Keeping.{AreKept};
 ghost use Rattle.get_read.specs.Blocks.{IsHeld, IsTableFor, AreHeld, IsFetched, IsNoBlock, AreEnough, AreFew};
 
@@ -18,7 +18,7 @@ use crate::faults::ReadFaultKind;
 use crate::tables::{Fetched, block_on, table_on};
 use call_types::{FileKind, Why, Whys};
 use drive_base::{Drive, SetPlan};
-use drive_files::NotGiven;
+use file_access::NotGiven;
 use manifest_file::ManifestPart;
 use poly_code::rebuild;
 use std::alloc::{AllocError, Global};

@@ -6,13 +6,13 @@ ghost use Rattle.call_types.specs.declared.why.FileKind.TheVariants.{Shard};
 ghost use Rattle.drive_base.specs.Plan.{data_drives};
 ghost use Rattle.shard_file.specs.Stripes.{stripe_count, stripe_length, block_size};
 ghost use Rattle.get_read.specs.Causes.{IsTableDamage, IsBlockDamage, digest_in};
-ghost use Rattle.drive_files.specs.Reading.{IsPieceAt, IsRefusedBy};
+ghost use Rattle.file_access.specs.Reading.{IsPieceAt, IsRefusedBy};
 ghost use Rattle.get_read.specs.Steps.{IsPieceDamage};
 ghost use Rattle.get_read.specs.Blocks.{ShowsBlock, ShowsTable};
 
 use call_types::{FileKind, Why};
 use drive_base::{Drive, SetPlan};
-use drive_files::{NotGiven, bytes_at};
+use file_access::{NotGiven, bytes_at};
 use shard_file::{STRIPE, check_block, layout};
 use std::alloc::Global;
 

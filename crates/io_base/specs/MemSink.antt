@@ -1,6 +1,6 @@
 -- What a `MemSink` shows.
 use Rattle.std.specs.Prelude.{◌≡◌, ◌⊎◌, ◌++◌, ℕ, List, Contains, Result, Ok, Err}
-use Rattle.io_base.specs.Count.{count_after}
+use Rattle.fault_base.specs.Counts.{count_after}
 
 -- the bytes given, the numbers of the calls that fail, the number of the next call, the count of
 -- faults, and how many of these were for want of memory

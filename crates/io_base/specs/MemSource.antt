@@ -1,6 +1,6 @@
 -- What a `MemSource` shows.
 use Rattle.std.specs.Prelude.{◌≡◌, ℕ, List, length, drop, take, min, Contains, Result, Ok, Err}
-use Rattle.io_base.specs.Count.{count_after}
+use Rattle.fault_base.specs.Counts.{count_after}
 
 -- the bytes not yet taken, the numbers of the calls that fail, the number of the next call, and the
 -- count of faults

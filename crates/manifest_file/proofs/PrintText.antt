@@ -9,7 +9,7 @@ use Rattle.field_reader.specs.Spelling.{number_bytes}
 use Rattle.field_reader.proofs.Parts.{IsSpelled}
 use Rattle.field_reader.proofs.Series.{Kept}
 use Rattle.field_reader.proofs.Whole.{whole_again}
-use Rattle.id_field.proofs.Chains.{nothing, retold, u8_kept, u16_kept, u64_kept, done_kept, Both, then_kept}
+use Rattle.field_reader.proofs.Chains.{nothing, retold, u8_kept, u16_kept, u64_kept, done_kept, Both, then_kept}
 use Rattle.manifest_file.specs.declared.manifest.Manifest.{Manifest}
 use Rattle.manifest_file.specs.declared.manifest.ManifestPart.{ManifestPart}
 use Rattle.manifest_file.specs.Canonical.{IsRoot, IsCanonicalPart, IsCanonical}

@@ -8,10 +8,10 @@ use Rattle.field_reader.specs.Format.{Format, ◌>>=◌, done, field, number, wi
 use Rattle.field_reader.specs.Spelling.{number_bytes}
 use Rattle.field_reader.proofs.Parts.{IsSpelled, told_spelled}
 use Rattle.field_reader.proofs.Series.{Kept, AllAfter, Listed, listed_spelled}
-use Rattle.id_field.specs.Layout.{id_field}
-use Rattle.id_field.proofs.Chains.{itself, nothing, retold, bytes_kept, u8_kept, u16_kept, u64_kept, rule_kept, done_kept, Both, then_kept}
-use Rattle.id_field.proofs.IdTests.{both_true}
-use Rattle.id_field.proofs.IdText.{IsIdField, id_spelled}
+use Rattle.stamp_id.specs.IdField.{id_field}
+use Rattle.field_reader.proofs.Chains.{itself, nothing, retold, bytes_kept, u8_kept, u16_kept, u64_kept, rule_kept, done_kept, Both, then_kept}
+use Rattle.stamp_id.proofs.IdTests.{both_true}
+use Rattle.stamp_id.proofs.IdText.{IsIdField, id_spelled}
 use Rattle.manifest_file.specs.Canonical.{IsName, IsRoot}
 use Rattle.manifest_file.specs.Rows.{PartRow, ManifestRow}
 use Rattle.manifest_file.specs.Layout.{is_format, is_count, is_length, name, roots, part, parts, manifest}

@@ -2,7 +2,7 @@
 use Rattle.std.specs.Prelude.{ℕ, List, [], Bool, ◌&&◌, ◌==◌, nat_lt, nat_le}
 use Rattle.std.specs.Int.{w8, w16, w64}
 use Rattle.field_reader.specs.Format.{Format, ◌>>=◌, done, field, number, with_rule, series}
-use Rattle.id_field.specs.Layout.{id_field}
+use Rattle.stamp_id.specs.IdField.{id_field}
 use Rattle.manifest_file.specs.Rows.{PartRow, ManifestRow}
 
 -- the one format number

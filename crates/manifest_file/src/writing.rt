@@ -9,7 +9,7 @@ ghost use Rattle.manifest_file.specs.Canonical.{IsName, IsCanonicalPart, IsCanon
 use crate::manifest::{KIND, Manifest, ManifestPart};
 use field_reader::{put_bytes, put_u8, put_u16, put_u64};
 use seal_file::{Text, seal};
-use stamp_id::NoMemory;
+use fault_base::NoMemory;
 use std::alloc::{AllocError, Global};
 
 /// Appends the name of a register: its length, and its bytes.

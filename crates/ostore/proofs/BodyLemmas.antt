@@ -2,7 +2,7 @@
 use Rattle.std.proofs.Common.{◌≡◌, inl, inr, ℕ, ◌+◌, ◌<◌, ◌≤◌, Bool, List, [], ◌++◌, length, map, Option, refl, sym, subst, arith}
 use Rattle.std.proofs.Math.Nat.{eq-or-lt_of_le}
 use Rattle.std.specs.Io.KnownBytes.{prepend_known, IsAtEnd}
-use Rattle.io_base.specs.Count.{CountRose}
+use Rattle.fault_base.specs.Counts.{Rose}
 use Rattle.call_types.specs.declared.names.Mode.{Mode}
 use Rattle.drive_base.specs.Files.{Files}
 use Rattle.ostore.specs.declared.connection.Turn.{Turn}
@@ -56,7 +56,7 @@ module _ {D : Type 0} (clock : Option ℕ) (mode : Mode) (tell : D → Bool) (fi
       (head_some key n head read.part spells, in_body key n head read.part spells read.lacks, end, refl)
 
   pub body_failed : (number : ℕ) (key : List ℕ) (n : ℕ) (head : List ℕ) (objects : Objects) (drives : List D) (left now given : Option (List ℕ)) (reads more writes : ℕ) (drawn : Drawn)
-      → (AllTell (map tell drives) → Ready files number (number + number) objects drives) → Agrees drawn objects → ((slot : ℕ) → drawn slot ≤ number + number) → SpellsPut key n head → ReadsPart n left now × CountRose reads more → reads ≤ more
+      → (AllTell (map tell drives) → Ready files number (number + number) objects drives) → Agrees drawn objects → ((slot : ℕ) → drawn slot ≤ number + number) → SpellsPut key n head → ReadsPart n left now × Rose reads more → reads ≤ more
       → TurnOver clock mode tell files count number head objects drives (wires left given reads writes) (Ended ReadFault) drives (wires now given more writes) drawn
   body_failed number key n head objects drives left now given reads more writes drawn ready agrees room spells (read, rose) low =
       unread number head read.part objects drives (wires left given reads writes) (wires now given more writes) ReadFault drawn ready agrees room

@@ -28,7 +28,7 @@ use Rattle.ostore.proofs.DrawnLemmas.{drawn_most}
 use Rattle.ostore.specs.declared.connection.Turn.TheVariants.{Ended}
 use Rattle.call_types.specs.declared.act.Act.{Act}
 use Rattle.version_list.specs.Step.{Step}
-use Rattle.drive_files.specs.Writing.{IsInPlace}
+use Rattle.file_access.specs.Writing.{IsInPlace}
 use Rattle.ostore.specs.Commits.{IsPrepared}
 use Rattle.ostore.proofs.WriteLemmas.{datas_same, keys_same}
 

@@ -2,7 +2,7 @@
 use Rattle.std.proofs.Common.{◌≡◌, inl, inr, ℕ, ◌+◌, ◌<◌, ◌≤◌, Bool, true, false, List, [], ◌∷◌, ◌++◌, length, take, map, Option, refl, sym, ap, ◌∙◌, subst, arith, append_assoc, append-nil, length-append, ◌==◌, drop}
 use Rattle.std.proofs.Math.Seq.{take-append_seam}
 use Rattle.std.specs.Io.KnownBytes.{prepend_known, IsAtEnd, append_known}
-use Rattle.io_base.specs.Count.{CountRose}
+use Rattle.fault_base.specs.Counts.{Rose}
 use Rattle.call_types.specs.declared.names.Mode.{Mode}
 use Rattle.drive_base.specs.Files.{Files}
 use Rattle.ostore.specs.declared.connection.Turn.{Turn}
@@ -99,7 +99,7 @@ module _ {D : Type 0} (clock : Option ℕ) (mode : Mode) (tell : D → Bool) (fi
   -- the source failed inside a head
   pub head_failed : (number : ℕ) (head : List ℕ) (objects : Objects) (drives : List D) (left now given : Option (List ℕ)) (reads more writes : ℕ) (drawn : Drawn)
       → (AllTell (map tell drives) → Ready files number (number + number) objects drives) → Agrees drawn objects → ((slot : ℕ) → drawn slot ≤ number + number)
-      → left ≡ prepend_known head now → reads ≤ more → length head < 1024 → HasNoBlankLine head → CountRose reads more
+      → left ≡ prepend_known head now → reads ≤ more → length head < 1024 → HasNoBlankLine head → Rose reads more
       → TurnOver clock mode tell files count number [] objects drives (wires left given reads writes) (Ended ReadFault) drives (wires now given more writes) drawn
   head_failed number head objects drives left now given reads more writes drawn ready agrees room took low short open_head rose =
       unread clock mode tell files count number [] head objects drives (wires left given reads writes) (wires now given more writes) ReadFault drawn ready agrees room

@@ -6,7 +6,7 @@ use Rattle.call_types.specs.declared.names.Pick.{Pick}
 use Rattle.call_types.specs.declared.version.What.{What}
 use Rattle.call_types.specs.declared.version.What.TheVariants.{Marker, Object}
 use Rattle.call_types.specs.declared.reply.Reply.TheVariants.{Refused}
-use Rattle.drive_base.specs.Faults.{Rose}
+use Rattle.fault_base.specs.Counts.{Rose}
 use Rattle.drive_base.specs.Files.{Files, Named}
 use Rattle.version_list.specs.declared.state.KeyState.{KeyState}
 use Rattle.version_list.specs.Answers.{refusal_of}

@@ -12,7 +12,7 @@ use Rattle.call_types.specs.declared.why.Why.{Why}
 use Rattle.call_types.specs.declared.why.Why.TheVariants.{Good, Failed, Damaged, Behind, Lacks}
 use Rattle.call_types.specs.declared.version.What.{What}
 use Rattle.call_types.specs.declared.version.What.TheVariants.{Marker, Object}
-use Rattle.drive_base.specs.Faults.{Rose}
+use Rattle.fault_base.specs.Counts.{Rose}
 use Rattle.drive_base.specs.Files.{Files, Named, with_name}
 use Rattle.manifest_file.specs.Print.{print_text, print_of_parts}
 use Rattle.manifest_file.specs.Spelling.{file_of}

@@ -6,7 +6,7 @@ use Rattle.std.proofs.lemmas.List.{get_or-map, length-map}
 use Rattle.field_reader.specs.Format.{fault_at, place_of}
 use Rattle.seal_file.specs.Sealing.{sealed}
 use Rattle.seal_file.specs.declared.damage.Damage.{Damage}
-use Rattle.seal_file.specs.declared.damage.Damage.TheVariants.{Short, Digest, Kind, Spelling}
+use Rattle.seal_file.specs.declared.damage.Damage.TheVariants.{Short, Digest, Kind, Spelling, Long}
 use Rattle.seal_file.proofs.SealedLemmas.{sealed-injective, no_damage}
 use Rattle.sha2.specs.Sha256.{sha256}
 use Rattle.stamp_id.specs.declared.version.VersionId.{VersionId}
@@ -14,7 +14,7 @@ use Rattle.call_types.specs.Good.{is_good, good_count}
 use Rattle.call_types.specs.declared.why.FileKind.TheVariants.{Format, Register, Manifest as ManifestKind, Shard}
 use Rattle.call_types.specs.declared.why.Why.{Why}
 use Rattle.call_types.specs.declared.why.Why.TheVariants.{Good, Failed, Damaged, Behind, Lacks}
-use Rattle.drive_base.specs.Faults.{Rose}
+use Rattle.fault_base.specs.Counts.{Rose}
 use Rattle.drive_base.specs.Files.{Files, Named}
 use Rattle.manifest_file.specs.Canonical.{IsCanonical, IsCanonicalPart, IsRoot}
 use Rattle.manifest_file.specs.Layout.{manifest}
@@ -31,7 +31,7 @@ use Rattle.body_print.proofs.ShardLemmas.{shards_are_one, shards_have_their_bloc
 use Rattle.put_stage.specs.Outcomes.{manifest_of}
 use Rattle.std.specs.List.{AllByRecursion}
 use Rattle.sha2.proofs.Facts256.{length-sha256}
-use Rattle.drive_files.specs.Reading.{FailedWhile}
+use Rattle.file_access.specs.Reading.{FailedWhile}
 use Rattle.get_read.specs.Causes.{Wanted, Fits, Serves, IsManifestDamage, IsTableDamage, IsBlockDamage, IsShardDamage, NoManifest, NoBlock, digest_in}
 use Rattle.get_read.specs.Outcomes.{wanted_of, NoneServes, FewBlocks}
 use Rattle.get_read.proofs.ClashLemmas.{digest_of_block}
@@ -108,6 +108,7 @@ table_undamaged n blocks (Digest stored computed) are (stored_is, differs, (at, 
     differs (sym (hashed ∙ ap sha256 (place blocks are)))
 table_undamaged n blocks (Kind kind) are is = is
 table_undamaged n blocks (Spelling place) are is = is
+table_undamaged n blocks (Long size) are is = is
 
 -- where the block of a stripe is read by a table that has the root and stands where a table does, it isn't damaged
 block_undamaged : (n : ℕ) (blocks : List (List ℕ)) (table : List ℕ) (i : ℕ) (damage : Damage) → AreShardBlocks 2 n blocks → i < stripe_count n
@@ -118,6 +119,7 @@ block_undamaged n blocks table i (Digest stored computed) are low same (stored_i
     differs (ap (λ t. digest_in t i) same ∙ digest_of_block blocks i there ∙ ap sha256 (sym (place blocks are)) ∙ sym hashed)
 block_undamaged n blocks table i (Kind kind) are low same is = is
 block_undamaged n blocks table i (Spelling place) are low same is = is
+block_undamaged n blocks table i (Long size) are low same is = is
 
 shard_undamaged : (n i : ℕ) (blocks : List (List ℕ)) (damage : Damage) → AreShardBlocks 2 n blocks → i < stripe_count n
     → IsShardDamage 2 n i (root_of blocks) (shard_bytes blocks) damage → ⊥

@@ -4,7 +4,7 @@ use Rattle.std.specs.List.{flat_map}
 use Rattle.stamp_id.specs.VersionId.{id_bytes}
 use Rattle.stamp_id.specs.declared.version.VersionId.{VersionId}
 use Rattle.drive_base.specs.Files.{Files}
-use Rattle.drive_files.specs.Writing.{IsInPlace}
+use Rattle.file_access.specs.Writing.{IsInPlace}
 use Rattle.ostore.specs.Drives.{AtEach, SomeDrive, DriveCause}
 use Rattle.call_types.specs.declared.names.Mode.{Mode}
 use Rattle.call_types.specs.declared.act.Act.{Act}

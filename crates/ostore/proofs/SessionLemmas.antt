@@ -1,8 +1,8 @@
 -- Turns and connections, put together.
 use Rattle.std.proofs.Common.{◌≡◌, inl, inr, ℕ, ◌≤◌, Bool, List, [], ◌∷◌, ◌++◌, take, Option, Some, None, refl, sym, ap, ◌∙◌, subst, arith, append_assoc, append-nil}
 use Rattle.std.specs.Io.KnownBytes.{prepend_known, append_known}
-use Rattle.io_base.specs.Count.{CountRose}
-use Rattle.drive_base.specs.Faults.{Rose}
+use Rattle.fault_base.specs.Counts.{Rose}
+use Rattle.fault_base.specs.Counts.{Rose}
 use Rattle.ostore.specs.declared.connection.ConnectionEnd.{ConnectionEnd}
 use Rattle.ostore.specs.declared.connection.ConnectionEnd.TheVariants.{Over, Closed, InputCut, ReadFault, WriteFault, NoMemory}
 use Rattle.call_types.specs.declared.names.Mode.{Mode}
@@ -16,7 +16,7 @@ use Rattle.ostore.specs.Session.{Exchange, Moment, ShowOnly, Rests, Run, bytes_o
 pub rose_later : (a b c : ℕ) → a ≤ b → Rose b c → Rose a c
 rose_later a b c low rose = (omega arith, elim rose.1 [ inl up ↦ inl (omega arith) | inr last ↦ inr last ])
 
-pub count_rose_later : (a b c : ℕ) → a ≤ b → CountRose b c → CountRose a c
+pub count_rose_later : (a b c : ℕ) → a ≤ b → Rose b c → Rose a c
 count_rose_later a b c low (inl up) = inl (omega arith)
 count_rose_later a b c low (inr last) = inr last
 

@@ -8,7 +8,7 @@ use Rattle.call_types.specs.declared.version.Version.{Version}
 use Rattle.call_types.specs.declared.version.What.{What}
 use Rattle.call_types.specs.declared.version.What.TheVariants.{Marker, Object}
 use Rattle.drive_base.specs.Files.{Files, Named, with_name, no_files}
-use Rattle.drive_files.specs.Writing.{IsInPlace}
+use Rattle.file_access.specs.Writing.{IsInPlace}
 use Rattle.version_list.specs.declared.state.KeyState.{KeyState}
 use Rattle.version_list.specs.State.{IsCanonical}
 use Rattle.body_print.specs.Names.{shard_name, manifest_name, loose_shard_name, loose_manifest_name}

@@ -12,7 +12,8 @@ use Rattle.hex.proofs.HexLemmas.{IsAscii-encode_with}
 use Rattle.stamp_id.specs.VersionId.{id_bytes}
 use Rattle.stamp_id.specs.declared.version.VersionId.{VersionId}
 use Rattle.stamp_id.proofs.IdLemmas.{length-id_bytes}
-use Rattle.drive_base.specs.Faults.{Rose, Counts}
+use Rattle.drive_base.specs.Faults.{Counts}
+use Rattle.fault_base.specs.Counts.{Rose}
 use Rattle.drive_base.specs.Files.{Files, Named, with_name, with_placed}
 use Rattle.drive_base.specs.Leaves.{RemoveLeaves}
 use Rattle.drive_base.specs.declared.fault.DriveFault.{DriveFault}

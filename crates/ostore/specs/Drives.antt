@@ -2,9 +2,9 @@
 use Rattle.std.specs.Prelude.{◌≡◌, ◌⊎◌, ◌<◌, ◌≤◌, ℕ, Bool, IsTrue, List, ◌++◌, length, codes, slice_index_or, All, map}
 use Rattle.std.specs.Int.{w64, to_be_bytes}
 use Rattle.hex.specs.Hex.{encode_lower}
-use Rattle.drive_base.specs.Faults.{Rose}
+use Rattle.fault_base.specs.Counts.{Rose}
 use Rattle.drive_base.specs.Files.{Files}
-use Rattle.drive_files.specs.Writing.{Touches, IsInPlace}
+use Rattle.file_access.specs.Writing.{Touches, IsInPlace}
 
 -- the name of a key's file
 abbrev pub name_of : List ℕ → List ℕ

@@ -4,7 +4,7 @@ use Rattle.seal_file.specs.Sealing.{sealed}
 use Rattle.version_list.specs.declared.state.KeyState.{KeyState}
 use Rattle.version_list.specs.State.{IsCanonical}
 use Rattle.version_list.specs.Spelling.{spelling}
-use Rattle.drive_base.specs.Faults.{Rose}
+use Rattle.fault_base.specs.Counts.{Rose}
 use Rattle.ostore.specs.Drives.{DriveCause}
 use Rattle.ostore.specs.declared.keyfile.Trouble.{Trouble}
 use Rattle.ostore.specs.declared.keyfile.Trouble.TheVariants.{Failed, Damaged, Absent, NoMemory}

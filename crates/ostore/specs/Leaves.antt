@@ -6,7 +6,7 @@ use Rattle.stamp_id.specs.declared.version.VersionId.{VersionId}
 use Rattle.call_types.specs.declared.names.Mode.{Mode}
 use Rattle.call_types.specs.declared.act.Act.{Act}
 use Rattle.drive_base.specs.Files.{Files}
-use Rattle.drive_files.specs.Writing.{IsInPlace}
+use Rattle.file_access.specs.Writing.{IsInPlace}
 use Rattle.version_list.specs.declared.state.KeyState.{KeyState}
 use Rattle.ostore.specs.declared.connection.Turn.{Turn}
 use Rattle.ostore.specs.declared.connection.Turn.TheVariants.{Ended}

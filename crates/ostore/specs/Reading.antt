@@ -1,7 +1,7 @@
 -- How the reading of a head or a body ends.
 use Rattle.std.specs.Prelude.{◌≡◌, ◌<◌, ◌≤◌, ℕ, List, length, Option, Result, Ok, Err, Vec}
 use Rattle.std.specs.Io.KnownBytes.{prepend_known, IsAtEnd}
-use Rattle.io_base.specs.Count.{CountRose}
+use Rattle.fault_base.specs.Counts.{Rose}
 use Rattle.ostore.specs.declared.reading.HeadEnd.{HeadEnd}
 use Rattle.ostore.specs.declared.reading.HeadEnd.TheVariants.{Whole, TooLong, Ended as HeadEnded, Failed as HeadFailed}
 use Rattle.ostore.specs.declared.reading.BodyFault.{BodyFault}
@@ -13,7 +13,7 @@ abbrev pub HeadReads : HeadEnd → List ℕ → Option (List ℕ) → ℕ → �
 HeadReads Whole bytes left old new = EndsAtBlankLine bytes
 HeadReads TooLong bytes left old new = (length bytes ≡ 1024) × HasNoBlankLine bytes
 HeadReads HeadEnded bytes left old new = (length bytes < 1024) × HasNoBlankLine bytes × IsAtEnd left
-HeadReads HeadFailed bytes left old new = (length bytes < 1024) × HasNoBlankLine bytes × CountRose old new
+HeadReads HeadFailed bytes left old new = (length bytes < 1024) × HasNoBlankLine bytes × Rose old new
 
 -- part of a body of n bytes was read
 pub record ReadsPart (n : ℕ) (old new : Option (List ℕ)) : Type 0 where
@@ -25,5 +25,5 @@ pub record ReadsPart (n : ℕ) (old new : Option (List ℕ)) : Type 0 where
 abbrev pub BodyReads : {A : Type 0} → ℕ → Result (Vec ℕ A) BodyFault → Option (List ℕ) → Option (List ℕ) → ℕ → ℕ → Type 0
 BodyReads n (Ok body) left_old left_new old new = (length body.items ≡ n) × (left_old ≡ prepend_known body.items left_new)
 BodyReads n (Err Ended) left_old left_new old new = ReadsPart n left_old left_new × IsAtEnd left_new
-BodyReads n (Err Failed) left_old left_new old new = ReadsPart n left_old left_new × CountRose old new
+BodyReads n (Err Failed) left_old left_new old new = ReadsPart n left_old left_new × Rose old new
 BodyReads n (Err NoMemory) left_old left_new old new = (part : List ℕ) × (left_old ≡ prepend_known part left_new) × (length part ≤ n)

@@ -1,9 +1,9 @@
 -- A connection: the requests that were read, the replies that were given, and how it ended.
 use Rattle.std.specs.Prelude.{⊤, map, Bool, ◌≡◌, ◌≢◌, ◌⊎◌, ◌+◌, ◌<◌, ◌≤◌, ℕ, List, [], ◌∷◌, ◌++◌, length, take, Option, IfSome, slice_index_or, bytes_eq, false}
 use Rattle.std.specs.Io.KnownBytes.{prepend_known, append_known, IsAtEnd}
-use Rattle.drive_base.specs.Faults.{Rose}
+use Rattle.fault_base.specs.Counts.{Rose}
 use Rattle.drive_base.specs.Files.{Files}
-use Rattle.io_base.specs.Count.{CountRose}
+use Rattle.fault_base.specs.Counts.{Rose}
 use Rattle.ostore.specs.declared.connection.Turn.{Turn}
 use Rattle.ostore.specs.declared.connection.Turn.TheVariants.{Answered, Ended}
 use Rattle.ostore.specs.declared.connection.ConnectionEnd.{ConnectionEnd}
@@ -272,8 +272,8 @@ pub record IsCutRefusal (mode : Mode) (exchanges : List Exchange) (tail out : Li
 abbrev pub EndsSo : Mode → ConnectionEnd → List Exchange → List ℕ → List ℕ → Wires → Wires → Type 0
 EndsSo mode Over exchanges tail out old new = (tail ≡ []) × IsAtEnd new.left × (out ≡ texts_of mode exchanges)
 EndsSo mode InputCut exchanges tail out old new = (0 < length tail) × IsBegun tail × IsAtEnd new.left × (out ≡ texts_of mode exchanges)
-EndsSo mode ReadFault exchanges tail out old new = IsBegun tail × CountRose old.read_faults new.read_faults × (out ≡ texts_of mode exchanges)
-EndsSo mode WriteFault exchanges tail out old new = CountRose old.write_faults new.write_faults × (IsCutAnswer mode exchanges tail out ⊎ IsCutRefusal mode exchanges tail out)
+EndsSo mode ReadFault exchanges tail out old new = IsBegun tail × Rose old.read_faults new.read_faults × (out ≡ texts_of mode exchanges)
+EndsSo mode WriteFault exchanges tail out old new = Rose old.write_faults new.write_faults × (IsCutAnswer mode exchanges tail out ⊎ IsCutRefusal mode exchanges tail out)
 EndsSo mode NoMemory exchanges tail out old new = IsUnserved tail × (out ≡ texts_of mode exchanges)
 EndsSo mode Closed exchanges tail out old new = IsRefusedHead tail × (out ≡ texts_of mode exchanges ++ bad_request)
 
@@ -326,7 +326,7 @@ Turns clock mode tells front old before (Ended end) new after = TurnEnds clock m
 -- a reply with this text was given, or was cut short
 abbrev pub Gives : List ℕ → Turn → Option (List ℕ) → Option (List ℕ) → ℕ → ℕ → Type 0
 Gives text Answered old_given new_given old new = (new_given ≡ append_known old_given text) × (old ≤ new)
-Gives text (Ended WriteFault) old_given new_given old new = ((n : ℕ) × (new_given ≡ append_known old_given (take n text))) × CountRose old new × (old ≤ new)
+Gives text (Ended WriteFault) old_given new_given old new = ((n : ℕ) × (new_given ≡ append_known old_given (take n text))) × Rose old new × (old ≤ new)
 Gives text (Ended Over) old_given new_given old new = ⊥
 Gives text (Ended Closed) old_given new_given old new = ⊥
 Gives text (Ended InputCut) old_given new_given old new = ⊥
@@ -337,7 +337,7 @@ Gives text (Ended NoMemory) old_given new_given old new = ⊥
 abbrev pub Refuses : Turn → Option (List ℕ) → Option (List ℕ) → ℕ → ℕ → Type 0
 Refuses Answered old_given new_given old new = ⊥
 Refuses (Ended Closed) old_given new_given old new = (new_given ≡ append_known old_given bad_request) × (old ≤ new)
-Refuses (Ended WriteFault) old_given new_given old new = ((n : ℕ) × (new_given ≡ append_known old_given (take n bad_request))) × CountRose old new × (old ≤ new)
+Refuses (Ended WriteFault) old_given new_given old new = ((n : ℕ) × (new_given ≡ append_known old_given (take n bad_request))) × Rose old new × (old ≤ new)
 Refuses (Ended Over) old_given new_given old new = ⊥
 Refuses (Ended InputCut) old_given new_given old new = ⊥
 Refuses (Ended ReadFault) old_given new_given old new = ⊥

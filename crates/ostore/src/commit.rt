@@ -17,7 +17,8 @@ use crate::undone::Undone;
 use call_types::{Act, Brief, KeyRefusal, Mode, Refusal, Reply};
 use drive_base::Drive;
 use seal_file::{Bytes, seal};
-use stamp_id::{NoMemory, VersionId};
+use fault_base::NoMemory;
+use stamp_id::VersionId;
 use std::alloc::Global;
 use version_list::{ActFault, Applied, KeyState, apply, has_id, write};
 

@@ -4,12 +4,12 @@ ghost use Rattle.std.specs.Prelude.{◌≡◌, ◌≤◌, IsTrue, OnOk, OnErr, I
 ghost use Rattle.std.specs.String.{string_bytes};
 ghost use Rattle.std.specs.List.{AllPass};
 ghost use Rattle.std.specs.Char.{is_ascii_alphanumeric};
-ghost use Rattle.drive_files.specs.Writing.{IsInPlace};
+ghost use Rattle.file_access.specs.Writing.{IsInPlace};
 ghost use Rattle.ostore.specs.Drives.{name_of, loose_name_of, AtEach, SomeDrive, MayBeWritten, DriveCause};
 
 use call_types::{FileKind, Why};
 use drive_base::Drive;
-use drive_files::write_file;
+use file_access::write_file;
 use std::alloc::{AllocError, Global};
 
 /// Some drive didn't do what was asked.

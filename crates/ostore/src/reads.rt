@@ -24,7 +24,7 @@ use crate::{bodies, files};
 use call_types::{KeyRefusal, Mode, Pick, Reply, Version, What};
 use drive_base::Drive;
 use io_base::Sink;
-use stamp_id::NoMemory;
+use fault_base::NoMemory;
 use std::alloc::Global;
 use version_list::find;
 

@@ -6,7 +6,7 @@ ghost use Rattle.ostore.specs.Replies.{reply_text, found_reply, reply_head, refu
 
 use call_types::{Etag, Mode, Refusal, Reply, Version, VersionName, What};
 use itoa::Buffer;
-use stamp_id::NoMemory;
+use fault_base::NoMemory;
 use std::alloc::Global;
 
 /// The refusal of a head. It takes no memory.

@@ -3,7 +3,7 @@
 ghost use Rattle.std.specs.Prelude.{◌≡◌};
 ghost use Rattle.ostore.specs.declared.undone.Undone.TheVariants.{NoMemory as TheNoMemory};
 
-use stamp_id::NoMemory;
+use fault_base::NoMemory;
 
 /// Why a step of a request wasn't done.
 #[derive(Clone, Copy, Debug, PartialEq, Eq)]

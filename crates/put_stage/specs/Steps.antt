@@ -2,7 +2,7 @@
 use Rattle.std.specs.Prelude.{◌≡◌, ◌⊎◌, ℕ, Result, Ok, Err}
 use Rattle.call_types.specs.declared.why.FileKind.TheVariants.{Manifest, Shard}
 use Rattle.call_types.specs.declared.why.Why.{Why}
-use Rattle.drive_files.specs.Writing.{Stopped}
+use Rattle.file_access.specs.Writing.{Stopped}
 
 -- the faults of the steps on both files
 abbrev pub EitherCause : {T : Type 0} → Type 0 → Result T Why → ℕ → ℕ → Type 0

@@ -8,7 +8,7 @@ ghost use Rattle.put_stage.specs.Steps.{EitherCause};
 use crate::names::Names;
 use call_types::{FileKind, Why};
 use drive_base::{Drive, SetPlan};
-use drive_files::{place, write_loose};
+use file_access::{place, write_loose};
 
 /// Writes both files under their loose names, and puts the manifest in place, then the shard file.
 fn write_both<D: Drive>(

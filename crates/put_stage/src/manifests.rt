@@ -2,7 +2,7 @@
 
 ghost use Rattle.std.specs.Prelude.{◌≡◌, ◌<◌, ◌≤◌, ℕ, IsTrue, OnOk, OnErr, length, slice_index_or};
 ghost use Rattle.std.specs.Int.{IsBitSet};
-ghost use Rattle.drive_files.specs.Writing.{StepCause};
+ghost use Rattle.file_access.specs.Writing.{StepCause};
 ghost use Rattle.manifest_file.specs.Canonical.{IsCanonical};
 ghost use Rattle.put_stage.specs.Manifests.{StagesManifest, same_manifest, total_size};
 ghost use Rattle.put_stage.specs.OnDrives.{HasNoLoose, LeavesAll, MayBeStaged, StagedOn, StagesOn, manifest_alone};
@@ -13,7 +13,7 @@ use crate::names::{Names, names_of};
 use crate::staged::{StageFault, Staged};
 use call_types::{FileKind, Why, Whys};
 use drive_base::{Drive, SetPlan};
-use drive_files::{place, write_loose};
+use file_access::{place, write_loose};
 use manifest_file::{Manifest, print_of, write};
 use stamp_id::VersionId;
 use std::alloc::Global;

@@ -47,10 +47,10 @@ impl From<AllocError> for StageFault {
     }
 }
 
-impl From<stamp_id::NoMemory> for StageFault {
+impl From<fault_base::NoMemory> for StageFault {
     ghost from_gives = { λ _ error. error ≡ NoMemory };
 
-    fn from(_error: stamp_id::NoMemory) -> StageFault {
+    fn from(_error: fault_base::NoMemory) -> StageFault {
         StageFault::NoMemory
     }
 }

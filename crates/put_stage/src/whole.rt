@@ -14,7 +14,8 @@ use drive_base::{Drive, SetPlan};
 use manifest_file::{Manifest, ManifestPart, Parts, Roots, print_of, write};
 use md5::{Digest, Md5};
 use seal_file::Text;
-use stamp_id::{NoMemory, VersionId};
+use fault_base::NoMemory;
+use stamp_id::VersionId;
 use std::alloc::Global;
 
 /// Stages a body of at most 5,368,709,120 bytes over the drives of a set, as the data of an id, for the register of this

@@ -12,7 +12,7 @@ use Rattle.call_types.specs.declared.why.Why.{Why}
 use Rattle.call_types.specs.declared.why.Why.TheVariants.{Good, Failed, Damaged, Behind, Lacks}
 use Rattle.call_types.proofs.GoodLemmas.{good_means}
 use Rattle.drive_base.specs.Files.{Files, Named}
-use Rattle.drive_files.specs.Writing.{IsInPlace, Touches, WriteLeaves}
+use Rattle.file_access.specs.Writing.{IsInPlace, Touches, WriteLeaves}
 use Rattle.register_file.specs.Record.{IsCanonical}
 use Rattle.register_file.specs.Spelling.{file_of}
 use Rattle.register_file.specs.declared.record.RegFile.{RegFile}

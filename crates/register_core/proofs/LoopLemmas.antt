@@ -9,7 +9,7 @@ use Rattle.call_types.specs.declared.why.FileKind.TheVariants.{Format}
 use Rattle.call_types.specs.declared.why.Why.{Why}
 use Rattle.call_types.specs.declared.why.Why.TheVariants.{Good, Failed, Damaged, Behind, Lacks}
 use Rattle.drive_base.specs.Files.{Files, Named}
-use Rattle.drive_files.specs.Writing.{IsInPlace, Touches, WriteLeaves}
+use Rattle.file_access.specs.Writing.{IsInPlace, Touches, WriteLeaves}
 use Rattle.register_core.specs.Loose.{loose_name}
 use Rattle.register_core.specs.Loops.{IsPassed, IsTarget, KeepsDrives, OnLane, Writes, letter_at}
 use Rattle.register_core.specs.OnLanes.{AllTell, AreUnused}

@@ -8,8 +8,8 @@ use Rattle.call_types.specs.declared.why.FileKind.TheVariants.{Format, Register,
 use Rattle.call_types.specs.declared.why.Why.{Why}
 use Rattle.call_types.specs.declared.why.Why.TheVariants.{Good, Failed, Damaged, Behind, Lacks}
 use Rattle.drive_base.specs.Files.{Files}
-use Rattle.drive_files.specs.declared.cause.NotGiven.{NotGiven}
-use Rattle.drive_files.specs.declared.cause.NotGiven.TheVariants.{Because}
+use Rattle.file_access.specs.declared.cause.NotGiven.{NotGiven}
+use Rattle.file_access.specs.declared.cause.NotGiven.TheVariants.{Because}
 use Rattle.register_file.specs.declared.record.RegFile.{RegFile}
 use Rattle.register_core.specs.Looking.{LaneIsRead, found_at}
 use Rattle.register_core.specs.Loops.{letter_at}

@@ -9,7 +9,7 @@ use Rattle.call_types.specs.declared.why.Why.TheVariants.{Good, Failed, Damaged,
 use Rattle.drive_base.specs.Files.{Files}
 use Rattle.drive_base.specs.Plan.{data_drives, write_drives}
 use Rattle.drive_base.specs.declared.plan.SetPlan.{SetPlan}
-use Rattle.drive_files.specs.Reading.{FailedWhile}
+use Rattle.file_access.specs.Reading.{FailedWhile}
 use Rattle.register_file.specs.Record.{IsCanonical}
 use Rattle.register_file.specs.declared.record.RegFile.{RegFile}
 use Rattle.register_file.specs.declared.record.Base.{Base}
@@ -18,7 +18,7 @@ use Rattle.register_file.specs.declared.record.Adds.{Adds}
 use Rattle.vote_core.specs.Lane.{Lane, lane_at}
 use Rattle.vote_core.specs.Calm.{IsCalm}
 use Rattle.vote_core.specs.Loops.{Stands}
-use Rattle.vote_core.specs.Rank.{change_of}
+use Rattle.stamp_id.specs.Rank.{change_of}
 use Rattle.vote_core.specs.Shown.{FindsPending}
 use Rattle.vote_core.specs.Verdict.{VerdictRule, good_rows}
 use Rattle.vote_core.specs.declared.verdict.Verdict.TheVariants.{Settled, Pending}

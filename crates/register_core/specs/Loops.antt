@@ -5,7 +5,7 @@ use Rattle.call_types.specs.declared.why.FileKind.TheVariants.{Format, Register}
 use Rattle.call_types.specs.declared.why.Why.{Why}
 use Rattle.call_types.specs.declared.why.Why.TheVariants.{Good, Lacks}
 use Rattle.drive_base.specs.Files.{Files}
-use Rattle.drive_files.specs.Writing.{WriteLeaves, WriteCause}
+use Rattle.file_access.specs.Writing.{WriteLeaves, WriteCause}
 use Rattle.register_core.specs.Loose.{loose_name}
 use Rattle.register_core.specs.OnLanes.{AreUnused, AreHonest}
 

@@ -4,8 +4,8 @@ use Rattle.call_types.specs.declared.why.Why.{Why}
 use Rattle.call_types.specs.declared.why.Why.TheVariants.{Good, Failed, Damaged, Behind, Lacks}
 use Rattle.drive_base.specs.Files.{Files}
 use Rattle.drive_base.specs.declared.plan.SetPlan.{SetPlan}
-use Rattle.drive_files.specs.declared.cause.NotGiven.{NotGiven}
-use Rattle.drive_files.specs.declared.cause.NotGiven.TheVariants.{Because, NoMemory}
+use Rattle.file_access.specs.declared.cause.NotGiven.{NotGiven}
+use Rattle.file_access.specs.declared.cause.NotGiven.TheVariants.{Because, NoMemory}
 use Rattle.manifest_file.specs.Spelling.{file_of}
 use Rattle.manifest_file.specs.declared.manifest.Manifest.{Manifest}
 use Rattle.register_file.specs.declared.record.Adds.{Adds}

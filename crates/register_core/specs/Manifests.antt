@@ -11,7 +11,7 @@ use Rattle.call_types.specs.declared.why.Why.{Why}
 use Rattle.call_types.specs.declared.why.Why.TheVariants.{Good, Failed, Damaged, Behind, Lacks}
 use Rattle.drive_base.specs.Files.{Files}
 use Rattle.drive_base.specs.declared.plan.SetPlan.{SetPlan}
-use Rattle.drive_files.specs.Reading.{FailedWhile}
+use Rattle.file_access.specs.Reading.{FailedWhile}
 use Rattle.manifest_file.specs.Canonical.{IsCanonical}
 use Rattle.manifest_file.specs.Layout.{manifest}
 use Rattle.manifest_file.specs.Print.{text_under}

@@ -12,7 +12,7 @@ use Rattle.register_file.specs.declared.record.RegFile.{RegFile}
 use Rattle.register_file.specs.declared.record.Base.{Base}
 use Rattle.register_file.specs.declared.record.Next.{Next}
 use Rattle.register_file.specs.declared.record.Adds.{Adds}
-use Rattle.vote_core.specs.Rank.{rank_of, change_of}
+use Rattle.stamp_id.specs.Rank.{rank_of, change_of}
 use Rattle.vote_core.specs.Lane.{Added, Lane, blank_lane, Base as LaneBase, Next as LaneNext}
 use Rattle.vote_core.specs.declared.row.Row.{Row}
 use Rattle.vote_core.specs.declared.row.Row.TheVariants.{Bad, Good}

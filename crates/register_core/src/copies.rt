@@ -5,7 +5,7 @@ ghost use Rattle.register_core.specs.Records.{marked_base};
 
 use register_file::{Base, Next};
 use seal_file::Bytes;
-use stamp_id::NoMemory;
+use fault_base::NoMemory;
 use std::alloc::Global;
 
 /// A copy of a base.

@@ -10,7 +10,7 @@ use crate::looked::Looked;
 use call_types::Whys;
 use drive_base::SetPlan;
 use register_file::{Base, Next, RegFile, write};
-use stamp_id::NoMemory;
+use fault_base::NoMemory;
 use std::alloc::Global;
 
 /// Takes the memory of both files of a change over the base of a look.

@@ -4,7 +4,7 @@ ghost use Rattle.std.specs.Prelude.{◌≡◌};
 ghost use Rattle.register_core.specs.declared.faults.QuorumFault.TheVariants.{NoMemory as TheNoMemory};
 
 use call_types::Whys;
-use stamp_id::NoMemory;
+use fault_base::NoMemory;
 use std::alloc::{AllocError, AllocFailed};
 
 /// Why a register's call was refused. Each carries a `Why` for each lane, or for each data drive.

@@ -12,7 +12,7 @@ ghost use Rattle.register_core.specs.declared.faults.QuorumFault.TheVariants.{No
 use crate::faults::QuorumFault;
 use call_types::{FileKind, Why, Whys};
 use drive_base::Drive;
-use drive_files::{NotGiven, file_on};
+use file_access::{NotGiven, file_on};
 use register_file::{Base, RegFile, read};
 use seal_file::{Bytes, Damage, FileRead};
 use stamp_id::{Ballot, ChangeId};

@@ -7,7 +7,7 @@
 //! are made before the first write: `propose`, `mark` and `mend` take no memory.
 //!
 //! The crate stands on `register_file` for the lanes' files, on `vote_core` for the verdict and the laws of the commit
-//! protocol, on `manifest_file` for the data of a pending change, and on `drive_files` for the calls of a drive. Its
+//! protocol, on `manifest_file` for the data of a pending change, and on `file_access` for the calls of a drive. Its
 //! contracts speak of the records that lanes keep, in `vote_core`'s words: under every pattern of failing calls, and with
 //! any record in the place of a lane that is out, sound lanes stay sound, and the value stays or becomes the change's
 //! content; after a `mark` that succeeded it is the change's content.

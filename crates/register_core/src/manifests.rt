@@ -13,7 +13,7 @@ use crate::faults::QuorumFault;
 use body_print::name_of_manifest;
 use call_types::{FileKind, Why, Whys};
 use drive_base::{Drive, SetPlan};
-use drive_files::{NotGiven, file_on};
+use file_access::{NotGiven, file_on};
 use manifest_file::{Manifest, print_of, read};
 use register_file::Adds;
 use seal_file::{Damage, FileRead};

@@ -8,7 +8,7 @@ use crate::lanes::is_out;
 use crate::loose::LooseName;
 use call_types::{FileKind, Why, Whys};
 use drive_base::Drive;
-use drive_files::write_file;
+use file_access::write_file;
 
 /// A file of a register, and the loose names that its writes use.
 #[derive(Clone, Copy)]

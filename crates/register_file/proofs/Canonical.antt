@@ -6,8 +6,8 @@ use Rattle.std.proofs.lemmas.Bool.Decides.{nat_tests}
 use Rattle.stamp_id.specs.declared.stamp.Ballot.{Ballot}
 use Rattle.stamp_id.specs.declared.stamp.ChangeId.{ChangeId}
 use Rattle.stamp_id.proofs.IdLemmas.{ballot_by_parts}
-use Rattle.id_field.proofs.IdTests.{both_true}
-use Rattle.id_field.proofs.IdText.{id_is_field}
+use Rattle.stamp_id.proofs.IdTests.{both_true}
+use Rattle.stamp_id.proofs.IdText.{id_is_field}
 use Rattle.register_file.specs.declared.record.RegFile.{RegFile}
 use Rattle.register_file.specs.declared.record.Next.{Next}
 use Rattle.register_file.specs.declared.record.Adds.{Adds}

@@ -3,7 +3,7 @@ use Rattle.std.proofs.Common.{◌≡◌, List, ℕ, Option, Some, None, refl, ap
 use Rattle.std.specs.Option.{option_map}
 use Rattle.stamp_id.specs.declared.stamp.Ballot.{Ballot}
 use Rattle.stamp_id.specs.declared.stamp.ChangeId.{ChangeId}
-use Rattle.id_field.proofs.IdText.{id_of_bytes}
+use Rattle.stamp_id.proofs.IdText.{id_of_bytes}
 use Rattle.register_file.specs.Rows.{StampRow, BaseRow, AddsRow, NextRow, FileRow, base_row, adds_row, next_row, row_of}
 use Rattle.register_file.proofs.Texts.{IsStampRow, IfThere, IsBaseRow, IsAddsRow, IsNextRow, IsFileRow}
 

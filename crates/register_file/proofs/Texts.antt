@@ -8,9 +8,9 @@ use Rattle.field_reader.specs.Format.{Format, ◌>>=◌, done, field, number, wi
 use Rattle.field_reader.specs.Spelling.{IsBytes, number_bytes}
 use Rattle.field_reader.proofs.Parts.{IsSpelled, Then, then_spelled, told_spelled}
 use Rattle.field_reader.proofs.Series.{Kept}
-use Rattle.id_field.specs.Layout.{id_field}
-use Rattle.id_field.proofs.Chains.{itself, nothing, retold, bytes_kept, u8_kept, u32_kept, u64_kept, rule_kept, done_kept, Both, then_kept}
-use Rattle.id_field.proofs.IdText.{IsIdField, id_spelled}
+use Rattle.stamp_id.specs.IdField.{id_field}
+use Rattle.field_reader.proofs.Chains.{itself, nothing, retold, bytes_kept, u8_kept, u32_kept, u64_kept, rule_kept, done_kept, Both, then_kept}
+use Rattle.stamp_id.proofs.IdText.{IsIdField, id_spelled}
 use Rattle.register_file.specs.Rows.{StampRow, BaseRow, AddsRow, NextRow, FileRow}
 use Rattle.register_file.specs.Layout.{is_format, is_term, is_seq, is_flag, is_same_stamp, stamp, content, part_if, optional, base, adds, next, register}
 use Rattle.register_file.specs.Spelling.{stamp_bytes, content_bytes, optional_bytes, base_bytes, adds_bytes, next_bytes, row_bytes}

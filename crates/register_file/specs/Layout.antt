@@ -2,7 +2,7 @@
 use Rattle.std.specs.Prelude.{ℕ, ◌^◌, List, Option, Some, None, Bool, ◌&&◌, ◌==◌, nat_lt, if◌then◌else◌}
 use Rattle.std.specs.Int.{w8, w32, w64}
 use Rattle.field_reader.specs.Format.{Format, ◌>>=◌, done, field, number, with_rule}
-use Rattle.id_field.specs.Layout.{id_field}
+use Rattle.stamp_id.specs.IdField.{id_field}
 use Rattle.register_file.specs.Rows.{StampRow, BaseRow, AddsRow, NextRow, FileRow}
 
 -- the one format number

@@ -18,7 +18,7 @@ ghost use Rattle.register_file.specs.declared.record.RegFile.{RegFile};
 
 use crate::record::{Adds, Base, KIND, Next, RegFile};
 use field_reader::{Fields, ReadFault, refuse_unless};
-use id_field::take_id;
+use stamp_id::take_id;
 use seal_file::{Bytes, FileRead, unseal};
 use stamp_id::{Ballot, ChangeId};
 use std::alloc::Global;

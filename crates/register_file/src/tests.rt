@@ -4,7 +4,8 @@ ghost use Rattle.register_file.specs.Record.{IsCanonical};
 
 use super::*;
 use seal_file::{Bytes, Damage, FileRead, seal};
-use stamp_id::{Ballot, ChangeId, NoMemory, VersionId};
+use fault_base::NoMemory;
+use stamp_id::{Ballot, ChangeId, VersionId};
 use std::alloc::{AllocError, Global};
 
 // The two files that tools/golden_register.py prints: what a lane without a file holds, and one with every part.

@@ -11,7 +11,8 @@ ghost use Rattle.register_file.specs.declared.record.Next.{Next};
 use crate::record::{Adds, Base, KIND, Next, RegFile};
 use field_reader::{put_bytes, put_u8, put_u32, put_u64};
 use seal_file::{Bytes, seal};
-use stamp_id::{Ballot, NoMemory};
+use fault_base::NoMemory;
+use stamp_id::Ballot;
 use std::alloc::{AllocError, Global};
 
 /// Appends a ballot, or that of a change.

@@ -6,7 +6,7 @@ use Rattle.std.specs.Borrow.{Bor}
 use Rattle.sha2.specs.Sha256.{sha256}
 use Rattle.sha2.proofs.Facts256.{length-sha256}
 use Rattle.seal_file.specs.declared.damage.Damage.{Damage}
-use Rattle.seal_file.specs.declared.damage.Damage.TheVariants.{Short, Digest, Kind, Spelling}
+use Rattle.seal_file.specs.declared.damage.Damage.TheVariants.{Short, Digest, Kind, Spelling, Long}
 use Rattle.seal_file.specs.Sealing.{sealed, content_of, digest_of, IsDamage, Unseals}
 
 -- a file is 32 bytes longer than its kind and its body
@@ -50,6 +50,7 @@ no_damage kind body (Kind found) four damaged =
     ap (take 4) (append_assoc kind body (sha256 (kind ++ body))) ∙ take_at kind (body ++ sha256 (kind ++ body)) 4 four in
     damaged.2 (damaged.3 ∙ front)
 no_damage kind body (Spelling at) four damaged = damaged
+no_damage kind body (Long n) four damaged = damaged
 
 -- what is opened as a body is one, and what has a damage is refused with it
 pub unseals-sealed : (kind body : List ℕ) (answer : Result (Bor (List ℕ)) Damage) → length kind ≡ 4
@@ -69,7 +70,9 @@ damages-same kind bytes (Kind k) (Short m) p q = let a = p.0 in let b = q.0 in a
 damages-same kind bytes (Kind k) (Digest t d) p q = absurd (q.1 (q.2 ∙ p.1 ∙ sym q.3))
 damages-same kind bytes (Kind k) (Kind l) p q = ap Kind (p.3 ∙ sym q.3)
 damages-same kind bytes (Spelling n) e p q = absurd p
+damages-same kind bytes (Long n) e p q = absurd p
 damages-same kind bytes d (Spelling n) p q = absurd q
+damages-same kind bytes d (Long n) p q = absurd q
 
 -- bytes with a damage are refused with it
 pub unseals-damaged : (kind bytes : List ℕ) (answer : Result (Bor (List ℕ)) Damage) (damage : Damage) → length kind ≡ 4

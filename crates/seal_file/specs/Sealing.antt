@@ -3,7 +3,7 @@ use Rattle.std.specs.Prelude.{◌≡◌, ◌≢◌, ℕ, ◌-◌, ◌<◌, ◌�
 use Rattle.std.specs.Borrow.{Bor}
 use Rattle.sha2.specs.Sha256.{sha256}
 use Rattle.seal_file.specs.declared.damage.Damage.{Damage}
-use Rattle.seal_file.specs.declared.damage.Damage.TheVariants.{Short, Digest, Kind, Spelling}
+use Rattle.seal_file.specs.declared.damage.Damage.TheVariants.{Short, Digest, Kind, Spelling, Long}
 
 -- the bytes of the file of a kind and a body: both, and the SHA-256 of both together
 abbrev pub sealed : List ℕ → List ℕ → List ℕ
@@ -26,6 +26,7 @@ IsDamage kind bytes (Digest stored computed) = (36 ≤ length bytes) × (stored 
 IsDamage kind bytes (Kind found) = (36 ≤ length bytes) × (digest_of bytes ≡ sha256 (content_of bytes))
     × (found ≢ kind) × (found ≡ take 4 bytes)
 IsDamage kind bytes (Spelling at) = ⊥
+IsDamage kind bytes (Long n) = ⊥
 
 -- what opening bytes as a file of a kind answers: the body that they seal, or their first damage
 abbrev pub Unseals : List ℕ → List ℕ → Result (Bor (List ℕ)) Damage → Type 0

@@ -3,13 +3,15 @@
 ghost use Rattle.std.specs.Prelude.{◌≡◌};
 ghost use Rattle.seal_file.specs.declared.damage.FileRead.TheVariants.{NoMemory, Unsealed};
 
-use stamp_id::NoMemory;
+use fault_base::NoMemory;
 use std::alloc::{AllocError, AllocFailed};
 
 /// What is wrong with the bytes of a file.
 #[derive(Clone, Copy, Debug, PartialEq, Eq)]
 pub enum Damage {
-    /// The file has so many bytes, fewer than were needed: for a sealed file, than the 36 of a kind and a digest.
+    /// The file has so many bytes, fewer than were needed: for a sealed file, than the 36 of a kind and a digest. Of a
+    /// piece that was read without asking for the file's length it tells where the reading ended: the end of the file,
+    /// or the piece's place where the file ends before it.
     Short(u64),
     /// The digest that was due, `stored`, isn't the SHA-256 of what was shown, `computed`. A sealed file stores it in its
     /// last 32 bytes; that of a manifest's text is the print, and those of digest tables and blocks stand beside them.
@@ -22,6 +24,9 @@ pub enum Damage {
     /// The body is no spelling of a record: it leaves the grammar at this byte. Readers of bodies say so,
     /// and `unseal` never does.
     Spelling(u64),
+    /// The file has so many bytes, more than any lawful file of its kind, and wasn't read. Readers of files say so, and
+    /// `unseal` never does.
+    Long(u64),
 }
 
 /// Why no record was read from a file.

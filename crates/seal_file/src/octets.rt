@@ -1,11 +1,11 @@
-//! Bytes that a record owns.
+//! Bytes and texts that a record owns.
 
 ghost use Rattle.std.specs.Prelude.{◌≡◌, ◌↔◌, ℕ, List, [], length, nat_eq, refl, Some, IsTrue, IfOk};
 ghost use Rattle.std.specs.Ordering.{nat_cmp};
 ghost use Rattle.std.specs.Cmp.{partial_equiv_from_equiv};
 ghost use Rattle.std.specs.Cmp.Lexicographic.{pointwise, slice_cmp, nat_list_eq_equiv, nat_list_cmp_total, texts_ties, texts_po};
 
-use stamp_id::NoMemory;
+use fault_base::NoMemory;
 use std::alloc::{AllocError, Global};
 use std::cmp::Ordering;
 use std::marker::Model;
@@ -14,6 +14,9 @@ use std::marker::Model;
 /// them.
 #[derive(Debug, Drop)]
 pub struct Bytes(Vec<u8>);
+
+/// A text, such as a key or a content type: its bytes, which need not be UTF-8.
+pub type Text = Bytes;
 
 impl Model for Bytes {
     ghost Value = { List ℕ };

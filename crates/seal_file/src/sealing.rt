@@ -6,7 +6,7 @@ ghost use Rattle.seal_file.specs.declared.damage.Damage.{Damage};
 
 use crate::damage::Damage;
 use sha2::{Digest, Sha256};
-use stamp_id::NoMemory;
+use fault_base::NoMemory;
 use std::alloc::Global;
 
 /// The file of a kind and a body: both, and the SHA-256 of both together. It allocates once, and want of

@@ -1,5 +1,5 @@
 use super::*;
-use stamp_id::NoMemory;
+use fault_base::NoMemory;
 
 // The digest of the message of two blocks in FIPS 180-4's examples, whose first four bytes serve as the
 // kind here.

@@ -1,1 +1,4 @@
 pub mod IdLemmas
+pub mod IdTests
+pub mod IdText
+pub mod Ranks

@@ -1,2 +1,5 @@
+pub mod IdField
 pub mod Layout
+pub mod Rank
+pub mod Reads
 pub mod VersionId

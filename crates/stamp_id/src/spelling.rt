@@ -4,8 +4,9 @@ ghost use Rattle.std.specs.Prelude.{◌≡◌, IfOk, string_bytes};
 ghost use Rattle.stamp_id.specs.VersionId.{id_text, IdBytesAreInjective, IdTextsAreInjective};
 ghost use Rattle.stamp_id.specs.declared.version.VersionId.{VersionId};
 
-use crate::error::{NoMemory, NotAnId};
+use crate::error::NotAnId;
 use crate::version::VersionId;
+use fault_base::NoMemory;
 use std::alloc::Global;
 use uuid::Uuid;
 

@@ -2,8 +2,8 @@
 
 ghost use Rattle.std.specs.Prelude.{◌<◌, ◌^◌};
 
-/// The rank of one round of writing: first the term, then the sequence number within it.
-#[derive(Clone, Copy, Debug, PartialEq, Eq, PartialOrd, Ord, Hash)]
+/// One round of writing: a term, and a sequence number within it. Their order is that of [`rank`](crate::rank).
+#[derive(Clone, Copy, Debug, PartialEq, Eq, Hash)]
 pub struct Ballot {
     /// The term, below 2^48.
     pub term: u64,
@@ -14,5 +14,5 @@ pub struct Ballot {
 }
 
 /// The name of one change: the ballot under which it was first proposed.
-#[derive(Clone, Copy, Debug, PartialEq, Eq, PartialOrd, Ord, Hash)]
+#[derive(Clone, Copy, Debug, PartialEq, Eq, Hash)]
 pub struct ChangeId(pub Ballot);

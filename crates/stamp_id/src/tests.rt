@@ -1,4 +1,5 @@
 use super::*;
+use field_reader::{Fields, Misspelled};
 
 // The id of a slot of the change of a term and a sequence number.
 fn id(term: u64, slot: u8, seq: u64) -> Option<VersionId> {
@@ -81,12 +82,41 @@ fn refuses_other_texts(rt: HostRuntime) {
 fn orders_ballots_by_term_first(rt: HostRuntime) {
     let low = Ballot { term: 1, seq: 9 };
     let high = Ballot { term: 2, seq: 3 };
-    assert!(rt; low < high && high < Ballot { term: 2, seq: 4 });
-    assert!(rt; ChangeId(low) < ChangeId(high));
+    assert!(rt; rank(low) < rank(high) && rank(high) < rank(Ballot { term: 2, seq: 4 }));
+    assert_eq!(rt; rank(high), (2 << 64) + 3);
 }
 
 #[test]
 fn prints_errors(rt: HostRuntime) {
-    let text = format!(in rt.alloc(); "{}; {}", NoMemory, NotAnId).expect(&rt, "there is memory");
-    assert_eq!(rt; text.as_str(), "out of memory; not a version id");
+    let text = format!(in rt.alloc(); "{}", NotAnId).expect(&rt, "there is memory");
+    assert_eq!(rt; text.as_str(), "not a version id");
+}
+
+/// The bytes of term 1, slot 5, seq 7, and the same with version 7, variant 11, slot 64, term 0 and seq 0.
+const FIELD: [u8; 16] = [0, 0, 0, 0, 0, 1, 0x80, 5, 0x80, 0, 0, 0, 0, 0, 0, 7];
+
+const OTHERS: [[u8; 16]; 5] = [
+    [0, 0, 0, 0, 0, 1, 0x70, 5, 0x80, 0, 0, 0, 0, 0, 0, 7],
+    [0, 0, 0, 0, 0, 1, 0x80, 5, 0xc0, 0, 0, 0, 0, 0, 0, 7],
+    [0, 0, 0, 0, 0, 1, 0x80, 64, 0x80, 0, 0, 0, 0, 0, 0, 7],
+    [0, 0, 0, 0, 0, 0, 0x80, 5, 0x80, 0, 0, 0, 0, 0, 0, 7],
+    [0, 0, 0, 0, 0, 1, 0x80, 5, 0x80, 0, 0, 0, 0, 0, 0, 0],
+];
+
+#[test]
+fn takes_an_id(rt: HostRuntime) {
+    let mut fields = Fields::new(&FIELD);
+    let id = VersionId::from_parts(ChangeId(Ballot { term: 1, seq: 7 }), 5);
+    assert_eq!(rt; take_id(&mut fields), Ok(id));
+    assert_eq!(rt; fields.at(), 16);
+}
+
+#[test]
+fn refuses_other_bytes(rt: HostRuntime) {
+    for other in OTHERS {
+        let mut fields = Fields::new(&other);
+        assert_eq!(rt; take_id(&mut fields), Err(Misspelled(0)));
+    }
+    let mut short = Fields::new(&FIELD[..15]);
+    assert_eq!(rt; take_id(&mut short), Err(Misspelled(15)));
 }

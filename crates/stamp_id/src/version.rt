@@ -6,7 +6,7 @@ use crate::error::NotAnId;
 use crate::stamp::{Ballot, ChangeId};
 use crate::words;
 
-/// The id of a version: the change that made it, and one of the change's slots.
+/// The id of a version: the change that made it, and the slot of the key's register.
 #[derive(Clone, Copy, Debug, PartialEq, Eq, Hash)]
 pub struct VersionId {
     /// The change. Its term and its sequence number are at least 1.
@@ -23,7 +23,7 @@ impl VersionId {
     ghost use Rattle.stamp_id.specs.VersionId.{id_bytes};
     ghost use Rattle.stamp_id.specs.declared.version.VersionId.{VersionId};
 
-    /// The id of a slot of a change.
+    /// The id of a change in the register of a slot.
     pub fn from_parts(change: ChangeId, slot: u8) -> VersionId
         requires slot { slot < 64 }
         requires term { 1 ≤ change.0.term }

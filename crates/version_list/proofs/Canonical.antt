@@ -10,9 +10,9 @@ use Rattle.field_reader.proofs.Series.{AllAfter}
 use Rattle.stamp_id.specs.VersionId.{id_bytes}
 use Rattle.stamp_id.specs.declared.version.VersionId.{VersionId}
 use Rattle.stamp_id.proofs.IdLemmas.{length-id_bytes, id_bytes-injective}
-use Rattle.id_field.specs.Layout.{is_id}
-use Rattle.id_field.proofs.IdTests.{both_true}
-use Rattle.id_field.proofs.IdText.{IsIdField, id_is_field}
+use Rattle.stamp_id.specs.IdField.{is_id}
+use Rattle.stamp_id.proofs.IdTests.{both_true}
+use Rattle.stamp_id.proofs.IdText.{IsIdField, id_is_field}
 use Rattle.call_types.specs.declared.names.VersionName.{VersionName}
 use Rattle.call_types.specs.declared.names.VersionName.TheVariants.{Null, Id}
 use Rattle.call_types.specs.declared.version.Version.{Version}

@@ -6,8 +6,8 @@ use Rattle.std.specs.Bool.{OnTrue}
 use Rattle.std.proofs.lemmas.Bool.{eqb-true, cases_lt}
 use Rattle.std.proofs.lemmas.List.{get_or-replicate, get_or_past}
 use Rattle.field_reader.specs.Spelling.{IsBytes}
-use Rattle.id_field.specs.Layout.{is_id}
-use Rattle.id_field.proofs.IdTests.{both_true}
+use Rattle.stamp_id.specs.IdField.{is_id}
+use Rattle.stamp_id.proofs.IdTests.{both_true}
 use Rattle.version_list.specs.Rows.{no_id}
 use Rattle.version_list.specs.Layout.{is_no_id}
 

@@ -8,9 +8,9 @@ use Rattle.field_reader.specs.Spelling.{IsBytes, number_bytes, short_text_bytes}
 use Rattle.field_reader.proofs.Parts.{IsSpelled, Then, then_spelled, then_joined, Done, done_spelled, Ruled, rule_spelled, told_spelled}
 use Rattle.field_reader.proofs.Numbers.{Plain, field_spelled, Numbered, u16_spelled, u64_spelled, Short, short_text_spelled}
 use Rattle.field_reader.proofs.Series.{Kept}
-use Rattle.id_field.specs.Layout.{id_field}
-use Rattle.id_field.proofs.Chains.{itself}
-use Rattle.id_field.proofs.IdText.{IsIdField, id_spelled}
+use Rattle.stamp_id.specs.IdField.{id_field}
+use Rattle.field_reader.proofs.Chains.{itself}
+use Rattle.stamp_id.proofs.IdText.{IsIdField, id_spelled}
 use Rattle.version_list.specs.Rows.{ObjectRow, no_id}
 use Rattle.version_list.specs.Layout.{is_no_id, upload_id, object}
 use Rattle.version_list.specs.Spelling.{object_bytes}

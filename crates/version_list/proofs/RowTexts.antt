@@ -10,9 +10,9 @@ use Rattle.field_reader.specs.Spelling.{IsBytes, number_bytes, short_text_bytes}
 use Rattle.field_reader.proofs.Parts.{IsSpelled, Then, then_spelled, then_joined, Done, done_spelled, Ruled, rule_spelled, told_spelled, choice_spelled, IsBytes-front}
 use Rattle.field_reader.proofs.Numbers.{Plain, field_spelled, Numbered, u8_spelled, u64_spelled, Short, short_text_spelled}
 use Rattle.field_reader.proofs.Series.{Kept}
-use Rattle.id_field.specs.Layout.{id_field}
-use Rattle.id_field.proofs.Chains.{itself}
-use Rattle.id_field.proofs.IdText.{IsIdField, id_spelled}
+use Rattle.stamp_id.specs.IdField.{id_field}
+use Rattle.field_reader.proofs.Chains.{itself}
+use Rattle.stamp_id.proofs.IdText.{IsIdField, id_spelled}
 use Rattle.version_list.specs.Rows.{ObjectRow, VersionRow, UploadRow}
 use Rattle.version_list.specs.Layout.{is_moment, is_class, object, object_of_class, is_new, name_rule, version, upload}
 use Rattle.version_list.specs.Spelling.{class_of, object_bytes, version_bytes, upload_bytes}

@@ -11,7 +11,7 @@ use Rattle.field_reader.proofs.Parts.{IsSpelled, Then, then_spelled, then_joined
 use Rattle.field_reader.proofs.Numbers.{Numbered, u32_spelled}
 use Rattle.field_reader.proofs.Series.{AllAfter, Listed, listed_spelled}
 use Rattle.field_reader.proofs.Whole.{whole_takes, whole_again}
-use Rattle.id_field.proofs.IdTests.{both_true}
+use Rattle.stamp_id.proofs.IdTests.{both_true}
 use Rattle.version_list.specs.Rows.{VersionRow, UploadRow, StateRows}
 use Rattle.version_list.specs.Layout.{is_among, version, versions, version_names, upload, uploads, upload_names, is_version_count, is_upload_count, long_state, key_state}
 use Rattle.version_list.specs.Spelling.{version_bytes, upload_bytes, long_form, rows_bytes}

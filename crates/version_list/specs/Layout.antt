@@ -4,7 +4,7 @@ use Rattle.std.specs.List.{list_any, list_all}
 use Rattle.std.specs.Str.{bytes_eq}
 use Rattle.std.specs.Int.{w8, w16, w32, w64}
 use Rattle.field_reader.specs.Format.{Format, ◌>>=◌, done, field, number, short_text, with_rule, series}
-use Rattle.id_field.specs.Layout.{is_id, id_field}
+use Rattle.stamp_id.specs.IdField.{is_id, id_field}
 use Rattle.version_list.specs.Rows.{ObjectRow, VersionRow, UploadRow, StateRows}
 
 -- whether bytes are zeros, as where there is no id

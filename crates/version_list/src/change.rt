@@ -10,7 +10,8 @@ use crate::state::KeyState;
 use crate::uploads::{with_upload, without_upload};
 use call_types::{Upload, Uploads, Version, VersionName, Versions};
 use seal_file::Bytes;
-use stamp_id::{NoMemory, VersionId};
+use fault_base::NoMemory;
+use stamp_id::VersionId;
 use std::alloc::Global;
 
 /// Puts `front` in front, in the place of the versions of the name `goes`.

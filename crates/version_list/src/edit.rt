@@ -10,7 +10,8 @@ use crate::gone::gone;
 use crate::same::is_same;
 use call_types::{Mode, Version, VersionName, Versions, What};
 use seal_file::Bytes;
-use stamp_id::{NoMemory, VersionId};
+use fault_base::NoMemory;
+use stamp_id::VersionId;
 use std::alloc::Global;
 
 /// The name of a new version.

@@ -9,7 +9,8 @@ ghost use Rattle.version_list.specs.Gone.{data_of, is_data, has_data, gone_bytes
 use crate::edit::is_named;
 use call_types::{Version, VersionName, What};
 use seal_file::Bytes;
-use stamp_id::{NoMemory, VersionId};
+use fault_base::NoMemory;
+use stamp_id::VersionId;
 use std::alloc::Global;
 
 /// The ids of the data that an old version has and no new one has, joined. The new versions are those that stay of the

@@ -6,14 +6,14 @@ ghost use Rattle.field_reader.specs.Format.{field, with_rule};
 ghost use Rattle.field_reader.specs.Reading.{Gives};
 ghost use Rattle.version_list.specs.Rows.{no_id, name_field, upload_field};
 ghost use Rattle.stamp_id.specs.VersionId.{id_bytes};
-ghost use Rattle.id_field.specs.Layout.{is_id, id_field};
+ghost use Rattle.stamp_id.specs.IdField.{is_id, id_field};
 ghost use Rattle.version_list.specs.Layout.{is_no_id, upload_id, is_new, name_rule};
 ghost use Rattle.version_list.specs.Known.{is_known, AddsName};
 
 use crate::names::Names;
 use call_types::VersionName;
 use field_reader::{Fields, ReadFault, refuse_unless};
-use id_field::take_id;
+use stamp_id::take_id;
 use stamp_id::VersionId;
 
 /// Whether these bytes are zeros.

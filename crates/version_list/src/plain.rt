@@ -21,7 +21,8 @@ use call_types::{
 };
 use lists::{are_same_uploads, are_same_versions, beside, lost, others, still_open};
 use seal_file::Text;
-use stamp_id::{NoMemory, VersionId};
+use fault_base::NoMemory;
+use stamp_id::VersionId;
 use std::alloc::Global;
 
 mod lists;

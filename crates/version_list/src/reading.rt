@@ -17,7 +17,7 @@ use crate::names::Names;
 use crate::state::{KeyState, MOMENT_LIMIT, MOST_UPLOADS, MOST_VERSIONS};
 use call_types::{ListRead, Upload, Uploads, Version, Versions, What};
 use field_reader::{Fields, ReadFault, refuse_unless};
-use id_field::take_id;
+use stamp_id::take_id;
 use seal_file::Text;
 use std::alloc::Global;
 

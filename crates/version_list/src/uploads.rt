@@ -6,7 +6,8 @@ ghost use Rattle.std.specs.Option.{option_copied};
 ghost use Rattle.version_list.specs.Naming.{is_upload, still_open};
 
 use call_types::{Upload, Uploads};
-use stamp_id::{NoMemory, VersionId};
+use fault_base::NoMemory;
+use stamp_id::VersionId;
 use std::alloc::Global;
 
 /// The first upload of this id.

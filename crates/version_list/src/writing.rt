@@ -10,7 +10,8 @@ use crate::sizes::state_size;
 use crate::state::KeyState;
 use call_types::{Upload, Version, VersionName, What};
 use field_reader::{put_bytes, put_short_text, put_u8, put_u16, put_u32, put_u64};
-use stamp_id::{NoMemory, VersionId};
+use fault_base::NoMemory;
+use stamp_id::VersionId;
 use std::alloc::{AllocError, Global};
 
 /// The bytes of a version's name.

@@ -7,7 +7,6 @@ mod Marking
 mod Members
 mod Places
 mod Preparing
-mod Ranks
 mod Resting
 mod Searching
 mod Sections

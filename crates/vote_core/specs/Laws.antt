@@ -1,7 +1,7 @@
 -- The laws of the commit protocol, over all lists of lanes, where w lanes must take a write and d must answer a read.
 use Rattle.std.specs.Prelude.{◌≡◌, ◌≢◌, ◌⊎◌, ℕ, ◌<◌, ◌≤◌, Bool, false, IsTrue, List, [], slice_index_or, length, map, replicate, count_by, Contains}
 use Rattle.stamp_id.specs.declared.stamp.Ballot.{Ballot}
-use Rattle.vote_core.specs.Rank.{rank_of}
+use Rattle.stamp_id.specs.Rank.{rank_of}
 use Rattle.vote_core.specs.Row.{is_good}
 use Rattle.vote_core.specs.Lane.{Base, Next, Lane, HasNext, lane_at, blank_lane, has_base_of}
 use Rattle.vote_core.specs.Sound.{LanesAreDrawn, HoldsValue}
@@ -14,14 +14,6 @@ use Rattle.vote_core.specs.Verdict.{VerdictRule, good_rows, row_at}
 use Rattle.vote_core.specs.declared.row.Row.{Row}
 use Rattle.vote_core.specs.declared.verdict.Verdict.{Verdict}
 use Rattle.vote_core.specs.declared.verdict.Verdict.TheVariants.{Settled, Pending}
-
--- ballots of one rank are the same
-abbrev pub RanksAreOneToOne : Type 0
-RanksAreOneToOne = (a b : Ballot) → rank_of a ≡ rank_of b → a ≡ b
-
--- a ballot of a greater term, or of the same term and a greater sequence number, has the greater rank
-abbrev pub RanksAreInOrder : Type 0
-RanksAreInOrder = (a b : Ballot) → (a.term < b.term) ⊎ ((a.term ≡ b.term) × (a.seq < b.seq)) → rank_of a < rank_of b
 
 -- the rows have one verdict
 abbrev pub OneVerdict : Type 0

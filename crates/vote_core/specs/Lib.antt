@@ -3,7 +3,6 @@ pub mod History
 pub mod Lane
 pub mod Laws
 pub mod Loops
-pub mod Rank
 pub mod Row
 pub mod Section
 pub mod Shown

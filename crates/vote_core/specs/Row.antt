@@ -1,7 +1,7 @@
 -- What a row says, in numbers. A height is 0 where there is no record, else one more than the record's rank, so that
 -- heights are in the order of ballots and below them all stands what isn't there.
 use Rattle.std.specs.Prelude.{ℕ, ◌+◌, Bool, true, false, ◌==◌, ◌||◌, Option, None, Some}
-use Rattle.vote_core.specs.Rank.{rank_of, change_of}
+use Rattle.stamp_id.specs.Rank.{rank_of, change_of}
 use Rattle.vote_core.specs.declared.row.Row.{Row}
 use Rattle.vote_core.specs.declared.row.Row.TheVariants.{Bad, Good}
 use Rattle.vote_core.specs.declared.row.NextRow.{NextRow}

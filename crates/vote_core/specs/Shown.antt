@@ -1,7 +1,7 @@
 -- Rows that show the records of lanes: a bad row shows nothing, and a good row is its lane's record.
 use Rattle.std.specs.Prelude.{◌≡◌, ◌+◌, ◌≢◌, ◌⊎◌, ⊤, ℕ, ◌<◌, true, List, Option, None, Some, length}
 use Rattle.std.specs.List.{AllZip}
-use Rattle.vote_core.specs.Rank.{rank_of, change_of}
+use Rattle.stamp_id.specs.Rank.{rank_of, change_of}
 use Rattle.vote_core.specs.Row.{is_good}
 use Rattle.vote_core.specs.Lane.{Next, Lane, HasNext, lane_at}
 use Rattle.vote_core.specs.Sound.{IsLive}

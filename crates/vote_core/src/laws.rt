@@ -5,7 +5,7 @@
 ghost use Rattle.vote_core.specs.Laws.{OneVerdict, SettledIsTheValue, PendingIsFound};
 ghost use Rattle.vote_core.specs.Laws.{PrepareKeeps, ForwardKeeps, MarkKeeps, MarkSettles, MendKeeps};
 ghost use Rattle.vote_core.specs.Laws.{FreshBallotStays, FreshChangeStays};
-ghost use Rattle.vote_core.specs.Laws.{PrepareStaysDrawn, MarkStaysDrawn, MendStaysDrawn, RanksAreOneToOne, RanksAreInOrder};
+ghost use Rattle.vote_core.specs.Laws.{PrepareStaysDrawn, MarkStaysDrawn, MendStaysDrawn};
 ghost use Rattle.vote_core.specs.Laws.{CalmSettles, MendStaysCalm, FreshIsCalm};
 ghost use Rattle.vote_core.specs.Laws.{DeadIsNeverPending, DeadStaysDead, MarkKills, SectionKeeps};
 ghost use Rattle.vote_core.specs.Laws.{OneValue, DrawingKeeps};
@@ -42,14 +42,11 @@ pub fn fresh_laws()
     ensures change { FreshChangeStays }
 {}
 
-/// The numbers of the lanes' files stay lawful through every loop, also where the lanes are not sound; ranks are one to one with ballots, and
-/// in their order.
+/// The numbers of the lanes' files stay lawful through every loop, also where the lanes are not sound.
 pub fn number_laws()
     ensures prepare { PrepareStaysDrawn }
     ensures mark { MarkStaysDrawn }
     ensures mend { MendStaysDrawn }
-    ensures ranks { RanksAreOneToOne }
-    ensures order { RanksAreInOrder }
 {}
 
 /// On a calm register any d good rows are settled, and a mend leaves it calm. Fresh lanes are sound and calm.

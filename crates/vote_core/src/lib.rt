@@ -12,7 +12,6 @@
 #![tactic(auto)]
 
 mod laws;
-mod rank;
 mod row;
 mod verdict;
 

@@ -3,8 +3,7 @@
 ghost use Rattle.std.specs.Prelude.{◌≡◌};
 ghost use Rattle.vote_core.specs.Row.{is_good, base_height, next_height, base_change, next_change, carries};
 
-use crate::rank::rank;
-use stamp_id::{Ballot, ChangeId};
+use stamp_id::{Ballot, ChangeId, rank};
 
 /// What was read of one lane.
 #[derive(Clone, Copy, Debug, PartialEq, Eq)]

@@ -9,7 +9,8 @@ use crate::gone::push_gone;
 use crate::same::{is_same, is_same_id, is_same_text};
 use call_types::{Mode, Upload, Uploads, Version, VersionName};
 use seal_file::Bytes;
-use stamp_id::{NoMemory, VersionId};
+use fault_base::NoMemory;
+use stamp_id::VersionId;
 use std::alloc::Global;
 
 /// The versions that do not have this name.

@@ -4,7 +4,7 @@
 ghost use Rattle.std.specs.Prelude.{◌≡◌, ◌≢◌, ◌⊎◌, ◌↔◌, ◌<◌, ◌≤◌, ◌+◌, IsTrue, MatchBool, MatchOption, length};
 ghost use Rattle.std.specs.List.{All};
 ghost use Rattle.drive_base.specs.Plan.{data_drives, write_drives};
-ghost use Rattle.vote_core.specs.Rank.{rank_of, change_of};
+ghost use Rattle.stamp_id.specs.Rank.{rank_of, change_of};
 ghost use Rattle.vote_core.specs.Row.{base_height, next_height, base_change, next_change, carries};
 ghost use Rattle.vote_core.specs.Verdict.{VerdictRule, IsGreatestBase, IsGreatestNext, good_rows, unread_rows, holders};
 

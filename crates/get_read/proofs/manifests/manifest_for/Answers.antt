@@ -8,7 +8,7 @@ use Rattle.get_read.specs.Causes.{NoManifest}
 use Rattle.manifest_file.specs.declared.manifest.Manifest.{Manifest}
 use Rattle.get_read.specs.Manifests.{GivesManifest}
 use Rattle.get_read.specs.Outcomes.{wanted_of}
-use Rattle.drive_files.specs.declared.cause.NotGiven.{NotGiven}
+use Rattle.file_access.specs.declared.cause.NotGiven.{NotGiven}
 use Rattle.get_read.proofs.EachLemmas.{each_more, set_each}
 use Rattle.get_read.proofs.manifests.manifest_for.Goals as goal
 

@@ -1,5 +1,5 @@
 use Rattle.std.proofs.Common.{◌≡◌, ◌<◌, ◌≤◌, ℕ, IsTrue, None, slice_index_or}
-use Rattle.drive_files.specs.Writing.{IsInPlace}
+use Rattle.file_access.specs.Writing.{IsInPlace}
 use Rattle.ostore.proofs.files.write_all.Given as goal
 
 -- the drives so far have the file, and the others are as they were

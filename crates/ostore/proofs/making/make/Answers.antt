@@ -1,6 +1,6 @@
 use Rattle.std.proofs.Common.{ℕ, List, inl, inr, refl, ap, ◌∙◌, subst, Some, None, Err, string_bytes}
 use Rattle.std.specs.Option.{option_map}
-use Rattle.drive_files.specs.Writing.{IsInPlace}
+use Rattle.file_access.specs.Writing.{IsInPlace}
 use Rattle.ostore.specs.Drives.{MayBeWritten}
 use Rattle.ostore.specs.Leaves.{LookCause, WritesMaybe, WritesAll}
 use Rattle.ostore.specs.Session.{Gives}

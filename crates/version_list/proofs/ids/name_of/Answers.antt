@@ -1,5 +1,5 @@
 use Rattle.std.proofs.Common.{◌≡◌, false, length, refl, sym, ◌∙◌, rules}
-use Rattle.id_field.proofs.IdTests.{is_id-yes, is_id-no}
+use Rattle.stamp_id.proofs.IdTests.{is_id-yes, is_id-no}
 use Rattle.version_list.specs.Layout.{is_no_id}
 use Rattle.version_list.proofs.ids.name_of.Goals as goal
 

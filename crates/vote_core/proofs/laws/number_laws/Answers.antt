@@ -1,4 +1,3 @@
-use Rattle.vote_core.proofs.Ranks.{ranks_one_to_one, ranks_in_order}
 use Rattle.vote_core.proofs.Resting.{prepare_stays_drawn, mark_stays_drawn, mend_stays_drawn}
 use Rattle.vote_core.proofs.laws.number_laws.Goals as goal
 
@@ -10,9 +9,3 @@ returns-clause-mark c = mark_stays_drawn
 
 pub returns-clause-mend : goal.returns-clause-mend
 returns-clause-mend c = mend_stays_drawn
-
-pub returns-clause-ranks : goal.returns-clause-ranks
-returns-clause-ranks c = ranks_one_to_one
-
-pub returns-clause-order : goal.returns-clause-order
-returns-clause-order c = ranks_in_order

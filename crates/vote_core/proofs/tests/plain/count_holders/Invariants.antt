@@ -1,5 +1,5 @@
 use Rattle.std.proofs.Common.{◌≡◌, ◌≤◌, length, take, count_by}
-use Rattle.vote_core.specs.Rank.{change_of}
+use Rattle.stamp_id.specs.Rank.{change_of}
 use Rattle.vote_core.specs.Row.{carries}
 use Rattle.vote_core.proofs.tests.plain.count_holders.Given as goal
 

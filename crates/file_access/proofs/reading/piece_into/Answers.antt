@@ -1,0 +1,12 @@
+use Rattle.std.proofs.Common.{◌≡◌, IsTrue, ◌<◌, ◌+◌, length, arith}
+use Rattle.file_access.proofs.reading.piece_into.Goals as goal
+
+pub returns-else-count-into-clause-cause : goal.returns-else-count-into-clause-cause
+returns-else-count-into-clause-cause g c = (
+  c.in-Ok.ensures.count,
+  λ tells.
+      let read = (c.in-Ok.ensures.files tells).0 in
+      let n = read.2.count in
+      let not_all = c.if-count-into.false in
+      (read.0, read.1, ?, ?),
+)
