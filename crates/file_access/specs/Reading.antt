@@ -1,5 +1,5 @@
 -- What reading a file of a drive gives, and why it gives nothing.
-use Rattle.std.specs.Prelude.{◌≡◌, ℕ, ◌+◌, ◌<◌, ◌≤◌, min, max, Bool, IsTrue, List, ◌++◌, length, take, drop, Some, None, Result, Ok, Err}
+use Rattle.std.specs.Prelude.{◌≡◌, ℕ, ◌+◌, ◌<◌, ◌≤◌, min, max, Bool, IsTrue, List, length, take, drop, Some, None}
 use Rattle.std.specs.Option.{option_map}
 use Rattle.seal_file.specs.declared.damage.Damage.{Damage}
 use Rattle.seal_file.specs.declared.damage.Damage.TheVariants.{Short, Digest, Kind, Spelling, Long}

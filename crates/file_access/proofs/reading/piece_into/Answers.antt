@@ -1,4 +1,4 @@
-use Rattle.std.proofs.Common.{◌≡◌, IsTrue, ◌<◌, ◌+◌, length, arith}
+use Rattle.std.proofs.Common.{arith}
 use Rattle.file_access.proofs.reading.piece_into.Goals as goal
 
 pub returns-else-count-into-clause-cause : goal.returns-else-count-into-clause-cause
@@ -8,5 +8,6 @@ returns-else-count-into-clause-cause g c = (
       let read = (c.in-Ok.ensures.files tells).0 in
       let n = read.2.count in
       let not_all = c.if-count-into.false in
-      (read.0, read.1, ?, ?),
+      let sum = c.saturating_add-end.ensures in
+      (read.0, read.1, (omega (arith, n, not_all), grind (arith, n, not_all, sum))),
 )
