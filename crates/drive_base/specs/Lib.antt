@@ -1,5 +1,9 @@
+pub mod DriveModel
+pub mod DriveSet
 pub mod Faults
 pub mod Files
+pub mod HonestDamage
 pub mod Leaves
 pub mod Names
 pub mod Plan
+pub mod View

@@ -10,7 +10,8 @@ ghost use Rattle.drive_base.specs.Names.{IsPage, NamesAnswers};
 use crate::DriveFault;
 use std::alloc::Global;
 
-/// The most bytes of a name under which a file is put in place.
+/// The most bytes of a name under which a file is put in place: `p/`, a bucket of 63 bytes, `/`, a key of 1,024, `/`, the 32
+/// hex digits of an upload, `/` and the 5 digits of a part, which is the longest name of a register.
 pub const LONGEST_NAME: usize = 1129;
 
 /// A drive of named files.

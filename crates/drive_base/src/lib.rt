@@ -13,6 +13,7 @@
 #![tactic(auto)]
 
 mod drive;
+mod drive_set;
 mod fault;
 mod plan;
 #[cfg(test)]
@@ -20,6 +21,7 @@ mod tests;
 mod trouble;
 
 pub use drive::{Drive, LONGEST_NAME};
+pub use drive_set::{DriveSet, drive_set_laws};
 pub use fault::DriveFault;
 pub use plan::{MOST_DRIVES, SetPlan, usual_parity};
 pub use trouble::Trouble;

@@ -4,20 +4,22 @@ ghost use Rattle.std.specs.Prelude.{◌≡◌, ◌↔◌, ◌+◌, ◌*◌, ◌<
 ghost use Rattle.std.specs.Int.{IsBitSet};
 ghost use Rattle.drive_base.specs.Plan.{data_drives, write_drives, usual_parity_of};
 
+use crate::DriveSet;
+
 /// The most drives that a set has.
 pub const MOST_DRIVES: u8 = 16;
 
 /// An erasure set of 4 to 16 drives, with indices from 0, of which 1 to half are parity.
 #[derive(Clone, Copy, Debug, PartialEq, Eq)]
 pub struct SetPlan {
-    /// The set's id.
+    /// The set's id, a UUID.
     pub id: [u8; 16],
     /// How many drives the set has.
     pub drives: u8,
     /// How many of them are parity.
     pub parity: u8,
-    /// A mask of the drives that are out: bit i stands for drive i. They are neither read nor written.
-    pub out: u16,
+    /// The drives that are out. They are neither read nor written.
+    pub out: DriveSet,
     pub ghost enough_drives: { 4 ≤ drives },
     pub ghost few_drives: { drives ≤ 16 },
     pub ghost some_parity: { 1 ≤ parity },
@@ -40,7 +42,7 @@ impl SetPlan {
             id,
             drives,
             parity,
-            out: 0,
+            out: DriveSet::none(),
         }
     }
 
@@ -70,12 +72,12 @@ impl SetPlan {
         requires { index < self.now.drives }
         ensures { IsTrue result ↔ IsBitSet self.now.out index }
     {
-        self.out & (1 << index) != 0
+        self.out.has(index)
     }
 }
 
 /// The parity of a set of so many drives, unless it is said otherwise: 2 of 4 or 5 drives, 3 of 6 or 7, and 4 of
-/// more.
+/// more, as MinIO has it.
 pub fn usual_parity(drives: u8) -> u8
     requires { 4 ≤ drives }
     ensures parity { result ≡ usual_parity_of drives }

@@ -73,6 +73,8 @@ struct Stumble {
 }
 
 impl Trouble<Liar> for Stumble {
+    ghost befalls = { λ _ _ _ _. Unit {0} };
+
     fn strike(&mut self, drive: &mut Liar) -> bool {
         if drive.faults >= self.below {
             return false;
@@ -145,9 +147,26 @@ fn quorums_of_the_usual_sets(rt: HostRuntime) -> Result<(), Fail> {
 }
 
 #[test]
+fn a_set_has_its_drives(rt: HostRuntime) -> Result<(), Fail> {
+    let set = DriveSet::none().with(3).with(0).with(3);
+    assert_eq!(rt; set.mask(), 0b1001);
+    assert_eq!(rt;
+        [set.has(0), set.has(1), set.has(3), set.has(15)],
+        [true, false, true, false]
+    );
+    assert_eq!(rt;
+        [set.count(0), set.count(3), set.count(4), set.count(16)],
+        [0, 1, 2, 2]
+    );
+    let other = DriveSet::from_mask(0b1010);
+    assert_eq!(rt; set.either(other).mask(), 0b1011);
+    Ok(())
+}
+
+#[test]
 fn a_mask_names_the_drives_that_are_out(rt: HostRuntime) -> Result<(), Fail> {
     let mut plan = SetPlan::new([0; 16], 4, 1);
-    plan.out = 0b1010;
+    plan.out = DriveSet::from_mask(0b1010);
     assert_eq!(rt;
         [
             plan.is_out(0),
