@@ -52,7 +52,7 @@ for drives, parity in SETS:
     for length in LENGTHS:
         print("\n".join(row(drives, parity, length)))
 print("// The root of no block.")
-print(array(shard([])[3]))
+print(f"const NO_BLOCK: [u8; 32] = {array(shard([])[3])};")
 print("// `hello` over 4 drives with 2 of parity: each shard's block, its digest, and the root.")
 for block in all_blocks(b"hello", 4, 2):
     file, _, _, root = shard([block])

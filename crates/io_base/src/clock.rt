@@ -1,3 +1,5 @@
+//! What tells the time.
+
 ghost use Rattle.std.specs.Prelude.{◌≡◌, ◌<◌, ℕ, None, Some, Option, IfSome};
 
 use std::marker::Model;
@@ -17,7 +19,8 @@ pub trait Clock {
         ensures range { result < MOMENT_LIMIT }
         ensures told { IfSome (moment self.now) (λ m. result ≡ m) };
 
-    /// Waits for so many seconds, where the clock can.
+    /// Waits for so many seconds, where the clock can. It changes nothing that a contract sees, and it returns; that it
+    /// waits, or for how long, is said of no clock.
     fn rest(&self, seconds: u64);
 }
 

@@ -1,3 +1,5 @@
+//! Why a source or a sink failed.
+
 use thiserror::Error;
 
 /// Why a source or a sink failed. The cause is not kept: it is counted where it was met.

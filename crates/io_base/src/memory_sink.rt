@@ -1,3 +1,5 @@
+//! A sink in memory.
+
 ghost use Rattle.std.specs.Prelude.{◌≡◌, [], Some};
 ghost use Rattle.io_base.specs.Count.{CountsFault};
 ghost use Rattle.io_base.specs.Sink.{Gave};

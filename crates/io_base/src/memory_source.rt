@@ -1,3 +1,5 @@
+//! A source in memory.
+
 ghost use Rattle.std.specs.Prelude.{◌≡◌, ◌++◌, Some, length, min, take, drop};
 ghost use Rattle.io_base.specs.Count.{CountsFault};
 ghost use Rattle.io_base.specs.Source.{Took};

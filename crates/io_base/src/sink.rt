@@ -1,3 +1,5 @@
+//! The trait of all sinks.
+
 ghost use Rattle.std.specs.Prelude.{◌≡◌, ℕ, List, Option};
 ghost use Rattle.io_base.specs.Count.{CountsFault};
 ghost use Rattle.io_base.specs.Sink.{Gave};

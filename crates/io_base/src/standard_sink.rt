@@ -1,3 +1,5 @@
+//! A sink over a writer of the outside.
+
 ghost use Rattle.std.specs.Prelude.{◌≡◌, None, MatchBool};
 ghost use Rattle.std.specs.Io.KnownBytes.{Appends};
 ghost use Rattle.io_base.specs.Count.{CountsFault};

@@ -1,3 +1,5 @@
+//! A source over a reader of the outside.
+
 ghost use Rattle.std.specs.Prelude.{◌≡◌, ℕ, None};
 ghost use Rattle.std.specs.Io.KnownBytes.{ReadConsumes};
 ghost use Rattle.io_base.specs.Count.{CountsFault};

@@ -123,6 +123,47 @@ fn standard_sink_writes_all_or_counts_a_fault(rt: HostRuntime) -> Result<(), Fai
     Ok(())
 }
 
+/// A writer that takes all, counts its flushes, and fails each one where it is broken.
+#[derive(Drop)]
+struct Flushed {
+    bytes: Vec<u8>,
+    flushes: u64,
+    is_broken: bool,
+}
+
+impl Write for Flushed {
+    fn write(&mut self, buf: &[u8]) -> io::Result<usize> {
+        self.bytes.extend_from_slice(buf)?;
+        Ok(buf.len())
+    }
+
+    fn flush(&mut self) -> io::Result<()> {
+        self.flushes = self.flushes.saturating_add(1);
+        if self.is_broken {
+            return Err(io::Error::from(ErrorKind::BrokenPipe));
+        }
+        Ok(())
+    }
+}
+
+#[test]
+fn standard_sink_flushes_each_give(rt: HostRuntime) -> Result<(), Fail> {
+    let mut writer = Flushed {
+        bytes: Vec::new(rt.alloc()),
+        flushes: 0,
+        is_broken: false,
+    };
+    let mut sink = StdSink::new(&mut writer);
+    assert_eq!(rt; (sink.give(b"he"), sink.give(b"")), (Ok(()), Ok(())));
+    assert_eq!(rt; writer.flushes, 2);
+    writer.is_broken = true;
+    let mut sink = StdSink::new(&mut writer);
+    assert_eq!(rt; sink.give(b"llo"), Err(IoFault::Failed));
+    assert_eq!(rt; sink.write_faults(), 1);
+    assert_eq!(rt; writer.bytes.as_slice(), b"hello".as_slice());
+    Ok(())
+}
+
 /// A runtime whose clock reads so many seconds, or can't be read.
 #[derive(Drop)]
 struct FixedTime(Option<u64>);
