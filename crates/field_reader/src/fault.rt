@@ -47,9 +47,5 @@ impl<T: Drop> From<AllocFailed<T>> for ReadFault {
 pub fn refuse_unless(kept: bool, start: u64) -> Result<(), Misspelled>
     ensures { result ≡ (if kept then Ok tt else Err (record { 0 = start })) }
 {
-    if kept {
-        Ok(())
-    } else {
-        Err(Misspelled(start))
-    }
+    if kept { Ok(()) } else { Err(Misspelled(start)) }
 }

@@ -18,8 +18,8 @@ ghost use Rattle.manifest_file.specs.declared.manifest.Manifest.{Manifest};
 use crate::lists::{Parts, Roots};
 use crate::manifest::{KIND, MOST_PART_BYTES, MOST_PARTS, Manifest, ManifestPart};
 use field_reader::{Fields, ReadFault, refuse_unless};
-use stamp_id::take_id;
 use seal_file::{FileRead, Text, unseal};
+use stamp_id::take_id;
 use std::alloc::Global;
 
 /// Takes the format number, which must be 1.

@@ -7,9 +7,9 @@ ghost use Rattle.manifest_file.specs.Spelling.{name_bytes, roots_bytes, part_byt
 ghost use Rattle.manifest_file.specs.Canonical.{IsName, IsCanonicalPart, IsCanonical};
 
 use crate::manifest::{KIND, Manifest, ManifestPart};
+use fault_base::NoMemory;
 use field_reader::{put_bytes, put_u8, put_u16, put_u64};
 use seal_file::{Text, seal};
-use fault_base::NoMemory;
 use std::alloc::{AllocError, Global};
 
 /// Appends the name of a register: its length, and its bytes.

@@ -23,8 +23,8 @@ use crate::undone::Undone;
 use crate::{bodies, files};
 use call_types::{KeyRefusal, Mode, Pick, Reply, Version, What};
 use drive_base::Drive;
-use io_base::Sink;
 use fault_base::NoMemory;
+use io_base::Sink;
 use std::alloc::Global;
 use version_list::find;
 

@@ -5,8 +5,8 @@ ghost use Rattle.version_list.specs.Step as step;
 ghost use Rattle.ostore.specs.Replies.{reply_text, found_reply, reply_head, refusal_head, plain_head, marker_head, status_line, length_line, etag_line, etag_of, name_text, id_line, marker_line, bad_request, unavailable_text};
 
 use call_types::{Etag, Mode, Refusal, Reply, Version, VersionName, What};
-use itoa::Buffer;
 use fault_base::NoMemory;
+use itoa::Buffer;
 use std::alloc::Global;
 
 /// The refusal of a head. It takes no memory.

@@ -11,10 +11,10 @@ use crate::names::{Names, names_of};
 use crate::shards::{Shards, shards_of};
 use crate::staged::{StageFault, Staged};
 use drive_base::{Drive, SetPlan};
+use fault_base::NoMemory;
 use manifest_file::{Manifest, ManifestPart, Parts, Roots, print_of, write};
 use md5::{Digest, Md5};
 use seal_file::Text;
-use fault_base::NoMemory;
 use stamp_id::VersionId;
 use std::alloc::Global;
 

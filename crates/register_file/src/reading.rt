@@ -18,9 +18,8 @@ ghost use Rattle.register_file.specs.declared.record.RegFile.{RegFile};
 
 use crate::record::{Adds, Base, KIND, Next, RegFile};
 use field_reader::{Fields, ReadFault, refuse_unless};
-use stamp_id::take_id;
 use seal_file::{Bytes, FileRead, unseal};
-use stamp_id::{Ballot, ChangeId};
+use stamp_id::{Ballot, ChangeId, take_id};
 use std::alloc::Global;
 
 /// The terms are below this.

@@ -3,8 +3,8 @@ ghost use Rattle.register_file.specs.Answers.{IsReadAs};
 ghost use Rattle.register_file.specs.Record.{IsCanonical};
 
 use super::*;
-use seal_file::{Bytes, Damage, FileRead, seal};
 use fault_base::NoMemory;
+use seal_file::{Bytes, Damage, FileRead, seal};
 use stamp_id::{Ballot, ChangeId, VersionId};
 use std::alloc::{AllocError, Global};
 

@@ -9,9 +9,9 @@ ghost use Rattle.register_file.specs.declared.record.Adds.{Adds};
 ghost use Rattle.register_file.specs.declared.record.Next.{Next};
 
 use crate::record::{Adds, Base, KIND, Next, RegFile};
+use fault_base::NoMemory;
 use field_reader::{put_bytes, put_u8, put_u32, put_u64};
 use seal_file::{Bytes, seal};
-use fault_base::NoMemory;
 use stamp_id::Ballot;
 use std::alloc::{AllocError, Global};
 

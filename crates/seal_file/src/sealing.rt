@@ -5,8 +5,8 @@ ghost use Rattle.seal_file.specs.Sealing.{sealed, IsDamage, Unseals, SealedIsInj
 ghost use Rattle.seal_file.specs.declared.damage.Damage.{Damage};
 
 use crate::damage::Damage;
-use sha2::{Digest, Sha256};
 use fault_base::NoMemory;
+use sha2::{Digest, Sha256};
 use std::alloc::Global;
 
 /// The file of a kind and a body: both, and the SHA-256 of both together. It allocates once, and want of

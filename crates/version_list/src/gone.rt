@@ -8,8 +8,8 @@ ghost use Rattle.version_list.specs.Gone.{data_of, is_data, has_data, gone_bytes
 
 use crate::edit::is_named;
 use call_types::{Version, VersionName, What};
-use seal_file::Bytes;
 use fault_base::NoMemory;
+use seal_file::Bytes;
 use stamp_id::VersionId;
 use std::alloc::Global;
 

@@ -13,8 +13,7 @@ ghost use Rattle.version_list.specs.Known.{is_known, AddsName};
 use crate::names::Names;
 use call_types::VersionName;
 use field_reader::{Fields, ReadFault, refuse_unless};
-use stamp_id::take_id;
-use stamp_id::VersionId;
+use stamp_id::{VersionId, take_id};
 
 /// Whether these bytes are zeros.
 #[tactic(auto, unfolding(crate::specs::Layout::is_no_id))]

@@ -19,9 +19,9 @@ use call_types::{
     Act, Brief, Etag, KeyRefusal, Mode, Pick, Reply, Upload, Uploads, Version, VersionName,
     Versions, What,
 };
+use fault_base::NoMemory;
 use lists::{are_same_uploads, are_same_versions, beside, lost, others, still_open};
 use seal_file::Text;
-use fault_base::NoMemory;
 use stamp_id::VersionId;
 use std::alloc::Global;
 

@@ -17,8 +17,8 @@ use crate::names::Names;
 use crate::state::{KeyState, MOMENT_LIMIT, MOST_UPLOADS, MOST_VERSIONS};
 use call_types::{ListRead, Upload, Uploads, Version, Versions, What};
 use field_reader::{Fields, ReadFault, refuse_unless};
-use stamp_id::take_id;
 use seal_file::Text;
+use stamp_id::take_id;
 use std::alloc::Global;
 
 /// Takes a moment in Unix seconds, which must be before the year 10000.

@@ -8,8 +8,8 @@ ghost use Rattle.version_list.specs.Step.{replaced};
 use crate::gone::push_gone;
 use crate::same::{is_same, is_same_id, is_same_text};
 use call_types::{Mode, Upload, Uploads, Version, VersionName};
-use seal_file::Bytes;
 use fault_base::NoMemory;
+use seal_file::Bytes;
 use stamp_id::VersionId;
 use std::alloc::Global;
 
