@@ -36,16 +36,18 @@ pub struct PlainEnded<D> {
 /// source to the sink. The word behind it is the versioning of the one bucket, `pic`: `off`, `on` or `suspended`;
 /// `pipe` alone is `pipe off`.
 ///
-/// The replies are those of versioned objects as S3 has them, one after another, from keys without versions. A PUT or a DELETE
-/// that is answered 503 is done or leaves the key as it was. After one that is answered otherwise, every drive keeps
-/// the key's new state, and each keeps both files of a body that was put and shows none of the data that was taken out,
-/// unless it failed in that request. No request touches the file of another key, or data that stays. One that finds no
-/// memory leaves the file of every key, though its body may be written by then. In the end drive 0 keeps each key's state, and all drives but one at most keep the files of each
-/// version's data, of which the manifest names the key's file. This holds of drives that tell what they hold.
+/// Of drives that tell what they hold: the replies are those of versioned objects as S3 has them, one after another, from
+/// keys without versions, and a body is each one of its version's print and length, or two byte strings with one SHA-256
+/// were met. A PUT or a DELETE that is answered 503 is done or leaves the key as it was. After one that is answered
+/// otherwise, every drive keeps the key's new state, and each keeps both files of a body that was put and shows none of
+/// the data that was taken out, unless it failed in that request. No request touches the file of another key, or data
+/// that stays. One that finds no memory leaves the file of every key, though its body may be written by then. In the end
+/// drive 0 keeps each key's state, and all drives but one at most keep the files of each version's data, of which the
+/// manifest names the key's file.
 ///
-/// What was read and given, that a body is each one of its version's print and length or two byte strings with one
-/// SHA-256 were met, how the run ended, that nothing changes after the last answer unless memory ran out, and that each
-/// 503 and each status has its cause, holds of all.
+/// Of all drives: what was read and given, how the run ended, that nothing changes after the last answer unless memory
+/// ran out, and that each 503 and each status has its cause. Where one drive tells nothing, no clause ties the bytes of a
+/// body to a version.
 pub fn run<R: AllocGlobal, S: Source, K: Sink, D: Drive, C: Clock>(
     rt: &R,
     words: &[String],
