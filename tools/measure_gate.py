@@ -1,0 +1,79 @@
+#!/usr/bin/env python3
+"""Measures what a gate costs: the processor minutes of each crate's proof, of its tests' and of its must-fail edits.
+
+    tools/measure_gate.py COMMAND..      runs the command, as `rt ci`, and prints a table when it has ended
+
+It looks each second at the provers that run, and adds up the processor time that each of them had used when it was last
+seen. Of a crate that an earlier run kept nothing is seen, so measure where nothing is kept. Start no other prover beside it.
+"""
+
+import collections
+import os
+import pathlib
+import subprocess
+import sys
+import time
+
+TICKS = os.sysconf("SC_CLK_TCK")
+
+
+def words_of(process):
+    return (process / "cmdline").read_bytes().decode(errors="replace").split("\0")
+
+
+def seconds_of(process):
+    """The processor seconds of a process and of its children that have ended."""
+    fields = (process / "stat").read_text().rpartition(")")[2].split()
+    return sum(int(field) for field in fields[11:15]) / TICKS
+
+
+def kind_of(words, folder):
+    if "rt-edit" in folder:
+        return "edits"
+    if "--test" in words:
+        return "tests"
+    return "proof"
+
+
+def look(seen):
+    """Notes the processor time of each prover that runs now."""
+    for process in pathlib.Path("/proc").iterdir():
+        if not process.name.isdigit():
+            continue
+        try:
+            words = words_of(process)
+            if not words[0].endswith("/rattle") or "--crate-name" not in words:
+                continue
+            crate = words[words.index("--crate-name") + 1]
+            kind = kind_of(words, os.readlink(process / "cwd"))
+            seen[process.name, crate, kind] = seconds_of(process)
+        except (OSError, IndexError, ValueError):
+            continue
+
+
+def print_table(seen):
+    spent = collections.defaultdict(lambda: collections.Counter())
+    for (_, crate, kind), seconds in seen.items():
+        spent[crate][kind] += seconds / 60
+    total = collections.Counter()
+    print("| Crate | Proof | Tests | Edits | Sum |\n|---|---|---|---|---|")
+    for crate in sorted(spent):
+        row = [spent[crate][kind] for kind in ("proof", "tests", "edits")]
+        total.update(spent[crate])
+        print(f"| `{crate}` | {row[0]:.1f} | {row[1]:.1f} | {row[2]:.1f} | {sum(row):.1f} |")
+    row = [total[kind] for kind in ("proof", "tests", "edits")]
+    print(f"| all | {row[0]:.1f} | {row[1]:.1f} | {row[2]:.1f} | {sum(row):.1f} |")
+
+
+def main():
+    seen = {}
+    run = subprocess.Popen(sys.argv[1:])
+    while run.poll() is None:
+        look(seen)
+        time.sleep(1)
+    print_table(seen)
+    return run.returncode
+
+
+if __name__ == "__main__":
+    sys.exit(main())
