@@ -1,6 +1,6 @@
 //! Parity and rebuilt blocks.
 
-ghost use Rattle.std.specs.Prelude.{◌≡◌, ℕ, ◌*◌, ◌<◌, ◌++◌, All, length, slice_index};
+ghost use Rattle.std.specs.Prelude.{◌≡◌, ℕ, ◌*◌, ◌<◌, ◌++◌, All, IfSome, length, slice_index};
 ghost use Rattle.drive_base.specs.Plan.{data_drives};
 ghost use Rattle.poly_code.specs.Codeword.{AreDistinct, Codeword, IsOfCodeword};
 ghost use Rattle.poly_code.specs.Columns.{column};
@@ -47,5 +47,23 @@ pub fn rebuild(set: SetPlan, rows: &[u8], have: &[u8], which: u8, out: &mut [u8]
         IsOfCodeword set.drives (data_drives set.drives set.parity) rows.now
         (column (data_drives set.drives set.parity) (length out.old) k have.now) which (slice_index out.new k) }
 {
+    if let Some(index) = place_of(rows, which) {
+        let from = index * out.len();
+        let end = from + out.len();
+        out.copy_from_slice(&have[from..end]);
+        return;
+    }
     fill_block(rows, have, which, out);
+}
+
+/// The place of a number among the rows.
+fn place_of(rows: &[u8], which: u8) -> Option<usize>
+    ensures { IfSome result (λ index. (index < length rows.now) × (slice_index rows.now index ≡ which)) }
+{
+    for index in 0..rows.len() {
+        if rows[index] == which {
+            return Some(index);
+        }
+    }
+    None
 }
