@@ -1,3 +1,6 @@
+pub mod FoldLemmas
 pub mod LaneLemmas
-pub mod TableLemmas
+pub mod RowLemmas
+pub mod StepLemmas
 pub mod SumLemmas
+pub mod TableLemmas

@@ -4,6 +4,7 @@ use Rattle.gf256.specs.Field.{product}
 
 -- the products of an element with the bytes whose high half is 0, and then with those whose low half is 0
 pub record IsTable (element : ℕ) (table : List ℕ) : Type 0 where
+  pub byte : element < 256
   pub low : (n : ℕ) → n < 16 → slice_index table n ≡ product element n
   pub high : (n : ℕ) → n < 16 → slice_index table (16 + n) ≡ product element (16 * n)
 

@@ -50,7 +50,7 @@ fn strip(tables: &[[u8; 32]; 16], count: usize, blocks: &[u8], width: usize, at:
 }
 
 /// The same as `sum_into`, for blocks that are shorter than a vector.
-fn sum_bytes(weights: &[u8], blocks: &[u8], out: &mut [u8])
+pub(crate) fn sum_bytes(weights: &[u8], blocks: &[u8], out: &mut [u8])
     requires { length blocks.now ≡ length weights.now * length out.old }
     ensures { AreSums weights.now blocks.now out.new }
 {
