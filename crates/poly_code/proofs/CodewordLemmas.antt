@@ -1,5 +1,5 @@
 -- The codewords that encoding and rebuilding give, and that codewords which agree are equal.
-use Rattle.std.proofs.Common.{◌≡◌, ℕ, ◌+◌, ◌-◌, ◌*◌, ◌<◌, ◌≤◌, List, ◌++◌, length, get_or, take, sym, ◌∙◌, ap, inl, inr, arith}
+use Rattle.std.proofs.Common.{◌≡◌, ℕ, ◌+◌, ◌-◌, ◌*◌, ◌<◌, ◌≤◌, List, ◌++◌, length, get_or, take, sym, subst, ◌∙◌, ap, ◌/◌, inl, inr, arith}
 use Rattle.std.specs.Prelude.{All, map}
 use Rattle.std.specs.List.{range_with_len}
 use Rattle.std.proofs.lemmas.Bool.{cases_lt}
@@ -11,10 +11,11 @@ use Rattle.gf256.proofs.Roots.{polynomials_agree}
 use Rattle.poly_code.specs.Codeword.{Codeword, IsOfCodeword, AgreeingCodewordsAreEqual}
 use Rattle.poly_code.specs.Columns.{byte_of_block, column}
 use Rattle.poly_code.specs.Lagrange.{IsValueThrough}
+use Rattle.poly_code.proofs.ValueLemmas.{AreValues}
 use Rattle.poly_code.specs.declared.code.TheConstants.{ROWS}
 use Rattle.poly_code.proofs.Differences.{AreRows, are_rows}
 use Rattle.poly_code.proofs.Interpolation.{Interpolant, interpolated}
-use Rattle.poly_code.proofs.BlockLemmas.{length-data_rows, data_rows-at, data_rows-distinct}
+use Rattle.poly_code.proofs.BlockLemmas.{length-data_rows, data_rows-at, data_rows-distinct, width_is, width-unique}
 
 -- a column has a byte of each block
 pub length-column : (count width k : ℕ) (blocks : List ℕ) → length (column count width k blocks) ≡ count
@@ -52,6 +53,16 @@ rebuilt n d width k which byte rows have are count within inside fit value =
       at_which = values_below-at n found.coefficients which inside ∙ sym (value found.coefficients found.elements found.count found.through);
     }
 
+-- the numbers of the data blocks are bytes and distinct
+pub data_rows-are : (d : ℕ) → d ≤ 16 → AreRows (take d ROWS)
+data_rows-are d few = are_rows (take d ROWS) byte (data_rows-distinct d few)
+  where
+    byte : (i : ℕ) → get_or (take d ROWS) i 0 < 256
+    byte i = elim (cases_lt i d) [
+      | inl low ↦ let e : get_or (take d ROWS) i 0 ≡ i = data_rows-at d i few low in omega arith
+      | inr high ↦ let e : get_or (take d ROWS) i 0 ≡ 0 = get_or_past (take d ROWS) i 0 (omega (arith, length-data_rows d few)) in omega arith
+    ]
+
 -- the codeword of the data and the parity
 pub encoded : (n d p width k : ℕ) (blocks out : List ℕ) → d + p ≡ n → d ≤ 16 → ((i : ℕ) → get_or blocks i 0 < 256) →
     ((q : ℕ) → q < p → IsValueThrough (take d ROWS) (byte_of_block width k blocks) (d + q) (get_or out (q * width + k) 0)) →
@@ -75,17 +86,21 @@ encoded n d p width k blocks out whole few fit parity = record {
   ];
 }
   where
-    row_byte : (i : ℕ) → get_or (take d ROWS) i 0 < 256
-    row_byte i = elim (cases_lt i d) [
-      | inl low ↦ let e : get_or (take d ROWS) i 0 ≡ i = data_rows-at d i few low in omega arith
-      | inr high ↦ let e : get_or (take d ROWS) i 0 ≡ 0 = get_or_past (take d ROWS) i 0 (omega (arith, length-data_rows d few)) in omega arith
-    ]
-
-    are : AreRows (take d ROWS)
-    are = are_rows (take d ROWS) row_byte (data_rows-distinct d few)
-
     found : Interpolant (take d ROWS) (byte_of_block width k blocks)
-    found = interpolated (take d ROWS) (byte_of_block width k blocks) are (λ i below. fit (i * width + k))
+    found = interpolated (take d ROWS) (byte_of_block width k blocks) (data_rows-are d few) (λ i below. fit (i * width + k))
+
+-- the same where the parity blocks are blocks of values, for whatever width the data blocks are said to have
+pub encoded_values : (n d p given : ℕ) (blocks out : List ℕ) (total : ℕ) → d ≡ n - p → d + p ≡ n → d ≤ 16 → 0 < d → 0 < p
+    → length blocks ≡ (n - p) * given → total ≡ p * given → ((i : ℕ) → get_or blocks i 0 < 256)
+    → AreValues (take d ROWS) (total / p) blocks d p out
+    → (width : ℕ) → length blocks ≡ (n - p) * width → (k : ℕ) → k < width
+    → Codeword n (n - p) (column (n - p) width k blocks ++ column p width k out)
+encoded_values n d p given blocks out total quorum whole few some some_parity blocks_long out_long fit values width long k lt =
+    let same : given ≡ width = width-unique (n - p) given width (omega arith) (sym blocks_long ∙ long) in
+    let computed : total / p ≡ width = width_is total p given some_parity out_long ∙ same in
+    let kept : AreValues (take d ROWS) width blocks d p out = subst (λ w. AreValues (take d ROWS) w blocks d p out) computed values in
+    let parity : AreValues (take (n - p) ROWS) width blocks (n - p) p out = subst (λ m. AreValues (take m ROWS) width blocks m p out) quorum kept in
+    encoded n (n - p) p width k blocks out (omega arith) (omega arith) fit (λ q below. parity q k below lt)
 
 -- codewords that agree at as many places as they have coefficients are equal
 pub codewords_agree : AgreeingCodewordsAreEqual

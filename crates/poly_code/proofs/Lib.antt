@@ -2,4 +2,6 @@ pub mod Differences
 pub mod Interpolation
 pub mod CodewordLemmas
 pub mod BlockLemmas
-pub mod AddedProducts
+pub mod SumsOfWeights
+pub mod FoldWeights
+pub mod ValueLemmas

@@ -1,83 +1,91 @@
 //! The arithmetic of whole blocks.
 
-ghost use Rattle.std.specs.Prelude.{◌≡◌, ℕ, ◌*◌, ◌<◌, bit_xor, length, slice_index};
-ghost use Rattle.gf256.specs.Field.{product};
+ghost use Rattle.std.specs.Prelude.{◌≡◌, ℕ, ◌+◌, ◌*◌, ◌<◌, ◌≤◌, length, slice_index};
 ghost use Rattle.poly_code.specs.Codeword.{AreDistinct};
-ghost use Rattle.poly_code.specs.Columns.{AddsProduct, byte_of_block};
-ghost use Rattle.poly_code.specs.Lagrange.{IsValueThrough};
+ghost use Rattle.poly_code.specs.Columns.{byte_of_block};
+ghost use Rattle.poly_code.specs.Lagrange.{IsValueThrough, weight};
 
 use crate::weight::weight_of;
-use gf256::mul;
+use code_lanes::{sum_into, two_sums_into};
 
 /// Fills a block with the values at a point, byte by byte, of the polynomial that has the values of the blocks of
 /// `have` at the rows.
 pub fn fill_block(rows: &[u8], have: &[u8], point: u8, out: &mut [u8])
+    requires few { length rows.now ≤ 16 }
     requires distinct { AreDistinct rows.now }
     requires have { length have.now ≡ length rows.now * length out.old }
     ensures { (k : ℕ) → k < length out.old →
         IsValueThrough rows.now (byte_of_block (length out.old) k have.now) point (slice_index out.new k) }
 {
-    out.fill(0);
-    let width = out.len();
+    sum_into(&weights_of(rows, point)[..rows.len()], have, out);
+}
+
+/// Fills `count` blocks of one width, with the values at a point and at those after it.
+pub fn fill_blocks(rows: &[u8], have: &[u8], width: usize, point: u8, count: u8, out: &mut [u8])
+    requires few { length rows.now ≤ 16 }
+    requires distinct { AreDistinct rows.now }
+    requires have { length have.now ≡ length rows.now * width }
+    requires points { point + count < 256 }
+    requires out { length out.old ≡ count * width }
+    ensures { (p k : ℕ) → p < count → k < width →
+        IsValueThrough rows.now (byte_of_block width k have.now) (point + p) (slice_index out.new (p * width + k)) }
+{
+    fill_pairs(rows, have, width, point, count / 2, out);
+    if count % 2 == 1 {
+        let last = count - 1;
+        let from = last as usize * width;
+        fill_block(rows, have, point + last, &mut out[from..from + width]);
+    }
+}
+
+/// Fills the first `pairs` pairs of such blocks.
+fn fill_pairs(rows: &[u8], have: &[u8], width: usize, point: u8, pairs: u8, out: &mut [u8])
+    requires few { length rows.now ≤ 16 }
+    requires distinct { AreDistinct rows.now }
+    requires have { length have.now ≡ length rows.now * width }
+    requires points { point + 2 * pairs < 256 }
+    requires out { 2 * pairs * width ≤ length out.old }
+    ensures { (p k : ℕ) → p < 2 * pairs → k < width →
+        IsValueThrough rows.now (byte_of_block width k have.now) (point + p) (slice_index out.new (p * width + k)) }
+{
+    for pair in 0..pairs {
+        let row = 2 * pair;
+        let from = row as usize * width;
+        fill_two_blocks(
+            rows,
+            have,
+            width,
+            point + row,
+            &mut out[from..from + 2 * width],
+        );
+    }
+}
+
+fn fill_two_blocks(rows: &[u8], have: &[u8], width: usize, point: u8, out: &mut [u8])
+    requires few { length rows.now ≤ 16 }
+    requires distinct { AreDistinct rows.now }
+    requires have { length have.now ≡ length rows.now * width }
+    requires points { point < 255 }
+    requires out { length out.old ≡ 2 * width }
+    ensures { (p k : ℕ) → p < 2 → k < width →
+        IsValueThrough rows.now (byte_of_block width k have.now) (point + p) (slice_index out.new (p * width + k)) }
+{
+    let weights = weights_of(rows, point);
+    let others = weights_of(rows, point + 1);
+    let count = rows.len();
+    let (first, second) = out.split_at_mut(width);
+    two_sums_into(&weights[..count], &others[..count], have, first, second);
+}
+
+/// How often the value at each row is counted in the value at a point.
+fn weights_of(rows: &[u8], point: u8) -> [u8; 16]
+    requires few { length rows.now ≤ 16 }
+    requires distinct { AreDistinct rows.now }
+    ensures { (i : ℕ) → i < length rows.now → slice_index result i ≡ weight rows.now i point }
+{
+    let mut weights = [0; 16];
     for index in 0..rows.len() {
-        let weight = weight_of(rows, index, point);
-        let from = index * width;
-        add_product(weight, &have[from..from + width], out);
+        weights[index] = weight_of(rows, index, point);
     }
-}
-
-/// Adds the product of an element with each byte of a block to the bytes of another.
-pub fn add_product(element: u8, source: &[u8], into: &mut [u8])
-    requires { length source.now ≡ length into.old }
-    ensures { AddsProduct element source.now into.old into.new }
-{
-    match element {
-        0 => (),
-        1 => add_block(source, into),
-        _ if source.len() < 256 => add_byte_by_byte(element, source, into),
-        _ => add_by_table(element, source, into),
-    }
-}
-
-/// Adds the bytes of a block to those of another: the element 1 has the bytes themselves as its products.
-fn add_block(source: &[u8], into: &mut [u8])
-    requires { length source.now ≡ length into.old }
-    ensures { (k : ℕ) → k < length into.old → slice_index into.new k ≡ bit_xor (slice_index into.old k) (slice_index source.now k) }
-{
-    for k in 0..into.len() {
-        into[k] ^= source[k];
-    }
-}
-
-/// The same, with one multiplication a byte: for short blocks.
-fn add_byte_by_byte(element: u8, source: &[u8], into: &mut [u8])
-    requires { length source.now ≡ length into.old }
-    ensures { AddsProduct element source.now into.old into.new }
-{
-    for k in 0..into.len() {
-        into[k] ^= mul(element, source[k]);
-    }
-}
-
-/// The same, with the products of the element looked up.
-fn add_by_table(element: u8, source: &[u8], into: &mut [u8])
-    requires { length source.now ≡ length into.old }
-    ensures { AddsProduct element source.now into.old into.new }
-{
-    let products = products_of(element);
-    for k in 0..into.len() {
-        into[k] ^= products[source[k] as usize];
-    }
-}
-
-/// The products of an element with each byte.
-fn products_of(element: u8) -> [u8; 256]
-    ensures long { length result ≡ 256 }
-    ensures each { (byte : ℕ) → byte < 256 → slice_index result byte ≡ product element byte }
-{
-    let mut products = [0; 256];
-    for byte in 0..256usize {
-        products[byte] = mul(element, byte as u8);
-    }
-    products
+    weights
 }

@@ -4,12 +4,13 @@
 //! are the values of one polynomial over the field of 256 elements at the points 0, 1, .. N - 1, with D
 //! coefficients ([`Codeword`] of the specs). So any D blocks determine the others.
 //!
-//! The crate stands on `gf256` for the field and on `drive_base` for the plan of a set. It promises that
-//! [`encode`] gives the parity of which every column is a codeword, that [`rebuild`] gives the block of the one
-//! codeword through the D blocks that it is given, and that this codeword is one ([`codeword_laws`]). It takes no
-//! memory and refuses nothing.
+//! The crate stands on `gf256` for the field, on `code_lanes` for sums of products of whole blocks, and on `drive_base`
+//! for the plan of a set. It promises that [`encode`] gives the parity of which every column is a codeword, that
+//! [`rebuild`] gives the block of the one codeword through the D blocks that it is given, and that this codeword is one
+//! ([`codeword_laws`]). It takes no memory and refuses nothing.
 //!
-//! The weights of a block are worked out once a call. The loops run over whole blocks, source by source.
+//! Where D is 2, 4 or 8 the parity comes of the transform of `code_lanes`, else of weighted sums. The weights are worked
+//! out once a call. A block that is at hand is copied.
 #![tactic(auto)]
 
 mod block;

@@ -1,4 +1,4 @@
-//! Blocks that are long enough for tables of products.
+//! Blocks that are longer than a vector, by a part of one.
 
 use super::plain::{encoded, plain_value, rebuilt};
 use super::worked::small_set;
