@@ -1,0 +1,5 @@
+pub mod Order
+pub mod Passes
+pub mod Steps
+pub mod Tickets
+pub mod Views
