@@ -79,6 +79,7 @@ fn fold_four(blocks: &[u8], width: usize, rows: usize, out: &mut [u8])
     ensures { (row k : ℕ) → row < rows → k < width →
         slice_index out.new (row * width + k) ≡ fold_at 4 width blocks.now row k }
 {
+    // n_0 at 2, 4 and 6. The last is n_1(4) too.
     let tables = tables_of(&[2, 4, 6]);
     for index in 0..width / LANES + 1 {
         let end = width - LANES * index;
@@ -108,6 +109,7 @@ fn fold_eight(blocks: &[u8], width: usize, rows: usize, out: &mut [u8])
     ensures { (row k : ℕ) → row < rows → k < width →
         slice_index out.new (row * width + k) ≡ fold_at 8 width blocks.now row k }
 {
+    // n_0 at 2, 4 and 6, n_2(8), n_1(8) and n_0 at 8 and 10, n_1(12) and n_0 at 12 and 14.
     let tables = tables_of(&[2, 4, 6, 22, 28, 8, 10, 26, 12, 14]);
     for index in 0..width / LANES + 1 {
         let end = width - LANES * index;

@@ -5,9 +5,9 @@
 //! at once, with the weights by which a polynomial's values at 0, 1, .. are taken to its values at the elements after
 //! them, and needs far fewer products than one a weight.
 //!
-//! The product of a byte is looked up by its two halves, in two tables of sixteen bytes for each weight. A vector has
-//! 32 bytes, so a target is walked down in steps of 32 places, and the last step begins at its front, however far it
-//! overlaps the one before. The sums of a step stay in vectors over all blocks and are written once.
+//! The product of a byte is looked up by its two halves, in two tables of sixteen bytes for each weight. A target of sums
+//! is walked down in steps of the 32 bytes of a vector, and the last step begins at its front, however far it overlaps
+//! the one before. The sums of a step stay in vectors over all blocks and are written once.
 //!
 //! The crate stands on `gf256` alone, and knows of no plans and codewords. It promises that each byte of a target is the
 //! sum, by the field's product, of the bytes at its place. It takes no memory, and can't fail.

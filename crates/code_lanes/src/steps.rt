@@ -1,8 +1,11 @@
-//! The steps of the additive transform: polynomials in the basis of Lin, Chung and Han, at elements whose numbers lie
-//! side by side.
+//! The steps of the additive transform, which takes the values of a polynomial at the numbers 0 to 2^k - 1 to its
+//! coefficients, and these to its values at 2^k numbers after them.
 //!
-//! The polynomials of a layer have two coefficients each, and are evaluated at two elements, of which the second is
-//! the first plus 1, so that both values cost one product.
+//! Let n_i be the polynomial of degree 2^i that is 0 at the numbers below 2^i, and 1 at 2^i. It takes sums to sums, so it is
+//! some constant c over 2^i numbers that differ in their bits below i only, and c + 1 over the 2^i numbers after them.
+//! A polynomial of degree below 2^(i + 1) is a + n_i b, with a and b of degree below 2^i. Over the first of these numbers
+//! it is a + c b, and over the next that plus b: one product for two coefficients. The layers go from the highest i down to
+//! 0, where a coefficient is a value, and backwards they take values to coefficients.
 
 ghost use Rattle.std.specs.Prelude.{ℕ};
 ghost use Rattle.code_lanes.specs.Steps.{AreFour, FourFactors, IsCombination, added, first_coefficients, four_coefficients, four_values, high_value, low_coefficient, low_value, lower_across, upper_across};
