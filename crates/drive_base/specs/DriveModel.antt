@@ -1,10 +1,9 @@
 -- What each call of a drive answers and leaves, as one relation between the drive before and after.
-use Rattle.std.specs.Prelude.{◌≡◌, ◌≤◌, ℕ, IsTrue, List, Result, String, Vec}
+use Rattle.std.specs.Prelude.{◌≡◌, ℕ, IsTrue, List, Result}
 use Rattle.drive_base.specs.declared.fault.DriveFault.{DriveFault}
-use Rattle.drive_base.specs.Faults.{Counts, CountsAppend, CountsNames}
+use Rattle.drive_base.specs.Faults.{Counts, CountsAppend}
 use Rattle.drive_base.specs.Leaves.{SizeAnswers, ReadAnswers, AppendLeaves, SyncLeaves, RenameLeaves, DiscardLeaves, RemoveLeaves}
-use Rattle.drive_base.specs.Names.{NamesAnswers}
-use Rattle.drive_base.specs.View.{DriveView, GoesOn}
+use Rattle.drive_base.specs.View.{DriveView}
 
 -- a call and its answer; a name, a loose name and bytes are lists of bytes
 pub data DriveCall : Type 0 where

@@ -1,5 +1,5 @@
 -- Sets of drives of an erasure set, as masks: bit k stands for the drive of index k.
-use Rattle.std.specs.Prelude.{◌≡◌, ◌↔◌, ◌≢◌, ◌⊎◌, ◌<◌, ◌≤◌, ◌+◌, ◌^◌, ℕ, Bool, nat_lt, bit_and, count_by}
+use Rattle.std.specs.Prelude.{◌≡◌, ◌↔◌, ◌⊎◌, ◌<◌, ◌≤◌, ◌+◌, ◌^◌, ℕ, Bool, nat_lt, bit_and, count_by}
 use Rattle.std.specs.Int.{IsBitSet}
 use Rattle.std.specs.List.{range_with_len}
 

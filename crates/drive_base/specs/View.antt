@@ -57,3 +57,21 @@ AllOnlyRead old new = AtEach (λ k. OnlyRead) old new
 -- each drive tells what it holds, but those of which it is not asked
 abbrev pub AllTell : (ℕ → Type 0) → List DriveView → Type 0
 AllTell IsAsked drives = (k : ℕ) → k < length drives → IsAsked k → IsTrue (view_at drives k).tells
+
+-- drives that nothing was done to go on, and were only read
+abbrev pub UntouchedGoOn : Type 0
+UntouchedGoOn = (drives : List DriveView) → AllGoOn drives drives
+
+abbrev pub UntouchedAreOnlyRead : Type 0
+UntouchedAreOnlyRead = (drives : List DriveView) → AllOnlyRead drives drives
+
+-- so it is over two calls, where it is so over each
+abbrev pub TwoCallsGoOn : Type 0
+TwoCallsGoOn = (old mid new : List DriveView) → AllGoOn old mid → AllGoOn mid new → AllGoOn old new
+
+abbrev pub TwoCallsOnlyRead : Type 0
+TwoCallsOnlyRead = (old mid new : List DriveView) → AllOnlyRead old mid → AllOnlyRead mid new → AllOnlyRead old new
+
+-- drives that were only read go on
+abbrev pub OnlyReadGoOn : Type 0
+OnlyReadGoOn = (old new : List DriveView) → AllOnlyRead old new → AllGoOn old new

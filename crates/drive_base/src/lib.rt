@@ -19,9 +19,11 @@ mod plan;
 #[cfg(test)]
 mod tests;
 mod trouble;
+mod views;
 
 pub use drive::{Drive, LONGEST_NAME};
 pub use drive_set::{DriveSet, drive_set_laws};
 pub use fault::DriveFault;
 pub use plan::{MOST_DRIVES, SetPlan, usual_parity};
 pub use trouble::Trouble;
+pub use views::view_laws;

@@ -10,7 +10,7 @@ ghost use Rattle.ostore.specs.Session.{IsRead};
 ghost use Rattle.ostore.specs.declared.undone.Undone.TheVariants.{Refused, NoMemory as TheNoMemory};
 
 use crate::undone::Undone;
-use drive_base::{Drive, SetPlan};
+use drive_base::{Drive, DriveSet, SetPlan};
 use get_read::{ReadFaultKind, read_whole};
 use put_stage::{StageFault, Staged, stage_whole};
 use stamp_id::VersionId;
@@ -24,7 +24,7 @@ fn the_set() -> SetPlan
         id: [0; 16],
         drives: 4,
         parity: 2,
-        out: 0,
+        out: DriveSet::none(),
     }
 }
 

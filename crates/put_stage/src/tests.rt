@@ -3,7 +3,7 @@
 ghost use Rattle.std.specs.Prelude.{◌≡◌, ◌<◌, IfOk, length};
 
 use call_types::{Why, Whys};
-use drive_base::{Drive, SetPlan};
+use drive_base::{Drive, DriveSet, SetPlan};
 use drive_memory::MemDrive;
 use stamp_id::{Ballot, ChangeId, VersionId};
 use std::alloc::{AllocError, Global};
@@ -25,7 +25,7 @@ fn plan(out: u16) -> SetPlan
     ensures parity { result.parity ≡ 2 }
 {
     let mut set = SetPlan::new([7; 16], 4, 2);
-    set.out = out;
+    set.out = DriveSet::from_mask(out);
     set
 }
 

@@ -6,7 +6,7 @@ use super::golden::{COMPUTED, HELLO_PRINT, STORED, TWICE_MANIFEST, TWICE_PRINT};
 use super::made::{MANIFEST, damage, fresh_drives, gave, id, lose, place, plan};
 use crate::{ReadFaultKind, read_manifest, read_whole};
 use call_types::{FileKind, Why, Whys};
-use drive_base::{Drive, SetPlan};
+use drive_base::{Drive, DriveSet, SetPlan};
 use drive_memory::MemDrive;
 use manifest_file::print_of;
 use put_stage::stage_whole;
@@ -20,7 +20,7 @@ fn four(out: u16) -> SetPlan
     ensures { result.drives ≡ 4 }
 {
     let mut set = plan(4, 2);
-    set.out = out;
+    set.out = DriveSet::from_mask(out);
     set
 }
 

@@ -1,0 +1,3 @@
+pub mod HonestLemmas
+pub mod SetLemmas
+pub mod ViewLemmas
