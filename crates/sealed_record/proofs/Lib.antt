@@ -1,0 +1,4 @@
+pub mod Chains
+pub mod FieldProofs
+pub mod LawProofs
+pub mod Rows
