@@ -4,6 +4,7 @@ ghost use Rattle.std.specs.Prelude.{◌≡◌, IfOk};
 ghost use Rattle.field_reader.specs.Format.{value_of};
 ghost use Rattle.field_reader.specs.Reading.{GivesWhole};
 ghost use Rattle.sealed_record.specs.Answers.{ReadsBody, ReadsSpellings};
+ghost use Rattle.sealed_record.specs.Laws.{IsLawful};
 ghost use Rattle.sealed_record.specs.Table.{spelling_of};
 
 use crate::record::Record;
@@ -25,6 +26,7 @@ pub(crate) fn take_whole<T: Record>(alloc: Global, body: &[u8]) -> Result<T, Rea
 /// The record that a body spells. A body that spells none is refused at the place of its first fault: the start of the
 /// first field that breaks its rule, the number of the body's bytes where bytes are missing, or the first byte too many.
 pub fn read_body<T: Record>(alloc: Global, body: &[u8]) -> Result<T, ReadFault>
+    requires { IsLawful T.table }
     ensures outcome { ReadsBody T.table body.now result }
     ensures only { ReadsSpellings T.table body.now result }
 {

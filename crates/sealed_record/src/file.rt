@@ -2,6 +2,7 @@
 
 ghost use Rattle.std.specs.Prelude.{◌≡◌, IfOk};
 ghost use Rattle.sealed_record.specs.Answers.{Reads, ReadsFiles, NamesDamage, NamesFault};
+ghost use Rattle.sealed_record.specs.Laws.{IsLawful};
 ghost use Rattle.sealed_record.specs.Table.{file_of};
 
 use crate::body::{take_whole, write_body};
@@ -17,6 +18,7 @@ use std::alloc::Global;
 /// `NotCanonical`, at the place of its first fault, counted from 0 in the body, which is what stands between the kind
 /// and the digest.
 pub fn read<T: Record>(alloc: Global, kind: [u8; 4], bytes: &[u8]) -> Result<T, FileRead>
+    requires { IsLawful T.table }
     ensures outcome { Reads kind T.table bytes.now result }
     ensures only { ReadsFiles kind T.table bytes.now result }
     ensures damaged { NamesDamage kind bytes.now result }

@@ -2,9 +2,11 @@
 #![tactic(auto)]
 
 mod body;
+mod fields;
 mod file;
 mod record;
 
 pub use body::{read_body, write_body};
+pub use fields::{take_flag, take_format};
 pub use file::{read, write};
 pub use record::Record;

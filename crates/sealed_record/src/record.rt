@@ -2,7 +2,6 @@
 
 ghost use Rattle.std.specs.Prelude.{◌≡◌, ◌++◌, length, OnOk};
 ghost use Rattle.field_reader.specs.Reading.{Gives};
-ghost use Rattle.sealed_record.specs.Laws.{IsLawful};
 ghost use Rattle.sealed_record.specs.Table.{Table, spelling_of};
 
 use field_reader::{Fields, ReadFault};
@@ -29,7 +28,4 @@ pub trait Record: Drop {
     fn size(&self) -> usize
         requires { table.Canonical self.now }
         ensures { result ≡ length (spelling_of table self.now) };
-
-    /// The table is lawful.
-    ghost lawful: { IsLawful table };
 }

@@ -9,5 +9,5 @@ returns-in-Ok-clause-outcome g c =
     let body = c.in_ok-body.body.now in
     let seals = c.in_ok-body.ensures.outcome in
     let fits = body_bytes kind c.args.bytes.now body seals (λ i. omega (arith, c.type_inv.bytes i)) in
-    let found = found_spelling g.T.Record.table g.met.T.Record.lawful body c.in-Ok.taken fits c.in-Ok.ensures in
+    let found = found_spelling g.T.Record.table c.requires body c.in-Ok.taken fits c.in-Ok.ensures in
     (found.0, seals ∙ ap (sealed kind) found.1)
