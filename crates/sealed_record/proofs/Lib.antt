@@ -1,3 +1,4 @@
+pub mod ByteLemmas
 pub mod Chains
 pub mod FieldProofs
 pub mod LawProofs
