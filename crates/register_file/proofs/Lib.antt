@@ -1,5 +1,4 @@
-pub mod Canonical
-pub mod Injective
-pub mod LawProofs
-pub mod Made
+pub mod Lawful
+pub mod Matching
+pub mod Sizes
 pub mod Texts
