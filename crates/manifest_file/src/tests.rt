@@ -208,28 +208,32 @@ fn names_the_place_of_each_field(rt: HostRuntime) {
     }
 }
 
-#[test]
-fn reads_the_most_drives_and_parts(rt: HostRuntime) {
-    let roots = vec![in rt.alloc(); 7u8; 8160].expect(&rt, "there is memory");
-    // The drives, the number of parts as it is spelled, the number itself, and the roots of a part.
-    let rows: [(u8, &[u8], usize, &[u8]); 2] = [
-        (255, &[0, 1], 1, roots.as_slice()),
-        (0, &[0x27, 0x10], MOST_PARTS, b""),
-    ];
-    for (drives, spelled, count, roots) in rows {
-        let head: [&[u8]; 5] = [&[1], &[0, 0], &[drives], &[255], spelled];
-        let mut body = joined(rt.alloc(), &head).expect(&rt, "there is memory");
-        for _ in 0..count {
-            for field in [ID, LONGEST, roots] {
-                body.extend_from_slice(field).expect(&rt, "there is memory");
-            }
-        }
-        let manifest = read_body(rt.alloc(), body.as_slice()).expect(&rt, "it is a manifest");
-        assert_eq!(rt; (manifest.drives, manifest.parity), (drives, 255));
-        assert_eq!(rt; manifest.parts.len(), count);
-        for part in manifest.parts.as_slice() {
-            assert_eq!(rt; part.roots.len(), drives as usize);
-            assert_eq!(rt; part.roots.is_empty(), drives == 0);
-        }
+/// What is read of a body with so many parts, of the longest length, each with these roots for so many drives.
+fn read_parts(alloc: Global, drives: u8, count: u16, roots: &[u8]) -> Result<Manifest, FileRead> {
+    let count_bytes = count.to_be_bytes();
+    let head: [&[u8]; 5] = [&[1], &[0, 0], &[drives], &[255], count_bytes.as_slice()];
+    let mut body = joined(alloc, &head)?;
+    for _ in 0..count {
+        body.extend_from_slice(ID)?;
+        body.extend_from_slice(LONGEST)?;
+        body.extend_from_slice(roots)?;
     }
+    read_body(alloc, body.as_slice())
+}
+
+#[test]
+fn reads_the_most_drives(rt: HostRuntime) {
+    let roots = vec![in rt.alloc(); 7u8; 8160].expect(&rt, "there is memory");
+    let manifest = read_parts(rt.alloc(), 255, 1, roots.as_slice()).expect(&rt, "it is a manifest");
+    assert_eq!(rt; (manifest.drives, manifest.parity), (255, 255));
+    for part in manifest.parts.as_slice() {
+        assert_eq!(rt; part.roots.len(), 255);
+        assert!(rt; !part.roots.is_empty());
+    }
+}
+
+#[test]
+fn reads_the_most_parts(rt: HostRuntime) {
+    let manifest = read_parts(rt.alloc(), 0, 10_000, b"").expect(&rt, "it is a manifest");
+    assert_eq!(rt; manifest.parts.len(), MOST_PARTS);
 }
