@@ -1,4 +1,5 @@
 pub mod LawProofs
+pub mod Longest
 pub mod Matching
 pub mod PrintText
 pub mod RootLemmas

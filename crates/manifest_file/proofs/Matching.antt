@@ -1,12 +1,9 @@
 -- The rows that the format takes are those of canonical manifests, one for each.
-use Rattle.std.proofs.Common.{◌≡◌, ℕ, List, refl, ap, subst, sym, arith}
-use Rattle.std.specs.Prelude.{map}
+use Rattle.std.proofs.Common.{◌≡◌, ℕ, List, ap, arith}
 use Rattle.std.proofs.lemmas.List.{length-map}
 use Rattle.stamp_id.proofs.IdLemmas.{id_bytes-injective}
 use Rattle.stamp_id.proofs.IdText.{id_is_field, id_of_bytes}
 use Rattle.sealed_record.proofs.Rows.{Matches, list_matches}
-use Rattle.manifest_file.specs.declared.manifest.Manifest.{Manifest}
-use Rattle.manifest_file.specs.declared.manifest.ManifestPart.{ManifestPart}
 use Rattle.manifest_file.specs.Canonical.{IsCanonicalPart, IsCanonical}
 use Rattle.manifest_file.specs.Rows.{PartRow, ManifestRow, part_row, row_of}
 use Rattle.manifest_file.proofs.Texts.{IsPartRow, IsManifestRow}

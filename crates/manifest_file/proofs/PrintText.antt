@@ -47,10 +47,10 @@ cut_format drives = number w64 >>= λ s. roots drives >>= λ r. done (cut_with s
 
 cut_spelled : (drives : ℕ) → IsSpelled (cut_format drives) (Kept (IsCut drives) cut_bytes)
 cut_spelled drives = told (
-      then_field (λ (c : Cut). c.0) u64_kept (λ s.
-        then_field (λ (c : Cut). c.1) (roots_spelled drives) (λ r. done_kept (cut_with s r))
-          (λ r c p q. ap (λ (c : Cut). c.1) (sym q)))
-        (λ s c p q. ap (λ (c : Cut). c.0) (sym q.rest)))
+    then_field (λ (c : Cut). c.0) u64_kept (λ s.
+    then_field (λ (c : Cut). c.1) (roots_spelled drives) (λ r. done_kept (cut_with s r))
+    (λ r c p q. ap (λ (c : Cut). c.1) (sym q)))
+    (λ s c p q. ap (λ (c : Cut). c.0) (sym q.rest)))
     (λ c k. record { size = k.part; roots = k.rest.part })
     (λ c k. record { part = k.size; rest = record { part = k.roots; rest = refl } })
     (λ c. ap (λ (x : List ℕ). number_bytes w64 c.0 ++ x) (append-nil (roots_bytes c.1)))
@@ -73,14 +73,14 @@ print_format =
 
 text_spelled : IsSpelled print_format (Kept IsPrintRow row_text)
 text_spelled = told (
-      then_field (λ (v : PrintRow). v.drives) u8_kept (λ d.
-        then_field (λ (v : PrintRow). v.parity) u8_kept (λ p.
-          then_field (λ (v : PrintRow). length v.cuts) u16_kept (λ count.
-            then_field (λ (v : PrintRow). v.cuts) (items_spelled (cut_spelled d) count) (λ cs. done_kept (row_with d p cs))
-              (λ cs v k q. ap (λ (v : PrintRow). v.cuts) (sym q)))
-            (λ count v k q. sym q.part.0))
-          (λ p v k q. ap (λ (v : PrintRow). v.parity) (sym q.rest.rest)))
-        (λ d v k q. ap (λ (v : PrintRow). v.drives) (sym q.rest.rest.rest)))
+    then_field (λ (v : PrintRow). v.drives) u8_kept (λ d.
+    then_field (λ (v : PrintRow). v.parity) u8_kept (λ p.
+    then_field (λ (v : PrintRow). length v.cuts) u16_kept (λ count.
+    then_field (λ (v : PrintRow). v.cuts) (items_spelled (cut_spelled d) count) (λ cs. done_kept (row_with d p cs))
+    (λ cs v k q. ap (λ (v : PrintRow). v.cuts) (sym q)))
+    (λ count v k q. sym q.part.0))
+    (λ p v k q. ap (λ (v : PrintRow). v.parity) (sym q.rest.rest)))
+    (λ d v k q. ap (λ (v : PrintRow). v.drives) (sym q.rest.rest.rest)))
     (λ v k. let c = k.rest.rest in record { drives = k.part; parity = k.rest.part; few = c.part; cuts = c.rest.part.1 })
     (λ v k. record { part = k.drives; rest = record { part = k.parity; rest = record { part = k.few; rest = record { part = (refl, k.cuts); rest = refl } } } })
     (λ v. refl)

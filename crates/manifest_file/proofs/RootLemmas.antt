@@ -1,5 +1,5 @@
 -- Each digest of SHA-256 is a root.
-use Rattle.std.proofs.Common.{ℕ, zero, suc, List, [], ◌++◌}
+use Rattle.std.proofs.Common.{ℕ, zero, suc, List}
 use Rattle.std.specs.Int.{w32}
 use Rattle.std.specs.Prelude.{slice_index}
 use Rattle.field_reader.specs.Spelling.{IsBytes, number_bytes}

@@ -1,5 +1,5 @@
 -- How each part of a manifest is spelled, field by field.
-use Rattle.std.proofs.Common.{◌≡◌, ℕ, ◌^◌, ◌<◌, ◌≤◌, Bool, true, leb, ltb, List, length, refl, sym, ap, arith}
+use Rattle.std.proofs.Common.{◌≡◌, ℕ, ◌^◌, ◌<◌, ◌≤◌, true, leb, ltb, List, length, refl, sym, ap, arith}
 use Rattle.std.specs.List.{AllByRecursion, flat_map}
 use Rattle.std.specs.Int.{w16}
 use Rattle.std.proofs.lemmas.Bool.{ltb-true, leb-true, le-leb}
@@ -37,12 +37,12 @@ part_of i s r = record { id = i; size = s; roots = r }
 part_spelled : (drives : ℕ) → IsSpelled (part drives) (Kept (IsPartRow drives) part_bytes)
 unfolding part
 part_spelled drives = told (
-      then_field (λ (v : PartRow). v.id) id_spelled (λ i.
-        then_field (λ (v : PartRow). v.size) (ruled is_length u64_kept) (λ s.
-          then_field (λ (v : PartRow). v.roots) (roots_spelled drives) (λ r. done_kept (part_of i s r))
-            (λ r v p q. ap (λ (v : PartRow). v.roots) (sym q)))
-          (λ s v p q. ap (λ (v : PartRow). v.size) (sym q.rest)))
-        (λ i v p q. ap (λ (v : PartRow). v.id) (sym q.rest.rest)))
+    then_field (λ (v : PartRow). v.id) id_spelled (λ i.
+    then_field (λ (v : PartRow). v.size) (ruled is_length u64_kept) (λ s.
+    then_field (λ (v : PartRow). v.roots) (roots_spelled drives) (λ r. done_kept (part_of i s r))
+    (λ r v p q. ap (λ (v : PartRow). v.roots) (sym q)))
+    (λ s v p q. ap (λ (v : PartRow). v.size) (sym q.rest)))
+    (λ i v p q. ap (λ (v : PartRow). v.id) (sym q.rest.rest)))
     (λ v k. record { id = k.part; size = leb-true _ _ k.rest.part.1; roots = k.rest.rest.part })
     (λ v k. record { part = k.id; rest = record { part = (omega (arith, k.size), le-leb _ _ k.size); rest = record { part = k.roots; rest = refl } } })
     (λ v. refl)
@@ -76,18 +76,18 @@ count_yes n some few = grind (arith, nat_tests)
 pub manifest_spelled : IsSpelled manifest (Kept IsManifestRow row_bytes)
 unfolding manifest
 manifest_spelled = told (
-      then_field (λ (v : ManifestRow). 1) format_spelled (λ format.
-        then_field (λ (v : ManifestRow). v.name) name_spelled (λ n.
-          then_field (λ (v : ManifestRow). v.drives) u8_kept (λ d.
-            then_field (λ (v : ManifestRow). v.parity) u8_kept (λ p.
-              then_field (λ (v : ManifestRow). length v.parts) (ruled is_count u16_kept) (λ count.
-                then_field (λ (v : ManifestRow). v.parts) (parts_spelled d count) (λ ps. done_kept (row_with n d p ps))
-                  (λ ps v k q. ap (λ (v : ManifestRow). v.parts) (sym q)))
-                (λ count v k q. sym q.part.0))
-              (λ p v k q. ap (λ (v : ManifestRow). v.parity) (sym q.rest.rest)))
-            (λ d v k q. ap (λ (v : ManifestRow). v.drives) (sym q.rest.rest.rest)))
-          (λ n v k q. ap (λ (v : ManifestRow). v.name) (sym q.rest.rest.rest.rest)))
-        (λ format v k q. k))
+    then_field (λ (v : ManifestRow). 1) format_spelled (λ format.
+    then_field (λ (v : ManifestRow). v.name) name_spelled (λ n.
+    then_field (λ (v : ManifestRow). v.drives) u8_kept (λ d.
+    then_field (λ (v : ManifestRow). v.parity) u8_kept (λ p.
+    then_field (λ (v : ManifestRow). length v.parts) (ruled is_count u16_kept) (λ count.
+    then_field (λ (v : ManifestRow). v.parts) (parts_spelled d count) (λ ps. done_kept (row_with n d p ps))
+    (λ ps v k q. ap (λ (v : ManifestRow). v.parts) (sym q)))
+    (λ count v k q. sym q.part.0))
+    (λ p v k q. ap (λ (v : ManifestRow). v.parity) (sym q.rest.rest)))
+    (λ d v k q. ap (λ (v : ManifestRow). v.drives) (sym q.rest.rest.rest)))
+    (λ n v k q. ap (λ (v : ManifestRow). v.name) (sym q.rest.rest.rest.rest)))
+    (λ format v k q. k))
     (λ v k.
     let d = k.rest.rest in
     let c = d.rest.rest in

@@ -1,5 +1,5 @@
 -- The table of manifests, and what follows from it.
-use Rattle.std.specs.Prelude.{ℕ, ◌≤◌, length}
+use Rattle.std.specs.Prelude.{◌≡◌, ℕ, ◌≤◌, length}
 use Rattle.sealed_record.specs.Laws.{FileIsInjective as TableFileIsInjective}
 use Rattle.sealed_record.specs.Table.{Table}
 use Rattle.manifest_file.specs.declared.manifest.Manifest.{Manifest}
@@ -19,3 +19,7 @@ FileIsInjective = TableFileIsInjective manifest_kind manifest_table
 -- No canonical manifest has a file of more bytes than these.
 abbrev pub ManifestsAreNoLonger : ℕ → Type 0
 ManifestsAreNoLonger longest = (m : Manifest) → IsCanonical m → length (file_of m) ≤ longest
+
+-- Some canonical manifest has a file of just so many bytes.
+abbrev pub SomeManifestIsAsLong : ℕ → Type 0
+SomeManifestIsAsLong longest = (m : Manifest) × IsCanonical m × (length (file_of m) ≡ longest)

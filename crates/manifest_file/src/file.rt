@@ -6,7 +6,7 @@ ghost use Rattle.sealed_record.specs.Laws.{SpellingsAreRead, FaultlessIsSpelled,
 ghost use Rattle.manifest_file.specs.Canonical.{IsCanonical};
 ghost use Rattle.manifest_file.specs.Rows.{ManifestRow};
 ghost use Rattle.manifest_file.specs.Spelling.{manifest_kind, file_of};
-ghost use Rattle.manifest_file.specs.Table.{manifest_table, FileIsInjective, ManifestsAreNoLonger};
+ghost use Rattle.manifest_file.specs.Table.{manifest_table, FileIsInjective, ManifestsAreNoLonger, SomeManifestIsAsLong};
 
 use crate::manifest::{KIND, LONGEST_FILE, Manifest};
 use crate::reading::take_manifest;
@@ -65,12 +65,13 @@ pub fn write(alloc: Global, manifest: &Manifest) -> Result<Vec<u8>, NoMemory>
 }
 
 /// The laws of spellings, for a caller's proof: a canonical manifest is found in its spelling, a body with no fault
-/// spells a canonical manifest, two canonical manifests with one spelling, or with one file, are the same, and no file
-/// has more than [`LONGEST_FILE`] bytes. It does nothing.
+/// spells a canonical manifest, two canonical manifests with one spelling, or with one file, are the same, no file has
+/// more than [`LONGEST_FILE`] bytes, and some file has as many. It does nothing.
 pub fn manifest_laws()
     ensures read { SpellingsAreRead manifest_table }
     ensures faultless { FaultlessIsSpelled manifest_table }
     ensures injective { SpellingIsInjective manifest_table }
     ensures files { FileIsInjective }
     ensures lengths { ManifestsAreNoLonger LONGEST_FILE }
+    ensures reached { SomeManifestIsAsLong LONGEST_FILE }
 {}

@@ -8,7 +8,7 @@ use Rattle.seal_file.specs.Sealing.{IsDamage}
 use Rattle.seal_file.proofs.SealedLemmas.{no_damage}
 use Rattle.call_types.specs.declared.why.Why.{Why}
 use Rattle.drive_base.specs.Files.{Files}
-use Rattle.register_file.specs.Laws.{FileIsInjective}
+use Rattle.register_file.specs.Table.{FileIsInjective}
 use Rattle.register_file.specs.Record.{IsCanonical}
 use Rattle.register_file.specs.Spelling.{file_of, register_kind, spelling}
 use Rattle.register_file.specs.declared.record.RegFile.{RegFile}

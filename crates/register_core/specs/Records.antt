@@ -5,7 +5,7 @@ use Rattle.stamp_id.specs.VersionId.{id_bytes}
 use Rattle.seal_file.specs.Sealing.{IsDamage}
 use Rattle.seal_file.specs.declared.damage.Damage.{Damage}
 use Rattle.seal_file.specs.declared.damage.Damage.TheVariants.{Spelling}
-use Rattle.register_file.specs.Answers.{HasFault}
+use Rattle.register_file.specs.Table.{HasFault}
 use Rattle.register_file.specs.Record.{IsCanonical}
 use Rattle.register_file.specs.Spelling.{register_kind, file_of}
 use Rattle.register_file.specs.declared.record.RegFile.{RegFile}

@@ -1,5 +1,5 @@
 -- The rows that the format takes are those of canonical records, one for each.
-use Rattle.std.proofs.Common.{◌≡◌, List, ℕ, Option, true, refl, sym, ap, subst, ◌∙◌, arith}
+use Rattle.std.proofs.Common.{◌≡◌, List, ℕ, Option, true, refl, ap, ◌∙◌, arith}
 use Rattle.std.specs.Option.{option_map}
 use Rattle.std.proofs.lemmas.Bool.{eqb-true}
 use Rattle.std.proofs.lemmas.Bool.Decides.{nat_tests}
@@ -9,10 +9,6 @@ use Rattle.stamp_id.proofs.IdLemmas.{ballot_by_parts, id_bytes-injective}
 use Rattle.stamp_id.proofs.IdTests.{both_true}
 use Rattle.stamp_id.proofs.IdText.{id_is_field, id_of_bytes}
 use Rattle.sealed_record.proofs.Rows.{Matches, option_matches}
-use Rattle.register_file.specs.declared.record.RegFile.{RegFile}
-use Rattle.register_file.specs.declared.record.Base.{Base}
-use Rattle.register_file.specs.declared.record.Next.{Next}
-use Rattle.register_file.specs.declared.record.Adds.{Adds}
 use Rattle.register_file.specs.Record.{IsContent, AddsPrint, IsCanonicalNext, IsCanonical}
 use Rattle.register_file.specs.Rows.{StampRow, BaseRow, AddsRow, NextRow, FileRow, ballot_row, change_row, base_row, adds_row, next_row, row_of}
 use Rattle.register_file.specs.Layout.{is_same_stamp}

@@ -5,7 +5,7 @@ use Rattle.std.proofs.lemmas.Bool.{ltb-true, lt-ltb}
 use Rattle.field_reader.proofs.Parts.{IsSpelled}
 use Rattle.field_reader.proofs.Series.{Kept}
 use Rattle.field_reader.proofs.Chains.{bytes_kept, u32_kept, u64_kept, done_kept}
-use Rattle.sealed_record.specs.Fields.{optional, IfThere}
+use Rattle.sealed_record.specs.Fields.{IfThere}
 use Rattle.sealed_record.proofs.Chains.{then_field, told, ruled}
 use Rattle.sealed_record.proofs.FieldProofs.{format_spelled, counted_spelled, optional_spelled}
 use Rattle.stamp_id.proofs.IdText.{IsIdField, id_spelled}
@@ -25,10 +25,10 @@ stamp_of term seq = record { term = term; seq = seq }
 pub stamp_spelled : IsSpelled stamp (Kept IsStampRow stamp_bytes)
 unfolding stamp
 stamp_spelled = told (
-      then_field (λ (s : StampRow). s.term) (ruled is_term u64_kept) (λ term.
-        then_field (λ (s : StampRow). s.seq) (ruled is_seq u64_kept) (λ seq. done_kept (stamp_of term seq))
-          (λ seq s p q. ap (λ (s : StampRow). s.seq) (sym q)))
-        (λ term s p q. ap (λ (s : StampRow). s.term) (sym q.rest)))
+    then_field (λ (s : StampRow). s.term) (ruled is_term u64_kept) (λ term.
+    then_field (λ (s : StampRow). s.seq) (ruled is_seq u64_kept) (λ seq. done_kept (stamp_of term seq))
+    (λ seq s p q. ap (λ (s : StampRow). s.seq) (sym q)))
+    (λ term s p q. ap (λ (s : StampRow). s.term) (sym q.rest)))
     (λ s k. record { term = ltb-true _ _ k.part.1; seq = ltb-true _ _ k.rest.part.1 })
     (λ s k. record { part = (omega (arith, k.term), lt-ltb _ _ k.term); rest = record { part = (omega (arith, k.seq), lt-ltb _ _ k.seq); rest = refl } })
     (λ s. refl)
@@ -54,12 +54,12 @@ base_of b c k = record { ballot = b; change = c; content = k }
 base_spelled : IsSpelled base (Kept IsBaseRow base_bytes)
 unfolding base
 base_spelled = told (
-      then_field (λ (v : BaseRow). v.ballot) stamp_spelled (λ b.
-        then_field (λ (v : BaseRow). v.change) stamp_spelled (λ c.
-          then_field (λ (v : BaseRow). v.content) content_spelled (λ k. done_kept (base_of b c k))
-            (λ k v p q. ap (λ (v : BaseRow). v.content) (sym q)))
-          (λ c v p q. ap (λ (v : BaseRow). v.change) (sym q.rest)))
-        (λ b v p q. ap (λ (v : BaseRow). v.ballot) (sym q.rest.rest)))
+    then_field (λ (v : BaseRow). v.ballot) stamp_spelled (λ b.
+    then_field (λ (v : BaseRow). v.change) stamp_spelled (λ c.
+    then_field (λ (v : BaseRow). v.content) content_spelled (λ k. done_kept (base_of b c k))
+    (λ k v p q. ap (λ (v : BaseRow). v.content) (sym q)))
+    (λ c v p q. ap (λ (v : BaseRow). v.change) (sym q.rest)))
+    (λ b v p q. ap (λ (v : BaseRow). v.ballot) (sym q.rest.rest)))
     (λ v k. record { ballot = k.part; change = k.rest.part; content = k.rest.rest.part })
     (λ v k. record { part = k.ballot; rest = record { part = k.change; rest = record { part = k.content; rest = refl } } })
     (λ v. refl)
@@ -76,10 +76,10 @@ adds_of id print = record { id = id; print = print }
 adds_spelled : IsSpelled adds (Kept IsAddsRow adds_bytes)
 unfolding adds
 adds_spelled = told (
-      then_field (λ (v : AddsRow). v.id) id_spelled (λ id.
-        then_field (λ (v : AddsRow). v.print) (bytes_kept 32) (λ print. done_kept (adds_of id print))
-          (λ print v p q. ap (λ (v : AddsRow). v.print) (sym q)))
-        (λ id v p q. ap (λ (v : AddsRow). v.id) (sym q.rest)))
+    then_field (λ (v : AddsRow). v.id) id_spelled (λ id.
+    then_field (λ (v : AddsRow). v.print) (bytes_kept 32) (λ print. done_kept (adds_of id print))
+    (λ print v p q. ap (λ (v : AddsRow). v.print) (sym q)))
+    (λ id v p q. ap (λ (v : AddsRow). v.id) (sym q.rest)))
     (λ v k. record { id = k.part; print = k.rest.part })
     (λ v k. record { part = k.id; rest = record { part = k.print; rest = refl } })
     (λ v. refl)
@@ -100,16 +100,16 @@ next_of b c p a k = record { ballot = b; change = c; parent = p; adds = a; conte
 next_spelled : (parent : StampRow) → IsSpelled (next parent) (Kept (IsNextRow parent) next_bytes)
 unfolding next
 next_spelled parent = told (
-      then_field (λ (v : NextRow). v.ballot) stamp_spelled (λ b.
-        then_field (λ (v : NextRow). v.change) stamp_spelled (λ c.
-          then_field (λ (v : NextRow). v.parent) (ruled (is_same_stamp parent) stamp_spelled) (λ p.
-            then_field (λ (v : NextRow). v.adds) (optional_spelled adds_spelled) (λ a.
-              then_field (λ (v : NextRow). v.content) content_spelled (λ k. done_kept (next_of b c p a k))
-                (λ k v p q. ap (λ (v : NextRow). v.content) (sym q)))
-              (λ a v p q. ap (λ (v : NextRow). v.adds) (sym q.rest)))
-            (λ s v p q. ap (λ (v : NextRow). v.parent) (sym q.rest.rest)))
-          (λ c v p q. ap (λ (v : NextRow). v.change) (sym q.rest.rest.rest)))
-        (λ b v p q. ap (λ (v : NextRow). v.ballot) (sym q.rest.rest.rest.rest)))
+    then_field (λ (v : NextRow). v.ballot) stamp_spelled (λ b.
+    then_field (λ (v : NextRow). v.change) stamp_spelled (λ c.
+    then_field (λ (v : NextRow). v.parent) (ruled (is_same_stamp parent) stamp_spelled) (λ p.
+    then_field (λ (v : NextRow). v.adds) (optional_spelled adds_spelled) (λ a.
+    then_field (λ (v : NextRow). v.content) content_spelled (λ k. done_kept (next_of b c p a k))
+    (λ k v p q. ap (λ (v : NextRow). v.content) (sym q)))
+    (λ a v p q. ap (λ (v : NextRow). v.adds) (sym q.rest)))
+    (λ s v p q. ap (λ (v : NextRow). v.parent) (sym q.rest.rest)))
+    (λ c v p q. ap (λ (v : NextRow). v.change) (sym q.rest.rest.rest)))
+    (λ b v p q. ap (λ (v : NextRow). v.ballot) (sym q.rest.rest.rest.rest)))
     (λ v k.
     let p = k.rest.rest in
     let a = p.rest in
@@ -135,12 +135,12 @@ row_with b n = record { base = b; next = n }
 pub file_spelled : IsSpelled register (Kept IsFileRow row_bytes)
 unfolding register
 file_spelled = told (
-      then_field (λ (v : FileRow). 1) format_spelled (λ format.
-        then_field (λ (v : FileRow). v.base) base_spelled (λ b.
-          then_field (λ (v : FileRow). v.next) (optional_spelled (next_spelled b.change)) (λ n. done_kept (row_with b n))
-            (λ n v p q. ap (λ (v : FileRow). v.next) (sym q)))
-          (λ b v p q. ap (λ (v : FileRow). v.base) (sym q.rest)))
-        (λ format v p q. p))
+    then_field (λ (v : FileRow). 1) format_spelled (λ format.
+    then_field (λ (v : FileRow). v.base) base_spelled (λ b.
+    then_field (λ (v : FileRow). v.next) (optional_spelled (next_spelled b.change)) (λ n. done_kept (row_with b n))
+    (λ n v p q. ap (λ (v : FileRow). v.next) (sym q)))
+    (λ b v p q. ap (λ (v : FileRow). v.base) (sym q.rest)))
+    (λ format v p q. p))
     (λ v k. record { base = k.rest.part; next = k.rest.rest.part })
     (λ v k. record { part = refl; rest = record { part = k.base; rest = record { part = k.next; rest = refl } } })
     (λ v. refl)

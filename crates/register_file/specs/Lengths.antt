@@ -1,5 +1,5 @@
 -- How long the file of a record can be.
-use Rattle.std.specs.Prelude.{ℕ, ◌+◌, ◌*◌, ◌≤◌, length, min}
+use Rattle.std.specs.Prelude.{◌≡◌, ℕ, ◌+◌, ◌*◌, ◌^◌, ◌<◌, ◌≤◌, length, min}
 use Rattle.sealed_record.specs.Fields.{IfThere}
 use Rattle.register_file.specs.declared.record.RegFile.{RegFile}
 use Rattle.register_file.specs.Record.{IsCanonical}
@@ -17,3 +17,7 @@ longest_file most = min (175 + 2 * most) 18446744073709551615
 -- No record with such contents has a longer file.
 abbrev pub FilesAreNoLonger : Type 0
 FilesAreNoLonger = (most : ℕ) (file : RegFile) → IsCanonical file → ContentsFit most file → length (file_of file) ≤ longest_file most
+
+-- Some record with such contents has a file as long.
+abbrev pub SomeFileIsAsLong : Type 0
+SomeFileIsAsLong = (most : ℕ) → most < 2 ^ 32 → (file : RegFile) × IsCanonical file × ContentsFit most file × (length (file_of file) ≡ longest_file most)

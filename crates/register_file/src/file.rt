@@ -3,7 +3,7 @@
 ghost use Rattle.std.specs.Prelude.{◌≡◌, IfOk};
 ghost use Rattle.sealed_record.specs.Answers.{Reads, ReadsFiles, NamesDamage, NamesFault};
 ghost use Rattle.sealed_record.specs.Laws.{SpellingsAreRead, FaultlessIsSpelled, SpellingIsInjective};
-ghost use Rattle.register_file.specs.Lengths.{longest_file, FilesAreNoLonger};
+ghost use Rattle.register_file.specs.Lengths.{longest_file, FilesAreNoLonger, SomeFileIsAsLong};
 ghost use Rattle.register_file.specs.Record.{IsCanonical};
 ghost use Rattle.register_file.specs.Rows.{FileRow};
 ghost use Rattle.register_file.specs.Spelling.{register_kind, file_of};
@@ -74,12 +74,13 @@ pub fn longest_file(content: u64) -> u64
 }
 
 /// The laws of spellings, for a caller's proof: a canonical record is found in its spelling, a body with no fault spells
-/// a canonical record, two canonical records with one spelling, or with one file, are the same, and no file is longer
-/// than its contents allow. It does nothing.
+/// a canonical record, two canonical records with one spelling, or with one file, are the same, no file is longer than
+/// its contents allow, and some file is as long. It does nothing.
 pub fn file_laws()
     ensures read { SpellingsAreRead register_table }
     ensures faultless { FaultlessIsSpelled register_table }
     ensures injective { SpellingIsInjective register_table }
     ensures files { FileIsInjective }
     ensures lengths { FilesAreNoLonger }
+    ensures reached { SomeFileIsAsLong }
 {}

@@ -1,9 +1,9 @@
 -- How the row of a record is spelled, field by field.
-use Rattle.std.proofs.Common.{◌≡◌, ℕ, Bool, true, List, ◌++◌, refl}
-use Rattle.field_reader.specs.Format.{Format, ◌>>=◌, done, with_rule}
+use Rattle.std.proofs.Common.{◌≡◌, ℕ, Bool, true, List, ◌++◌}
+use Rattle.field_reader.specs.Format.{Format, ◌>>=◌, with_rule}
 use Rattle.field_reader.proofs.Parts.{IsSpelled}
 use Rattle.field_reader.proofs.Series.{Kept}
-use Rattle.field_reader.proofs.Chains.{nothing, retold, rule_kept, done_kept, Both, then_kept}
+use Rattle.field_reader.proofs.Chains.{retold, rule_kept, Both, then_kept}
 
 -- one field and then the rest, where the value shows the field
 pub then_field : {A B : Type 0} {part : Format A} {rest : A → Format B} {P : A → Type 0} {p : A → List ℕ} {Q : A → B → Type 0} {q : B → List ℕ} (first : B → A)

@@ -5,7 +5,7 @@ use Rattle.field_reader.specs.Spelling.{IsBytes}
 use Rattle.field_reader.proofs.Parts.{IsBytes-front, IsBytes-back}
 use Rattle.seal_file.specs.Sealing.{sealed}
 use Rattle.seal_file.proofs.SealedLemmas.{sealed-injective}
-use Rattle.sealed_record.specs.Table.{Table, spelling_of, file_of}
+use Rattle.sealed_record.specs.Table.{Table, spelling_of}
 use Rattle.sealed_record.specs.Laws.{IsLawful, FaultlessIsSpelled, SpellingIsInjective, FileIsInjective}
 
 abbrev of_row : {R : Type 0} → R → Result R ℕ

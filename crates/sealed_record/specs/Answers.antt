@@ -2,7 +2,7 @@
 use Rattle.std.specs.Prelude.{◌≡◌, ℕ, List, Option, Some, None, Result, Ok, Err}
 use Rattle.field_reader.specs.declared.fault.ReadFault.{ReadFault}
 use Rattle.field_reader.specs.declared.fault.ReadFault.TheVariants.{At, NoMemory}
-use Rattle.field_reader.specs.Format.{Format, fault_at}
+use Rattle.field_reader.specs.Format.{fault_at}
 use Rattle.seal_file.specs.Sealing.{sealed, IsDamage}
 use Rattle.seal_file.specs.declared.damage.Damage.{Damage}
 use Rattle.seal_file.specs.declared.damage.FileRead.{FileRead}

@@ -1,5 +1,5 @@
 -- Fields that records of several kinds have.
-use Rattle.std.specs.Prelude.{ℕ, List, [], ◌∷◌, ◌++◌, length, Option, Some, None, Bool, ◌==◌, nat_lt, if◌then◌else◌}
+use Rattle.std.specs.Prelude.{ℕ, List, ◌++◌, length, Option, Some, None, Bool, ◌==◌, nat_lt, if◌then◌else◌}
 use Rattle.std.specs.Int.{Width, w8}
 use Rattle.field_reader.specs.Format.{Format, ◌>>=◌, done, field, number, with_rule}
 use Rattle.field_reader.specs.Spelling.{number_bytes}

@@ -12,19 +12,19 @@ pub trait Record: Drop {
     /// What is spelled of a record.
     ghost Row: { Type 0 };
 
-    /// The table.
+    /// The rows of the records, their format and their spelling, and which records are written.
     ghost table: { Table Self Row };
 
-    /// Takes a record.
+    /// Takes a record, as the format finds it. Where it finds none, the fault is the first one.
     fn take(alloc: Global, fields: &mut Fields) -> Result<Self, ReadFault>
         ensures { Gives table.row result fields.new (table.format fields.old) };
 
-    /// Appends the spelling of a record.
+    /// Appends the spelling of a record. Want of memory is the only error; the buffer has any bytes then.
     fn put(&self, out: &mut Vec<u8>) -> Result<(), AllocError>
         requires { table.Canonical self.now }
         ensures { OnOk result (out.new.items ≡ out.old.items ++ spelling_of table self.now) };
 
-    /// The bytes of the spelling of a record.
+    /// How many bytes the spelling of a record has.
     fn size(&self) -> usize
         requires { table.Canonical self.now }
         ensures { result ≡ length (spelling_of table self.now) };

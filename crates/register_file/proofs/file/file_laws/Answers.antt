@@ -2,6 +2,7 @@ use Rattle.sealed_record.proofs.LawProofs.{faultless, injective, files_injective
 use Rattle.register_file.specs.Spelling.{register_kind}
 use Rattle.register_file.specs.Table.{register_table}
 use Rattle.register_file.proofs.Lawful.{register_lawful}
+use Rattle.register_file.proofs.Longest.{longest_is_reached}
 use Rattle.register_file.proofs.Sizes.{files_no_longer}
 use Rattle.register_file.proofs.file.file_laws.Goals as goal
 
@@ -19,3 +20,6 @@ returns-clause-files c = files_injective register_table register_lawful register
 
 pub returns-clause-lengths : goal.returns-clause-lengths
 returns-clause-lengths c = files_no_longer
+
+pub returns-clause-reached : goal.returns-clause-reached
+returns-clause-reached c = longest_is_reached
