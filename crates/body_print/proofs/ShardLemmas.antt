@@ -17,17 +17,17 @@ abbrev pub stripe_of : ℕ → List (List (List ℕ)) → List (List ℕ)
 stripe_of i shards = map (λ shard. slice_index_or shard i []) shards
 
 -- block r of a stripe is that of shard r
-block_of_shard : (i : ℕ) (shards : List (List (List ℕ))) (r : ℕ) → r < length shards
+pub block_of_shard : (i : ℕ) (shards : List (List (List ℕ))) (r : ℕ) → r < length shards
     → slice_index_or (stripe_of i shards) r [] ≡ slice_index_or (slice_index_or shards r []) i []
 block_of_shard i shards r low = get_or-map (λ (shard : List (List ℕ)). slice_index_or shard i []) shards r [] [] low
 
 -- a shard has a block for each stripe
-length-of_shard : (n d : ℕ) (body : List ℕ) (shards : List (List (List ℕ))) (r : ℕ) → AreShards n d body shards → r < n
+pub length-of_shard : (n d : ℕ) (body : List ℕ) (shards : List (List (List ℕ))) (r : ℕ) → AreShards n d body shards → r < n
     → length (slice_index_or shards r []) ≡ stripe_count (length body)
 length-of_shard n d body shards r are low = are.blocks r [] (omega (arith, are.count))
 
 -- a block has the size that its stripe asks for
-length-of_block : (n d : ℕ) (body : List ℕ) (shards : List (List (List ℕ))) (r i : ℕ) → AreShards n d body shards → r < n
+pub length-of_block : (n d : ℕ) (body : List ℕ) (shards : List (List (List ℕ))) (r i : ℕ) → AreShards n d body shards → r < n
     → i < stripe_count (length body)
     → length (slice_index_or (slice_index_or shards r []) i []) ≡ block_size d (length (piece stripe_size body i))
 length-of_block n d body shards r i are low inside =

@@ -2,6 +2,7 @@
 use Rattle.std.specs.Prelude.{◌≡◌, ◌≢◌, ◌⊎◌, ℕ, ◌-◌, ◌<◌, Bool, IsTrue, List, [], Some, length, take, drop, slice_index_or}
 use Rattle.std.specs.List.{concat}
 use Rattle.sha2.specs.Sha256.{sha256}
+use Rattle.field_reader.specs.Spelling.{IsBytes}
 use Rattle.stamp_id.specs.declared.version.VersionId.{VersionId}
 use Rattle.drive_base.specs.Files.{Files}
 use Rattle.manifest_file.specs.Canonical.{IsCanonical}
@@ -12,6 +13,13 @@ use Rattle.shard_file.specs.Shards.{table_of}
 use Rattle.body_print.specs.Names.{shard_name, manifest_name}
 use Rattle.body_print.specs.Prints.{IsPrintText}
 use Rattle.body_print.specs.Shards.{AreShards}
+
+-- two different byte strings with one SHA-256
+pub record IsClash (read other : List ℕ) : Type 0 where
+  pub read_bytes : IsBytes read
+  pub other_bytes : IsBytes other
+  pub differ : read ≢ other
+  pub same : sha256 read ≡ sha256 other
 
 -- a digest table or a block of a part of a body
 pub record IsTableOrBlock (n d : ℕ) (part bytes : List ℕ) : Type 0 where
@@ -31,6 +39,12 @@ pub record IsHashed (n p : ℕ) (body print bytes : List ℕ) : Type 0 where
   pub hashed : print ≡ sha256 text
   pub is : (bytes ≡ text) ⊎ ((i : ℕ) × (i < length parts) × IsTableOrBlock n (n - p) (slice_index_or parts i []) bytes)
 
+-- bytes that were read have the SHA-256 of others that are hashed for the print of a body
+pub record ClashesWith (n p : ℕ) (body print read : List ℕ) : Type 0 where
+  pub other : List ℕ
+  pub clash : IsClash read other
+  pub is_hashed : IsHashed n p body print other
+
 -- a file of a drive shows these bytes: a canonical manifest of which they are the text under the print, or a piece of a
 -- shard file
 abbrev pub IsShown : Files → List ℕ → Type 0
@@ -46,11 +60,8 @@ module _ {D : Type 0} (tells : D → Bool) (files : D → Files) where
       (k : ℕ) × (k < length drives) × ((default : D) → IsTrue (tells (slice_index_or drives k default))
       → IsShown (files (slice_index_or drives k default)) bytes)
 
-  -- what was read and what is hashed for the body's print are two byte strings with one SHA-256
+  -- what was read from one of the drives and what is hashed for the body's print are two byte strings with one SHA-256
   pub record Clash (n p : ℕ) (body print : List ℕ) (drives : List D) : Type 0 where
     pub read : List ℕ
-    pub other : List ℕ
-    pub differ : read ≢ other
-    pub same : sha256 read ≡ sha256 other
     pub was_read : WasRead drives read
-    pub is_hashed : IsHashed n p body print other
+    pub clash : ClashesWith n p body print read

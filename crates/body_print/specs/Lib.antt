@@ -1,4 +1,5 @@
 pub mod Clashes
+pub mod Holders
 pub mod Laws
 pub mod Names
 pub mod Prints

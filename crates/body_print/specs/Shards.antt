@@ -1,5 +1,6 @@
 -- The shards of a body: the blocks of each stripe over the drives of a set.
-use Rattle.std.specs.Prelude.{◌≡◌, ℕ, ◌<◌, List, [], All, length, take, map, slice_index, slice_index_or}
+use Rattle.std.specs.Prelude.{◌≡◌, ℕ, ◌<◌, List, [], ◌∷◌, ◌++◌, All, length, take, map, slice_index, slice_index_or}
+use Rattle.std.specs.List.{range_with_len}
 use Rattle.shard_file.specs.Shards.{root_of}
 use Rattle.shard_file.specs.Stripes.{piece, stripe_size, stripe_count, block_size, data_blocks}
 use Rattle.poly_code.specs.Codeword.{Codeword}
@@ -21,3 +22,7 @@ pub record AreShards (n d : ℕ) (body : List ℕ) (shards : List (List (List �
 -- the roots of a body's shards
 abbrev pub HasRoots : ℕ → ℕ → List ℕ → List (List ℕ) → Type 0
 HasRoots n d body roots = (shards : List (List (List ℕ))) × AreShards n d body shards × (roots ≡ map root_of shards)
+
+-- shards that have each got one block more, of these blocks
+abbrev pub with_blocks : List (List (List ℕ)) → List (List ℕ) → List (List (List ℕ))
+with_blocks shards blocks = map (λ r. slice_index_or shards r [] ++ slice_index_or blocks r [] ∷ []) (range_with_len 0 (length shards))

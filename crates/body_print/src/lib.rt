@@ -2,25 +2,18 @@
 //!
 //! A body of bytes has one list of shards over the drives of a set: each stripe's data blocks and the parity blocks
 //! that make every column a codeword. Cut into parts in one way, it has one text under its print, and so one print.
-//! The files of a body's data have their names here, and `Clash` says that two byte strings with one SHA-256 were met.
+//! The files of a body's data have their names here, `HoldsManifest` and `HoldsPart` say what a drive's kept files have of it,
+//! and `Clash` says that two byte strings with one SHA-256 were met.
 //!
 //! The crate stands on `shard_file` for stripes, blocks and roots, on `manifest_file` for the text under a print, and on
 //! `poly_code` for codewords. It has definitions, and [`body_laws`] carries their laws; the calls that run are those that make
 //! the names ([`name_of_manifest`], [`name_of_shard`] and the loose ones).
 #![tactic(auto)]
 
-ghost use Rattle.body_print.specs.Laws.{ShardsAreOne, ShardsHaveTheirBlocks, PrintTextsAreOne};
-
-/// The laws of shards and prints, for a caller's proof: a body has one list of shards, each with the blocks of a shard
-/// file of its length, and, cut in one way, one text under its print. It does nothing.
-pub fn body_laws()
-    ensures one { ShardsAreOne }
-    ensures blocks { ShardsHaveTheirBlocks }
-    ensures texts { PrintTextsAreOne }
-{}
-
+mod laws;
 mod names;
 
+pub use laws::body_laws;
 pub use names::{loose_name_of_manifest, loose_name_of_shard, name_of_manifest, name_of_shard};
 
 #[cfg(test)]

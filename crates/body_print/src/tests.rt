@@ -1,7 +1,11 @@
 //! The laws as a caller has them.
 
-ghost use Rattle.std.specs.Prelude.{◌≡◌, ℕ, ◌≤◌, List};
+ghost use Rattle.std.specs.Prelude.{◌≡◌, ◌≢◌, ℕ, ◌≤◌, Bool, List, false};
+ghost use Rattle.body_print.specs.Clashes.{Clash};
 ghost use Rattle.body_print.specs.Shards.{AreShards};
+ghost use Rattle.drive_base.specs.Files.{Files};
+ghost use Rattle.field_reader.specs.Spelling.{IsBytes};
+ghost use Rattle.sha2.specs.Sha256.{sha256};
 
 use crate::{
     body_laws, loose_name_of_manifest, loose_name_of_shard, name_of_manifest, name_of_shard,
@@ -16,9 +20,18 @@ fn one_list_of_shards()
     body_laws();
 }
 
+/// What a caller draws from a clash, also over drives that tell nothing: two byte strings that differ have one SHA-256.
+fn a_clash_is_a_collision()
+    ensures { (files : ℕ → Files) (body print drives : List ℕ) → Clash (λ d. false) files 4 2 body print drives
+        → (a b : List ℕ) × IsBytes a × IsBytes b × (a ≢ b) × (sha256 a ≡ sha256 b) }
+{
+    body_laws();
+}
+
 #[test]
 fn a_caller_has_the_laws() {
     one_list_of_shards();
+    a_clash_is_a_collision();
 }
 
 #[test]

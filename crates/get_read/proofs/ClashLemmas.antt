@@ -11,9 +11,11 @@ use Rattle.drive_base.specs.declared.plan.SetPlan.{SetPlan}
 use Rattle.manifest_file.specs.declared.manifest.ManifestPart.{ManifestPart}
 use Rattle.shard_file.proofs.Pieces.{length-piece}
 use Rattle.shard_file.proofs.ShardLemmas.{length-table_of, table_around}
-use Rattle.shard_file.specs.Shards.{root_of, table_of}
+use Rattle.shard_file.specs.Shards.{block_place, root_of, table_of, table_place}
 use Rattle.shard_file.specs.Stripes.{piece, stripe_size, stripe_count, stripe_length, block_size}
-use Rattle.body_print.specs.Clashes.{WasRead}
+use Rattle.body_print.proofs.ByteLemmas.{table_or_block_is_bytes}
+use Rattle.body_print.proofs.ClashLemmas.{each_or, one_or_two}
+use Rattle.body_print.specs.Clashes.{IsTableOrBlock, WasRead}
 use Rattle.body_print.specs.Names.{shard_name}
 use Rattle.body_print.specs.Shards.{AreShards, AreStripeBlocks, HasRoots}
 use Rattle.get_read.specs.Blocks.{AreEnough, IsVerified}
@@ -21,33 +23,6 @@ use Rattle.get_read.specs.Causes.{digest_in}
 use Rattle.get_read.specs.Parts.{AddsStripe, PartClash}
 use Rattle.get_read.specs.Steps.{ShowsPiece}
 use Rattle.get_read.proofs.KeepingLemmas.{some_of}
-
--- two byte strings are one, or they are not
-pub one_or_two : (xs ys : List ℕ) → (xs ≡ ys) ⊎ (xs ≢ ys)
-one_or_two [] [] = inl refl
-one_or_two [] (y ∷ ys) = inr (λ same. cc)
-one_or_two (x ∷ xs) [] = inr (λ same. cc)
-one_or_two (x ∷ xs) (y ∷ ys) = elim (cases_eq x y) [
-  | inl first ↦ elim (one_or_two xs ys) [
-    | inl rest ↦ inl (cc)
-    | inr differ ↦ inr (λ same. let rest : xs ≡ ys = cc in differ rest)
-  ]
-  | inr differ ↦ inr (λ same. let first : x ≡ y = cc in differ first)
-]
-
--- each of so many holds, or something else does
-pub each_or : (A : ℕ → Type 0) (C : Type 0) (n : ℕ) → ((j : ℕ) → j < n → A j ⊎ C) → ((j : ℕ) → j < n → A j) ⊎ C
-each_or A C zero cases = inl (λ j low. absurd (omega arith))
-each_or A C (suc n) cases = elim (each_or A C n (λ j low. cases j (omega arith))) [
-  | inl before ↦ elim (cases n (omega arith)) [
-    | inl last ↦ inl (λ j low. elim (cases_lt j n) [
-      | inl within ↦ before j within
-      | inr past ↦ let at : n ≡ j = omega arith in subst A at last
-    ])
-    | inr other ↦ inr other
-  ]
-  | inr other ↦ inr other
-]
 
 -- the digest of a block in the digest table
 pub digest_of_block : (blocks : List (List ℕ)) (i : ℕ) → i < length blocks → digest_in (table_of blocks) i ≡ sha256 (slice_index_or blocks i [])
@@ -97,25 +72,43 @@ module _ {D : Type 0} (tells : D → Bool) (files : D → Files) where
         | inl one ↦
             let digest : sha256 block ≡ sha256 (slice_index_or shard i []) =
             sym verified.same ∙ is.stored ∙ ap (λ (table : List ℕ). digest_in table i) one ∙ digest_of_block shard i has in
+            let hashed : IsTableOrBlock set.drives dd bytes (slice_index_or shard i []) =
+            record { shards = shards; are = are; r = k; within = low; is = inr (i, has, refl) } in
             elim (one_or_two block (slice_index_or shard i [])) [
               | inl same ↦ inl same
               | inr differ ↦ inr (record {
                 read = block;
+                was_read = piece_read drives part k d block inside (λ told.
+                    let b = is.shown told in
+                    (block_place dd i, (b.0, b.1, b.2 ∙ ap (λ (m : ℕ). take m (drop (block_place dd i) b.0)) (sym is.size))));
                 other = slice_index_or shard i [];
-                differ = differ;
-                same = digest;
-                was_read = piece_read drives part k d block inside (λ told. let b = is.shown told in (b.2.0, (b.0, b.1, b.2.2)));
-                is = record { shards = shards; are = are; r = k; within = low; is = inr (i, has, refl) };
+                clash = record {
+                  read_bytes = is.bytes;
+                  other_bytes = table_or_block_is_bytes set.drives dd bytes (slice_index_or shard i []) (omega arith) hashed;
+                  differ = differ;
+                  same = digest;
+                };
+                is = hashed;
               })
             ]
-        | inr differ ↦ inr (record {
-          read = is.table;
-          other = table_of shard;
-          differ = differ;
-          same = sym is.is_table.digest ∙ root;
-          was_read = piece_read drives part k d is.table inside (λ told. let t = is.is_table.shown told in (t.2.0, (t.0, t.1, t.2.3)));
-          is = record { shards = shards; are = are; r = k; within = low; is = inl refl };
-        })
+        | inr differ ↦
+            let hashed : IsTableOrBlock set.drives dd bytes (table_of shard) =
+            record { shards = shards; are = are; r = k; within = low; is = inl refl } in
+            let held = is.is_table in
+            inr (record {
+              read = is.table;
+              was_read = piece_read drives part k d is.table inside (λ told.
+                  let t = held.shown told in
+                  (table_place dd part.length, (t.0, t.1, t.2 ∙ ap (λ (m : ℕ). take m (drop (table_place dd part.length) t.0)) (sym held.size))));
+              other = table_of shard;
+              clash = record {
+                read_bytes = held.bytes;
+                other_bytes = table_or_block_is_bytes set.drives dd bytes (table_of shard) (omega arith) hashed;
+                differ = differ;
+                same = sym held.digest ∙ root;
+              };
+              is = hashed;
+            })
       ]
 
   -- the blocks that were read are the blocks of a stripe of each byte string that has the part's roots, or there is a clash

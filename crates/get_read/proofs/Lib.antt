@@ -7,7 +7,6 @@ pub mod KeepingLemmas
 pub mod ManifestLemmas
 pub mod PartLemmas
 pub mod PieceLemmas
-pub mod RebuildLemmas
 pub mod SiftLemmas
 pub mod TableLemmas
 pub mod WholeLemmas

@@ -75,10 +75,9 @@ module _ {D : Type 0} (tells : D → Bool) (files : D → Files) (count : D → 
       → PartClash tells files n d bytes old
   clash_before n d out bytes old mid kept clash = record {
     read = clash.read;
-    other = clash.other;
-    differ = clash.differ;
-    same = clash.same;
     was_read = read_before out old mid clash.read kept clash.was_read;
+    other = clash.other;
+    clash = clash.clash;
     is = clash.is;
   }
 
@@ -94,10 +93,12 @@ module _ {D : Type 0} (tells : D → Bool) (files : D → Files) (count : D → 
           table = fetched.table;
           is_table = record {
             size = table.size;
+            bytes = table.bytes;
             digest = table.digest;
             shown = λ told. subst (λ (f : Files). ShowsTable d part.length f (shard_name part.id) fetched.table) (kept told) (table.shown (subst IsTrue (sym same) told));
           };
           size = fetched.size;
+          bytes = fetched.bytes;
           stored = fetched.stored;
           shown = λ told. subst (λ (f : Files). ShowsBlock d part.length i f (shard_name part.id) block) (kept told) (fetched.shown (subst IsTrue (sym same) told));
         };

@@ -12,101 +12,24 @@ use Rattle.sha2.proofs.Facts256.{length-sha256}
 use Rattle.stamp_id.specs.declared.version.VersionId.{VersionId}
 use Rattle.drive_base.specs.Files.{Files}
 use Rattle.drive_base.specs.declared.plan.SetPlan.{SetPlan}
-use Rattle.manifest_file.proofs.PrintText.{tells_parts}
+use Rattle.manifest_file.proofs.PrintText.{texts_are_bytes}
 use Rattle.manifest_file.specs.Canonical.{IsCanonical, IsCanonicalPart, IsRoot}
-use Rattle.manifest_file.specs.Print.{Cut, cut_of, print_text, text_under}
+use Rattle.manifest_file.specs.Print.{cut_of, text_under}
 use Rattle.manifest_file.specs.declared.manifest.Manifest.{Manifest}
 use Rattle.manifest_file.specs.declared.manifest.ManifestPart.{ManifestPart}
 use Rattle.shard_file.proofs.ShardLemmas.{concat-take_more}
 use Rattle.shard_file.specs.Shards.{root_of, table_of}
-use Rattle.body_print.specs.Prints.{HasPrint, IsCutOf}
+use Rattle.body_print.specs.Prints.{HasPrint, IsCutAs, IsCutOf}
 use Rattle.get_read.specs.Causes.{Serves, body_length}
 use Rattle.get_read.specs.Keeping.{AreKept}
 use Rattle.get_read.specs.Outcomes.{AreOfSpan, FindsManifest, IsFound, IsRefused, wanted_of}
-use Rattle.get_read.specs.Parts.{AddsPart, AreFront, CutClash, IsCutAs, SomeAreFew, StripeIsFew}
+use Rattle.get_read.specs.Parts.{AddsPart, AreFront, CutClash, SomeAreFew, StripeIsFew}
 use Rattle.get_read.specs.declared.faults.ReadFaultKind.{ReadFaultKind}
 use Rattle.get_read.specs.declared.faults.ReadFaultKind.TheVariants.{InvalidRange, ShardQuorum, NoMemory}
-use Rattle.get_read.proofs.ClashLemmas.{one_or_two}
+use Rattle.body_print.proofs.ByteLemmas.{text_is_bytes}
+use Rattle.body_print.proofs.ClashLemmas.{one_or_two}
+use Rattle.body_print.proofs.CutLemmas.{text_tells_cuts}
 use Rattle.get_read.proofs.PartLemmas.{clash_before, few_before}
-
--- ---- the text under a print tells the cuts
-
--- a part with this cut
-abbrev part_with : VersionId → Cut → ManifestPart
-part_with id cut = record { id = id; length = cut.0; roots = cut.1 }
-
-cuts_again : (id : VersionId) (cuts : List Cut) → map cut_of (map (part_with id) cuts) ≡ cuts
-cuts_again id [] = refl
-cuts_again id (cut ∷ cuts) = ap (λ (rest : List Cut). cut ∷ rest) (cuts_again id cuts)
-
--- the cut of a part that isn't too long is canonical
-part_is_canonical : (n p : ℕ) (id : VersionId) (part : List ℕ) (cut : Cut) → length part ≤ 5368709120 → IsCutOf n p part cut
-    → IsCanonicalPart n (part_with id cut)
-part_is_canonical n p id part cut few is =
-    let shards = is.1.0 in
-    let rooted : All IsRoot (map root_of shards) = All-map IsRoot root_of shards (λ k d low. length-sha256 (table_of (slice_index_or shards k d))) in
-    record {
-      size = omega (arith, few, is.0);
-      counted = ap (length {A = List ℕ}) is.1.2 ∙ length-map shards root_of ∙ is.1.1.count;
-      roots = recursion_from_All IsRoot cut.1 (All-same IsRoot cut.1 (map root_of shards) is.1.2 rooted);
-    }
-
--- a manifest with these cuts
-abbrev manifest_with : Manifest → VersionId → List Cut → Manifest
-manifest_with m id cuts = record { name = m.name; drives = m.drives; parity = m.parity; parts = map (part_with id) cuts }
-
--- what is under the print of a body that is cut as a manifest may tell is the text of a canonical manifest
-cuts_are_canonical : (m : Manifest) (id : VersionId) (n p : ℕ) (body print : List ℕ) → IsCanonical m → m.drives ≡ n
-    → (has : HasPrint n p body print) → IsCanonical (manifest_with m id has.under.cuts)
-cuts_are_canonical m id n p body print canonical drives has =
-    let under = has.under in
-    let cuts = under.cuts in
-    let count : length (map (part_with id) cuts) ≡ length has.parts = length-map cuts (part_with id) ∙ under.count in
-    let parts : All (λ cut. IsCanonicalPart n (part_with id cut)) cuts =
-    All-from_get_or (λ cut. IsCanonicalPart n (part_with id cut)) cuts (0, [])
-    (λ i low.
-    let inside : i < length has.parts = omega (arith, low, under.count) in
-    part_is_canonical n p id (slice_index_or has.parts i []) (slice_index_or cuts i (0, [])) (has.cut.fits i [] inside) (under.each i inside)) in
-    record {
-      name = canonical.name;
-      drives = canonical.drives;
-      parity = canonical.parity;
-      some = omega (arith, count, has.cut.some);
-      few = omega (arith, count, has.cut.few);
-      parts = subst (λ (d : ℕ). AllByRecursion (IsCanonicalPart d) (map (part_with id) cuts)) (sym drives)
-          (recursion_from_All (IsCanonicalPart n) (map (part_with id) cuts) (All-map (IsCanonicalPart n) (part_with id) cuts parts));
-    }
-
--- a part of a list that isn't empty
-first_part : (parts : List ManifestPart) → 1 ≤ length parts → ManifestPart
-first_part [] some = absurd (omega arith)
-first_part (part ∷ parts) some = part
-
--- a body with a print is cut as the manifest says whose text is the one under the print
-cut_as_told : (m : Manifest) (n p : ℕ) (body print : List ℕ) → IsCanonical m → m.drives ≡ n → m.parity ≡ p
-    → (has : HasPrint n p body print) → text_under m ≡ has.text → IsCutAs n p m.parts has.parts
-cut_as_told m n p body print canonical drives parity has same =
-    let under = has.under in
-    let cuts = under.cuts in
-    let id = (first_part m.parts canonical.some).id in
-    let other = manifest_with m id cuts in
-    let text : text_under m ≡ text_under other =
-    same ∙ under.spells
-    ∙ ap (λ (d : ℕ). print_text d p cuts) (sym drives) ∙ ap (λ (q : ℕ). print_text m.drives q cuts) (sym parity)
-    ∙ ap (print_text m.drives m.parity) (sym (cuts_again id cuts)) in
-    let told = tells_parts m other canonical (cuts_are_canonical m id n p body print canonical drives has) text in
-    let cuts_are : map cut_of m.parts ≡ cuts = told.2 ∙ cuts_again id cuts in
-    let count : length has.parts ≡ length m.parts =
-    sym under.count ∙ ap (length {A = Cut}) (sym cuts_are) ∙ length-map m.parts cut_of in
-    record {
-      count = count;
-      each = λ i default low.
-          let at : slice_index_or cuts i (0, []) ≡ cut_of (slice_index_or m.parts i default) =
-          ap (λ (all : List Cut). slice_index_or all i (0, [])) (sym cuts_are) ∙ get_or-map cut_of m.parts i default (0, []) low in
-          subst (IsCutOf n p (slice_index_or has.parts i [])) at (under.each i (omega (arith, low, count)));
-    }
-
--- ---- the parts, one after the other
 
 -- all parts before a place and the first bytes of the next one are the front of them all
 begun : (cut : List (List ℕ)) (i n : ℕ) (body : List ℕ) → i < length cut → n ≤ length (slice_index_or cut i [])
@@ -202,7 +125,7 @@ module _ {D : Type 0} (tells : D → Bool) (files : D → Files) (count : D → 
       elim (one_or_two (text_under m) has.text) [
         | inl same ↦
             let cut = has.parts in
-            let told = cut_as_told m set.drives set.parity whole print canonical serves.fits.drives serves.fits.parity has same in
+            let told = text_tells_cuts set.drives set.parity m whole print (record { canonical = canonical; drives = serves.fits.drives; parity = serves.fits.parity }) has same in
             elim (front cut told) [
               | inl first ↦
                   let begin : take (length body) whole ≡ body = ap (take (length body)) has.joins ∙ sym first in
@@ -213,33 +136,40 @@ module _ {D : Type 0} (tells : D → Bool) (files : D → Files) (count : D → 
                   inl (sym (ap (take (length bytes)) span ∙ take_all (length bytes) bytes (omega arith)))
               | inr clash ↦ inr (record {
                 read = clash.2.read;
-                other = clash.2.other;
-                differ = clash.2.differ;
-                same = clash.2.same;
                 was_read = clash.2.was_read;
-                is_hashed = record {
-                  parts = has.parts;
-                  text = has.text;
-                  joins = has.joins;
-                  under = has.under;
-                  hashed = has.hashed;
-                  is = inr (clash.0, clash.1, clash.2.is);
+                clash = record {
+                  other = clash.2.other;
+                  clash = clash.2.clash;
+                  is_hashed = record {
+                    parts = has.parts;
+                    text = has.text;
+                    joins = has.joins;
+                    under = has.under;
+                    hashed = has.hashed;
+                    is = inr (clash.0, clash.1, clash.2.is);
+                  };
                 };
               })
             ]
         | inr differ ↦ inr (record {
           read = text_under m;
-          other = has.text;
-          differ = differ;
-          same = sym serves.print ∙ has.hashed;
           was_read = (found.0, found.1, (λ default told. inl (id, m, canonical, found.2 default told, refl)));
-          is_hashed = record {
-            parts = has.parts;
-            text = has.text;
-            joins = has.joins;
-            under = has.under;
-            hashed = has.hashed;
-            is = inl refl;
+          clash = record {
+            other = has.text;
+            clash = record {
+              read_bytes = texts_are_bytes m canonical;
+              other_bytes = text_is_bytes set.drives set.parity has.parts has.text has.under;
+              differ = differ;
+              same = sym serves.print ∙ has.hashed;
+            };
+            is_hashed = record {
+              parts = has.parts;
+              text = has.text;
+              joins = has.joins;
+              under = has.under;
+              hashed = has.hashed;
+              is = inl refl;
+            };
           };
         })
       ]
@@ -259,6 +189,7 @@ module _ {D : Type 0} (tells : D → Bool) (files : D → Files) (count : D → 
     at = slice_get-get_or parts i part low ∙ ap Some at;
     stripe = few.0;
     needed = omega (arith, few.1, within);
+    begun = omega arith;
     lacking = few_before tells files count set part few.0 (ShardQuorum whys) old mid new all kept few.2;
   }
 
@@ -302,6 +233,7 @@ module _ {D : Type 0} (tells : D → Bool) (files : D → Files) (count : D → 
     at = some.at;
     stripe = some.stripe;
     needed = some.needed;
+    begun = some.begun;
     lacking = few_before tells files count set some.part some.stripe (ShardQuorum whys) old mid new all kept some.lacking;
   }
 

@@ -1,6 +1,7 @@
 -- Digest tables that are held while a part is read, and verified blocks of a stripe.
 use Rattle.std.specs.Prelude.{◌≡◌, ◌⊎◌, ◌<◌, ◌*◌, ℕ, Bool, false, IsTrue, All, List, [], Some, length, slice_index, slice_index_or, Vec}
 use Rattle.std.specs.Int.{IsBitSet}
+use Rattle.field_reader.specs.Spelling.{IsBytes}
 use Rattle.sha2.specs.Sha256.{sha256}
 use Rattle.call_types.specs.Good.{good_count, is_good}
 use Rattle.call_types.specs.declared.why.Why.{Why}
@@ -25,6 +26,7 @@ ShowsTable d n files name table = (file : List ℕ) × (files.shown name ≡ Som
 -- a digest table of a part that has a root, which a drive that tells shows
 pub record IsTableFor (d : ℕ) (part : ManifestPart) (root : List ℕ) (tells : Bool) (files : Files) (table : List ℕ) : Type 0 where
   pub size : length table ≡ 32 * stripe_count part.length
+  pub bytes : IsBytes table
   pub digest : root ≡ sha256 table
   pub shown : IsTrue tells → ShowsTable d part.length files (shard_name part.id) table
 
@@ -42,6 +44,7 @@ pub record IsFetched (d : ℕ) (part : ManifestPart) (i : ℕ) (root : List ℕ)
   pub table : List ℕ
   pub is_table : IsTableFor d part root tells files table
   pub size : length block ≡ block_size d (stripe_length part.length i)
+  pub bytes : IsBytes block
   pub stored : digest ≡ digest_in table i
   pub shown : IsTrue tells → ShowsBlock d part.length i files (shard_name part.id) block
 
@@ -55,10 +58,10 @@ pub record IsVerified (d : ℕ) (part : ManifestPart) (i : ℕ) (root : List ℕ
 abbrev pub GaveBlock : ℕ → ManifestPart → ℕ → List ℕ → Bool → Files → Type 0
 GaveBlock d part i root tells files = (block : List ℕ) × IsVerified d part i root tells files block
 
--- why a drive gave no block of a stripe, or there was not enough memory
+-- why a drive gave no block of a stripe, or there was not enough memory, and its count of faults stood
 abbrev pub IsNoBlock : ℕ → ManifestPart → ℕ → List ℕ → NotGiven → Type 0 → Bool → Files → ℕ → ℕ → Type 0
 IsNoBlock d part i root (Because why) out tells files old new = (is_good why ≡ false) × NoBlock d part i root why out tells files old new
-IsNoBlock d part i root NoMemory out tells files old new = Unit {0}
+IsNoBlock d part i root NoMemory out tells files old new = new ≡ old
 
 module _ {D : Type 0} (tells : D → Bool) (files : D → Files) where
   -- what is held of each drive

@@ -1,5 +1,5 @@
 -- Why a drive gave no manifest, or no block.
-use Rattle.std.specs.Prelude.{◌≡◌, ◌≢◌, ◌⊎◌, ◌<◌, ◌≤◌, ◌*◌, ℕ, Bool, IsTrue, List, [], length, take, drop, slice_index_or, Some, None}
+use Rattle.std.specs.Prelude.{◌≡◌, ◌≢◌, ◌⊎◌, ◌<◌, ◌≤◌, ◌*◌, ℕ, Bool, IsTrue, List, length, take, drop, Some, None}
 use Rattle.std.specs.List.{sum_by}
 use Rattle.sha2.specs.Sha256.{sha256}
 use Rattle.field_reader.specs.Format.{fault_at}
@@ -11,15 +11,16 @@ use Rattle.call_types.specs.declared.why.FileKind.TheVariants.{Format, Register,
 use Rattle.call_types.specs.declared.why.Why.{Why}
 use Rattle.call_types.specs.declared.why.Why.TheVariants.{Good, Failed, Damaged, Behind, Lacks}
 use Rattle.drive_base.specs.Files.{Files}
-use Rattle.file_access.specs.Reading.{FailedWhile}
+use Rattle.file_access.specs.Reading.{FailedWhile, IsTooLong}
 use Rattle.manifest_file.specs.Canonical.{IsCanonical}
 use Rattle.manifest_file.specs.Layout.{manifest}
 use Rattle.manifest_file.specs.Print.{text_under}
 use Rattle.manifest_file.specs.Spelling.{manifest_kind, spelling, file_of}
+use Rattle.manifest_file.specs.declared.manifest.TheConstants.{LONGEST_FILE}
 use Rattle.manifest_file.specs.declared.manifest.Manifest.{Manifest as ManifestRecord}
 use Rattle.manifest_file.specs.declared.manifest.ManifestPart.{ManifestPart}
-use Rattle.shard_file.specs.Stripes.{stripe_count}
-use Rattle.shard_file.specs.Shards.{AreShardBlocks, shard_bytes, table_of}
+use Rattle.shard_file.specs.Shards.{block_place, file_length, table_place}
+use Rattle.shard_file.specs.Stripes.{block_size, stripe_count, stripe_length}
 use Rattle.body_print.specs.Names.{shard_name, manifest_name}
 
 -- what is asked for: a set's drives and parity, a print, and how many bytes the body must reach to
@@ -44,38 +45,35 @@ pub record Serves (wanted : Wanted) (m : ManifestRecord) : Type 0 where
   pub print : wanted.print ≡ sha256 (text_under m)
   pub fits : Fits wanted m
 
--- the damage of a file that should be a manifest that serves: it isn't sealed, its body is no manifest's, or it is a
+-- what is wrong with a file that should be a manifest that serves: it isn't sealed, its body is no manifest's, or it is a
 -- manifest whose print is another, or which is of other numbers or too short, which is told at its end
-abbrev pub IsManifestDamage : Wanted → List ℕ → Damage → Type 0
-IsManifestDamage wanted file damage =
+abbrev pub IsUnserved : Wanted → List ℕ → Damage → Type 0
+IsUnserved wanted file damage =
     IsDamage manifest_kind file damage
     ⊎ ((body : List ℕ) × (place : ℕ) × (file ≡ sealed manifest_kind body) × (fault_at manifest body ≡ Some place) × (damage ≡ Spelling place))
     ⊎ ((m : ManifestRecord) × IsCanonical m × (file ≡ file_of m) × (wanted.print ≢ sha256 (text_under m)) × (damage ≡ Digest wanted.print (sha256 (text_under m))))
     ⊎ ((m : ManifestRecord) × IsCanonical m × (file ≡ file_of m) × (Fits wanted m → ⊥) × (damage ≡ Spelling (length (spelling m))))
 
+-- the damage of a file that should be a manifest that serves: it is longer than each manifest's, and its length is told, or
+-- else what is wrong with it
+abbrev pub IsManifestDamage : Wanted → List ℕ → Damage → Type 0
+IsManifestDamage wanted file damage =
+    IsTooLong LONGEST_FILE file damage ⊎ ((length file ≤ LONGEST_FILE) × IsUnserved wanted file damage)
+
 -- the digest that a table has for a stripe
 abbrev pub digest_in : List ℕ → ℕ → List ℕ
 digest_in table i = take 32 (drop (32 * i) table)
 
--- so many bytes from a place on are the digest table in each shard file of n bytes of which a stripe has d data blocks
-abbrev pub IsTablePlace : ℕ → ℕ → ℕ → ℕ → Type 0
-IsTablePlace d n at long = (blocks : List (List ℕ)) → AreShardBlocks d n blocks → take long (drop at (shard_bytes blocks)) ≡ table_of blocks
-
--- so many bytes from a place on are the block of a stripe in each of these shard files
-abbrev pub IsBlockPlace : ℕ → ℕ → ℕ → ℕ → ℕ → Type 0
-IsBlockPlace d n i at long =
-    (blocks : List (List ℕ)) → AreShardBlocks d n blocks → take long (drop at (shard_bytes blocks)) ≡ slice_index_or blocks i []
-
--- a file is shorter than each of these shard files
+-- a file is shorter than each shard file of n bytes of which a stripe has d data blocks
 abbrev pub IsTooShort : ℕ → ℕ → List ℕ → Type 0
-IsTooShort d n file = (blocks : List (List ℕ)) → AreShardBlocks d n blocks → length file < length (shard_bytes blocks)
+IsTooShort d n file = length file < file_length d n
 
 -- the damage of a shard file where the digest table is read: it isn't that of the root, or the file is too short, and its
 -- length is told
 abbrev pub IsTableDamage : ℕ → ℕ → List ℕ → List ℕ → Damage → Type 0
 IsTableDamage d n root file (Short told) = IsTooShort d n file × (told ≡ length file)
 IsTableDamage d n root file (Digest stored computed) = (stored ≡ root) × (root ≢ computed)
-    × ((at : ℕ) × (long : ℕ) × (long ≡ 32 * stripe_count n) × IsTablePlace d n at long × (computed ≡ sha256 (take long (drop at file))))
+    × (computed ≡ sha256 (take (32 * stripe_count n) (drop (table_place d n) file)))
 IsTableDamage d n root file (Kind _) = ⊥
 IsTableDamage d n root file (Spelling _) = ⊥
 IsTableDamage d n root file (Long _) = ⊥
@@ -84,19 +82,18 @@ IsTableDamage d n root file (Long _) = ⊥
 abbrev pub IsBlockDamage : ℕ → ℕ → ℕ → List ℕ → List ℕ → Damage → Type 0
 IsBlockDamage d n i table file (Short told) = IsTooShort d n file × (told ≡ length file)
 IsBlockDamage d n i table file (Digest stored computed) = (stored ≡ digest_in table i) × (digest_in table i ≢ computed)
-    × ((at : ℕ) × (long : ℕ) × IsBlockPlace d n i at long × (computed ≡ sha256 (take long (drop at file))))
+    × (computed ≡ sha256 (take (block_size d (stripe_length n i)) (drop (block_place d i) file)))
 IsBlockDamage d n i table file (Kind _) = ⊥
 IsBlockDamage d n i table file (Spelling _) = ⊥
 IsBlockDamage d n i table file (Long _) = ⊥
 
 -- these bytes are a file's at the place of the digest table
 abbrev pub IsTableOf : ℕ → ℕ → List ℕ → List ℕ → Type 0
-IsTableOf d n file table = (at : ℕ) × (length table ≡ 32 * stripe_count n) × IsTablePlace d n at (length table)
-    × (table ≡ take (length table) (drop at file))
+IsTableOf d n file table = table ≡ take (32 * stripe_count n) (drop (table_place d n) file)
 
 -- these bytes are a file's at the place of the block of a stripe
 abbrev pub IsBlockOf : ℕ → ℕ → ℕ → List ℕ → List ℕ → Type 0
-IsBlockOf d n i file block = (at : ℕ) × IsBlockPlace d n i at (length block) × (block ≡ take (length block) (drop at file))
+IsBlockOf d n i file block = block ≡ take (block_size d (stripe_length n i)) (drop (block_place d i) file)
 
 -- the damage of a shard file of a part of n bytes, where the block of a stripe is read: of its digest table, or of this
 -- block by its table, which has the root

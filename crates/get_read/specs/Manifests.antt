@@ -8,7 +8,7 @@ use Rattle.manifest_file.specs.Canonical.{IsCanonical}
 use Rattle.manifest_file.specs.Spelling.{file_of}
 use Rattle.manifest_file.specs.declared.manifest.Manifest.{Manifest as ManifestRecord}
 use Rattle.body_print.specs.Names.{manifest_name}
-use Rattle.get_read.specs.Causes.{Wanted, Serves, IsManifestDamage, NoManifest}
+use Rattle.get_read.specs.Causes.{Wanted, Serves, IsUnserved, NoManifest}
 use Rattle.file_access.specs.declared.cause.NotGiven.{NotGiven}
 use Rattle.file_access.specs.declared.cause.NotGiven.TheVariants.{Because, NoMemory}
 
@@ -16,7 +16,7 @@ use Rattle.file_access.specs.declared.cause.NotGiven.TheVariants.{Because, NoMem
 abbrev pub IsDamagedSo : Wanted → List ℕ → Why → Type 0
 IsDamagedSo wanted file Good = ⊥
 IsDamagedSo wanted file (Failed _ _) = ⊥
-IsDamagedSo wanted file (Damaged damage) = IsManifestDamage wanted file damage
+IsDamagedSo wanted file (Damaged damage) = IsUnserved wanted file damage
 IsDamagedSo wanted file (Behind _) = ⊥
 IsDamagedSo wanted file (Lacks _) = ⊥
 
@@ -26,9 +26,9 @@ IsServed wanted file (Ok m) = IsCanonical m × (file ≡ file_of m) × Serves wa
 IsServed wanted file (Err (Because why)) = IsDamagedSo wanted file why
 IsServed wanted file (Err NoMemory) = Unit {0}
 
--- a manifest that serves, which a drive that tells shows, or why the drive gave none
+-- a manifest that serves, which a drive that tells shows, or why the drive gave none; or there was not enough memory, and its count of faults stood
 abbrev pub GivesManifest : Wanted → VersionId → Type 0 → Result ManifestRecord NotGiven → Bool → Files → ℕ → ℕ → Type 0
 GivesManifest wanted id out (Ok m) tells files old new =
     IsCanonical m × Serves wanted m × (IsTrue tells → files.shown (manifest_name id) ≡ Some (file_of m))
 GivesManifest wanted id out (Err (Because why)) tells files old new = NoManifest wanted id why out tells files old new
-GivesManifest wanted id out (Err NoMemory) tells files old new = Unit {0}
+GivesManifest wanted id out (Err NoMemory) tells files old new = new ≡ old

@@ -33,6 +33,13 @@ module _ {D : Type 0} (tells : D → Bool) (files : D → Files) (count : D → 
   AreOfSpan set print from to bytes drives = (body : List ℕ) → HasPrint set.drives set.parity body print
       → (bytes ≡ take (length bytes) (drop from (take to body))) ⊎ Clash tells files set.drives set.parity body print drives
 
+  -- there was not enough memory at one of the drives: its count of faults stood, and the drives after it are as they were
+  pub record WantsMemory (set : SetPlan) (old new : List D) : Type 0 where
+    pub place : ℕ
+    pub within : place < set.drives
+    pub stood : (default : D) → count (slice_index_or new place default) ≡ count (slice_index_or old place default)
+    pub others : (k : ℕ) (default : D) → place < k → slice_index_or new k default ≡ slice_index_or old k default
+
   -- no drive gave a manifest that serves
   pub record NoneServes (set : SetPlan) (print : List ℕ) (id : VersionId) (reach : ℕ) (whys : List Why) (old new : List D) : Type 0 where
     pub counted : length whys ≡ set.drives
@@ -48,7 +55,7 @@ module _ {D : Type 0} (tells : D → Bool) (files : D → Files) (count : D → 
     pub found : IsFound tells files id manifest old
     pub canonical : IsCanonical manifest
     pub serves : Serves (wanted_of set print reach) manifest
-    pub lacks : LacksStripe tells files count set manifest.parts reach whys old new
+    pub lacks : LacksStripe tells files count set manifest.parts 0 reach whys old new
 
   -- the cause of a refused read: all drives were tried, and too few gave what was asked
   abbrev pub IsRefused : SetPlan → List ℕ → VersionId → ℕ → ReadFaultKind → List D → List D → Type 0
@@ -63,7 +70,7 @@ module _ {D : Type 0} (tells : D → Bool) (files : D → Files) (count : D → 
   FindsManifest set print id reach (Ok m) old new = IsFound tells files id m old × IsCanonical m × Serves (wanted_of set print reach) m
   FindsManifest set print id reach (Err (InvalidRange _)) old new = ⊥
   FindsManifest set print id reach (Err (ShardQuorum whys)) old new = NoneServes set print id reach whys old new
-  FindsManifest set print id reach (Err NoMemory) old new = Unit {0}
+  FindsManifest set print id reach (Err NoMemory) old new = WantsMemory set old new
 
   -- what reading the manifest answers
   abbrev pub ReadsManifest : SetPlan → List ℕ → VersionId → Result Manifest ReadFaultKind → List D → List D → Type 0

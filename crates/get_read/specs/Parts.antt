@@ -1,15 +1,13 @@
 -- What reading parts adds to a body.
-use Rattle.std.specs.Prelude.{◌≡◌, ◌≢◌, ◌⊎◌, ◌+◌, ◌-◌, ◌*◌, ◌<◌, ◌≤◌, ℕ, Bool, List, [], ◌++◌, Some, length, slice_get, slice_index_or, take}
+use Rattle.std.specs.Prelude.{◌≡◌, ◌⊎◌, ◌+◌, ◌-◌, ◌*◌, ◌<◌, ◌≤◌, ℕ, Bool, List, [], ◌++◌, Some, length, slice_get, slice_index_or, take}
 use Rattle.std.specs.List.{concat}
-use Rattle.sha2.specs.Sha256.{sha256}
 use Rattle.drive_base.specs.Files.{Files}
 use Rattle.drive_base.specs.Plan.{data_drives}
 use Rattle.drive_base.specs.declared.plan.SetPlan.{SetPlan}
 use Rattle.manifest_file.specs.declared.manifest.ManifestPart.{ManifestPart}
 use Rattle.shard_file.specs.Stripes.{piece, stripe_size, stripe_length}
-use Rattle.body_print.specs.Clashes.{WasRead, IsTableOrBlock}
-use Rattle.manifest_file.specs.Print.{cut_of}
-use Rattle.body_print.specs.Prints.{IsCutOf}
+use Rattle.body_print.specs.Clashes.{IsClash, IsTableOrBlock, WasRead}
+use Rattle.body_print.specs.Prints.{IsCutAs}
 use Rattle.body_print.specs.Shards.{HasRoots}
 use Rattle.call_types.specs.declared.why.Why.{Why}
 use Rattle.get_read.specs.Blocks.{NoneMore}
@@ -17,19 +15,13 @@ use Rattle.get_read.specs.Causes.{body_length}
 use Rattle.get_read.specs.declared.faults.ReadFaultKind.{ReadFaultKind}
 use Rattle.get_read.specs.declared.faults.ReadFaultKind.TheVariants.{InvalidRange, ShardQuorum, NoMemory}
 
--- a body is cut as parts say: into as many byte strings, of their lengths and with their roots
-pub record IsCutAs (n p : ℕ) (parts : List ManifestPart) (cut : List (List ℕ)) : Type 0 where
-  pub count : length cut ≡ length parts
-  pub each : (i : ℕ) (default : ManifestPart) → i < length parts → IsCutOf n p (slice_index_or cut i []) (cut_of (slice_index_or parts i default))
-
 module _ {D : Type 0} (tells : D → Bool) (files : D → Files) where
   -- what was read and a table or a block of a part's bytes are two byte strings with one SHA-256
   pub record PartClash (n d : ℕ) (bytes : List ℕ) (drives : List D) : Type 0 where
     pub read : List ℕ
-    pub other : List ℕ
-    pub differ : read ≢ other
-    pub same : sha256 read ≡ sha256 other
     pub was_read : WasRead tells files drives read
+    pub other : List ℕ
+    pub clash : IsClash read other
     pub is : IsTableOrBlock n d bytes other
 
   -- the clash is in one of the parts that a body is cut into
@@ -68,17 +60,19 @@ module _ {D : Type 0} (tells : D → Bool) (files : D → Files) (count : D → 
       (stripe : ℕ) × (stripe_size * stripe < wanted) × NoneMore tells files count set part stripe whys old new
   StripeIsFew set part wanted NoMemory old new = Unit {0}
 
-  -- too few drives gave a block of a stripe of one of the parts, which begins before so many bytes of them all
-  pub record LacksStripe (set : SetPlan) (parts : List ManifestPart) (reach : ℕ) (whys : List Why) (old new : List D) : Type 0 where
+  -- too few drives gave a block of a stripe of one of the parts, which stands in what is asked for: it begins before the end, and ends after the
+  -- begin
+  pub record LacksStripe (set : SetPlan) (parts : List ManifestPart) (from reach : ℕ) (whys : List Why) (old new : List D) : Type 0 where
     pub place : ℕ
     pub part : ManifestPart
     pub at : slice_get parts place ≡ Some part
     pub stripe : ℕ
     pub needed : body_length (take place parts) + stripe_size * stripe < reach
+    pub begun : from < body_length (take place parts) + stripe_size * (stripe + 1)
     pub lacking : NoneMore tells files count set part stripe whys old new
 
   -- the cause where too few blocks of a stripe of one of the parts verified
   abbrev pub SomeAreFew : SetPlan → List ManifestPart → ℕ → ReadFaultKind → List D → List D → Type 0
   SomeAreFew set parts reach (InvalidRange _) old new = ⊥
-  SomeAreFew set parts reach (ShardQuorum whys) old new = LacksStripe set parts reach whys old new
+  SomeAreFew set parts reach (ShardQuorum whys) old new = LacksStripe set parts 0 reach whys old new
   SomeAreFew set parts reach NoMemory old new = Unit {0}

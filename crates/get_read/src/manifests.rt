@@ -15,7 +15,7 @@ use body_print::name_of_manifest;
 use call_types::{FileKind, Why, Whys};
 use drive_base::{Drive, SetPlan};
 use file_access::{NotGiven, file_on};
-use manifest_file::{Manifest, ManifestPart, print_of, read};
+use manifest_file::{LONGEST_FILE, Manifest, ManifestPart, print_of, read};
 use seal_file::{Damage, FileRead};
 use stamp_id::VersionId;
 use std::alloc::Global;
@@ -52,23 +52,23 @@ pub fn read_manifest<D: Drive>(
         print,
         reach: 0,
     };
-    manifest_for(alloc, wanted, id, drives)
+    manifest_for(alloc, &wanted, id, drives)
 }
 
 /// The manifest of an id that serves, from the first drive that gives it.
 pub fn manifest_for<D: Drive>(
     alloc: Global,
-    wanted: Wanted,
+    wanted: &Wanted,
     id: VersionId,
     drives: &mut [D],
 ) -> Result<Manifest, ReadFaultKind>
-    requires { length drives.old ≡ wanted.set.drives }
-    ensures outcome { FindsManifest D.tells D.files D.count wanted.set wanted.print id wanted.reach result drives.old drives.new }
+    requires { length drives.old ≡ wanted.now.set.drives }
+    ensures outcome { FindsManifest D.tells D.files D.count wanted.now.set wanted.now.print id wanted.now.reach result drives.old drives.new }
     ensures long { length drives.new ≡ length drives.old }
     ensures files { (k : ℕ) (d : D) → k < length drives.old → IsTrue (D.tells (slice_index_or drives.old k d)) → D.files (slice_index_or drives.new k d) ≡ D.files (slice_index_or drives.old k d) }
     ensures tells { (k : ℕ) (d : D) → k < length drives.old → D.tells (slice_index_or drives.new k d) ≡ D.tells (slice_index_or drives.old k d) }
     ensures counts { (k : ℕ) (d : D) → k < length drives.old → D.count (slice_index_or drives.old k d) ≤ D.count (slice_index_or drives.new k d) }
-    ensures stay { (k : ℕ) (d : D) → IsBitSet wanted.set.out k → slice_index_or drives.new k d ≡ slice_index_or drives.old k d }
+    ensures stay { (k : ℕ) (d : D) → IsBitSet wanted.now.set.out k → slice_index_or drives.new k d ≡ slice_index_or drives.old k d }
 {
     let name = name_of_manifest(alloc, id)?;
     let mut whys = Whys::all_good(wanted.set.drives);
@@ -87,14 +87,14 @@ pub fn manifest_for<D: Drive>(
 /// The manifest of this name on a drive that isn't out, if it serves.
 fn manifest_on<D: Drive>(
     alloc: Global,
-    wanted: Wanted,
+    wanted: &Wanted,
     index: u8,
     drive: &mut D,
     name: &str,
 ) -> Result<Manifest, NotGiven>
-    requires { index < wanted.set.drives }
-    ensures outcome { (id : VersionId) → name.now ≡ manifest_name id → GivesManifest (wanted_of wanted.set wanted.print wanted.reach) id (IsBitSet wanted.set.out index) result (D.tells drive.old) (D.files drive.old) (D.count drive.old) (D.count drive.new) }
-    ensures alone { IsBitSet wanted.set.out index → drive.new ≡ drive.old }
+    requires { index < wanted.now.set.drives }
+    ensures outcome { (id : VersionId) → name.now ≡ manifest_name id → GivesManifest (wanted_of wanted.now.set wanted.now.print wanted.now.reach) id (IsBitSet wanted.now.set.out index) result (D.tells drive.old) (D.files drive.old) (D.count drive.old) (D.count drive.new) }
+    ensures alone { IsBitSet wanted.now.set.out index → drive.new ≡ drive.old }
     ensures files { IsTrue (D.tells drive.old) → D.files drive.new ≡ D.files drive.old }
     ensures tells { D.tells drive.new ≡ D.tells drive.old }
     ensures count { D.count drive.old ≤ D.count drive.new }
@@ -102,13 +102,13 @@ fn manifest_on<D: Drive>(
     if wanted.set.is_out(index) {
         return Err(NotGiven::Because(Why::Lacks(FileKind::Format)));
     }
-    let file = file_on(alloc, drive, FileKind::Manifest, name)?;
+    let file = file_on(alloc, drive, FileKind::Manifest, name, LONGEST_FILE)?;
     served(alloc, wanted, file.as_slice())
 }
 
 /// The manifest of a file, if it serves.
-fn served(alloc: Global, wanted: Wanted, file: &[u8]) -> Result<Manifest, NotGiven>
-    ensures { IsServed (wanted_of wanted.set wanted.print wanted.reach) file.now result }
+fn served(alloc: Global, wanted: &Wanted, file: &[u8]) -> Result<Manifest, NotGiven>
+    ensures { IsServed (wanted_of wanted.now.set wanted.now.print wanted.now.reach) file.now result }
 {
     match read(alloc, file) {
         Ok(manifest) => checked(wanted, manifest, file.len() as u64),
@@ -121,10 +121,10 @@ fn served(alloc: Global, wanted: Wanted, file: &[u8]) -> Result<Manifest, NotGiv
 }
 
 /// A manifest, if it serves. Its file has so many bytes.
-fn checked(wanted: Wanted, manifest: Manifest, long: u64) -> Result<Manifest, NotGiven>
+fn checked(wanted: &Wanted, manifest: Manifest, long: u64) -> Result<Manifest, NotGiven>
     requires canonical { IsCanonical manifest }
     requires long { long ≡ length (file_of manifest) }
-    ensures { IsServed (wanted_of wanted.set wanted.print wanted.reach) (file_of manifest) result }
+    ensures { IsServed (wanted_of wanted.now.set wanted.now.print wanted.now.reach) (file_of manifest) result }
 {
     let computed = print_of(&manifest);
     if computed != wanted.print {
@@ -138,9 +138,9 @@ fn checked(wanted: Wanted, manifest: Manifest, long: u64) -> Result<Manifest, No
 }
 
 /// Whether a manifest is of the set's numbers, and its body long enough.
-fn fits(wanted: Wanted, manifest: &Manifest) -> bool
-    ensures fit { IsTrue result → Fits (wanted_of wanted.set wanted.print wanted.reach) manifest.now }
-    ensures unfit { IsFalse result → Fits (wanted_of wanted.set wanted.print wanted.reach) manifest.now → ⊥ }
+fn fits(wanted: &Wanted, manifest: &Manifest) -> bool
+    ensures fit { IsTrue result → Fits (wanted_of wanted.now.set wanted.now.print wanted.now.reach) manifest.now }
+    ensures unfit { IsFalse result → Fits (wanted_of wanted.now.set wanted.now.print wanted.now.reach) manifest.now → ⊥ }
 {
     if manifest.drives != wanted.set.drives {
         return false;

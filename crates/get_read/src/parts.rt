@@ -20,18 +20,18 @@ use std::alloc::{AllocError, Global};
 /// The first bytes of a body, as many stripes of its parts as reach to a length. No stripe is read beyond it.
 pub fn parts_of<D: Drive>(
     alloc: Global,
-    set: SetPlan,
+    set: &SetPlan,
     parts: &[ManifestPart],
     long: u64,
     drives: &mut [D],
 ) -> Result<Vec<u8>, ReadFaultKind>
-    requires drives { length drives.old ≡ set.drives }
-    requires roots { All (λ part. length part.roots ≡ set.drives) parts.now }
+    requires drives { length drives.old ≡ set.now.drives }
+    requires roots { All (λ part. length part.roots ≡ set.now.drives) parts.now }
     requires reach { long ≤ body_length parts.now }
     ensures reach { IfOk result (λ body. long ≤ length body.items) }
-    ensures front { IfOk result (λ body. AreFront D.tells D.files set parts.now drives.old body.items) }
-    ensures few { IfErr result (λ fault. SomeAreFew D.tells D.files D.count set parts.now long fault drives.old drives.new) }
-    ensures kept { AreKept D.tells D.files D.count set.out drives.old drives.new }
+    ensures front { IfOk result (λ body. AreFront D.tells D.files set.now parts.now drives.old body.items) }
+    ensures few { IfErr result (λ fault. SomeAreFew D.tells D.files D.count set.now parts.now long fault drives.old drives.new) }
+    ensures kept { AreKept D.tells D.files D.count set.now.out drives.old drives.new }
 {
     let mut body = Vec::new(alloc);
     for part in parts {
@@ -47,17 +47,17 @@ pub fn parts_of<D: Drive>(
 /// Adds the first stripes of a part to the body, as many as have the bytes that are wanted.
 fn add_part<D: Drive>(
     alloc: Global,
-    set: SetPlan,
+    set: &SetPlan,
     part: &ManifestPart,
     wanted: u64,
     drives: &mut [D],
     body: &mut Vec<u8>,
 ) -> Result<(), ReadFaultKind>
-    requires drives { length drives.old ≡ set.drives }
-    requires roots { length part.now.roots ≡ set.drives }
-    ensures added { IsOk result → AddsPart D.tells D.files set part.now wanted drives.old body.old.items body.new.items }
-    ensures few { IfErr result (λ fault. StripeIsFew D.tells D.files D.count set part.now wanted fault drives.old drives.new) }
-    ensures kept { AreKept D.tells D.files D.count set.out drives.old drives.new }
+    requires drives { length drives.old ≡ set.now.drives }
+    requires roots { length part.now.roots ≡ set.now.drives }
+    ensures added { IsOk result → AddsPart D.tells D.files set.now part.now wanted drives.old body.old.items body.new.items }
+    ensures few { IfErr result (λ fault. StripeIsFew D.tells D.files D.count set.now part.now wanted fault drives.old drives.new) }
+    ensures kept { AreKept D.tells D.files D.count set.now.out drives.old drives.new }
 {
     let name = name_of_shard(alloc, part.id)?;
     let mut tables = no_tables(alloc, set.drives)?;
@@ -80,7 +80,7 @@ fn add_part<D: Drive>(
 /// Adds the bytes of a stripe of a part to the body.
 fn stripe_at<D: Drive>(
     alloc: Global,
-    set: SetPlan,
+    set: &SetPlan,
     part: &ManifestPart,
     name: &str,
     stripe: u64,
@@ -88,20 +88,20 @@ fn stripe_at<D: Drive>(
     drives: &mut [D],
     body: &mut Vec<u8>,
 ) -> Result<(), ReadFaultKind>
-    requires drives { length drives.old ≡ set.drives }
-    requires tables { length tables.old ≡ set.drives }
-    requires roots { length part.now.roots ≡ set.drives }
+    requires drives { length drives.old ≡ set.now.drives }
+    requires tables { length tables.old ≡ set.now.drives }
+    requires roots { length part.now.roots ≡ set.now.drives }
     requires within { stripe < stripe_count part.now.length }
     requires name { name.now ≡ shard_name part.now.id }
-    requires held { AreHeld D.tells D.files (data_drives set.drives set.parity) part.now tables.old drives.old }
-    ensures held { AreHeld D.tells D.files (data_drives set.drives set.parity) part.now tables.new drives.new }
+    requires held { AreHeld D.tells D.files (data_drives set.now.drives set.now.parity) part.now tables.old drives.old }
+    ensures held { AreHeld D.tells D.files (data_drives set.now.drives set.now.parity) part.now tables.new drives.new }
     ensures tables { length tables.new ≡ length tables.old }
-    ensures added { IsOk result → AddsStripe D.tells D.files set part.now stripe drives.old body.old.items body.new.items }
-    ensures few { IfErr result (λ fault. AreFew D.tells D.files D.count set part.now stripe fault drives.old drives.new) }
-    ensures kept { AreKept D.tells D.files D.count set.out drives.old drives.new }
+    ensures added { IsOk result → AddsStripe D.tells D.files set.now part.now stripe drives.old body.old.items body.new.items }
+    ensures few { IfErr result (λ fault. AreFew D.tells D.files D.count set.now part.now stripe fault drives.old drives.new) }
+    ensures kept { AreKept D.tells D.files D.count set.now.out drives.old drives.new }
 {
     let long = (part.length - stripe * STRIPE).min(STRIPE);
-    let size = block_len(&set, long) as usize;
+    let size = block_len(set, long) as usize;
     let blocks = blocks_of(alloc, set, part, name, stripe, size, tables, drives)?;
     add_stripe(alloc, set, &blocks, size, long as usize, body)?;
     Ok(())

@@ -1,6 +1,6 @@
 //! A stripe from verified blocks.
 
-ghost use Rattle.std.specs.Prelude.{◌≡◌, ◌≢◌, ◌<◌, ◌≤◌, ◌+◌, ◌*◌, ◌++◌, ℕ, List, [], All, IsTrue, IsOk, IsErr, IfOk, IfErr, length, slice_index, slice_index_or};
+ghost use Rattle.std.specs.Prelude.{◌≡◌, ◌≢◌, ◌<◌, ◌≤◌, ◌+◌, ◌*◌, ◌++◌, ℕ, List, [], All, IsTrue, IsOk, IsErr, IfOk, IfErr, OnOk, length, slice_index, slice_index_or};
 ghost use Rattle.std.specs.Int.{IsBitSet};
 ghost use Rattle.drive_base.specs.Plan.{data_drives};
 ghost use Rattle.shard_file.specs.Stripes.{piece, stripe_count, stripe_length, block_size};
@@ -26,7 +26,7 @@ use std::alloc::{AllocError, Global};
 /// As many verified blocks of a stripe as it has data blocks. All drives are tried before it is refused.
 pub fn blocks_of<D: Drive>(
     alloc: Global,
-    set: SetPlan,
+    set: &SetPlan,
     part: &ManifestPart,
     name: &str,
     stripe: u64,
@@ -34,18 +34,18 @@ pub fn blocks_of<D: Drive>(
     tables: &mut [Vec<u8>],
     drives: &mut [D],
 ) -> Result<Blocks, ReadFaultKind>
-    requires drives { length drives.old ≡ set.drives }
-    requires tables { length tables.old ≡ set.drives }
-    requires roots { length part.now.roots ≡ set.drives }
+    requires drives { length drives.old ≡ set.now.drives }
+    requires tables { length tables.old ≡ set.now.drives }
+    requires roots { length part.now.roots ≡ set.now.drives }
     requires within { stripe < stripe_count part.now.length }
-    requires size { size ≡ block_size (data_drives set.drives set.parity) (stripe_length part.now.length stripe) }
+    requires size { size ≡ block_size (data_drives set.now.drives set.now.parity) (stripe_length part.now.length stripe) }
     requires name { name.now ≡ shard_name part.now.id }
-    requires held { AreHeld D.tells D.files (data_drives set.drives set.parity) part.now tables.old drives.old }
-    ensures held { AreHeld D.tells D.files (data_drives set.drives set.parity) part.now tables.new drives.new }
+    requires held { AreHeld D.tells D.files (data_drives set.now.drives set.now.parity) part.now tables.old drives.old }
+    ensures held { AreHeld D.tells D.files (data_drives set.now.drives set.now.parity) part.now tables.new drives.new }
     ensures tables { length tables.new ≡ length tables.old }
-    ensures enough { IfOk result (λ blocks. AreEnough D.tells D.files set part.now stripe blocks.rows.items blocks.bytes.items drives.old) }
-    ensures few { IfErr result (λ fault. AreFew D.tells D.files D.count set part.now stripe fault drives.old drives.new) }
-    ensures kept { AreKept D.tells D.files D.count set.out drives.old drives.new }
+    ensures enough { IfOk result (λ blocks. AreEnough D.tells D.files set.now part.now stripe blocks.rows.items blocks.bytes.items drives.old) }
+    ensures few { IfErr result (λ fault. AreFew D.tells D.files D.count set.now part.now stripe fault drives.old drives.new) }
+    ensures kept { AreKept D.tells D.files D.count set.now.out drives.old drives.new }
 {
     let mut found = Blocks {
         rows: Vec::new(alloc),
@@ -74,7 +74,7 @@ pub fn blocks_of<D: Drive>(
 /// The block of a stripe on the drive of this number. Its table is held from then on.
 fn block_at<D: Drive>(
     alloc: Global,
-    set: SetPlan,
+    set: &SetPlan,
     part: &ManifestPart,
     index: u8,
     name: &str,
@@ -82,20 +82,20 @@ fn block_at<D: Drive>(
     tables: &mut [Vec<u8>],
     drives: &mut [D],
 ) -> Result<Fetched, NotGiven>
-    requires index { index < set.drives }
-    requires drives { length drives.old ≡ set.drives }
-    requires tables { length tables.old ≡ set.drives }
-    requires roots { length part.now.roots ≡ set.drives }
+    requires index { index < set.now.drives }
+    requires drives { length drives.old ≡ set.now.drives }
+    requires tables { length tables.old ≡ set.now.drives }
+    requires roots { length part.now.roots ≡ set.now.drives }
     requires within { stripe < stripe_count part.now.length }
     requires name { name.now ≡ shard_name part.now.id }
-    requires held { AreHeld D.tells D.files (data_drives set.drives set.parity) part.now tables.old drives.old }
-    ensures held { AreHeld D.tells D.files (data_drives set.drives set.parity) part.now tables.new drives.new }
+    requires held { AreHeld D.tells D.files (data_drives set.now.drives set.now.parity) part.now tables.old drives.old }
+    ensures held { AreHeld D.tells D.files (data_drives set.now.drives set.now.parity) part.now tables.new drives.new }
     ensures tables { length tables.new ≡ length tables.old }
-    ensures fetched { IfOk result (λ fetched. (d : D) → IsFetched (data_drives set.drives set.parity) part.now stripe (slice_index_or part.now.roots index []) (D.tells (slice_index_or drives.old index d)) (D.files (slice_index_or drives.old index d)) fetched.stored fetched.block.items) }
-    ensures in_use { IfOk result (λ _. IsBitSet set.out index → ⊥) }
-    ensures cause { IfErr result (λ fault. (d : D) → IsNoBlock (data_drives set.drives set.parity) part.now stripe (slice_index_or part.now.roots index []) fault (IsBitSet set.out index) (D.tells (slice_index_or drives.old index d)) (D.files (slice_index_or drives.old index d)) (D.count (slice_index_or drives.old index d)) (D.count (slice_index_or drives.new index d))) }
+    ensures fetched { IfOk result (λ fetched. (d : D) → IsFetched (data_drives set.now.drives set.now.parity) part.now stripe (slice_index_or part.now.roots index []) (D.tells (slice_index_or drives.old index d)) (D.files (slice_index_or drives.old index d)) fetched.stored fetched.block.items) }
+    ensures in_use { IfOk result (λ _. IsBitSet set.now.out index → ⊥) }
+    ensures cause { IfErr result (λ fault. (d : D) → IsNoBlock (data_drives set.now.drives set.now.parity) part.now stripe (slice_index_or part.now.roots index []) fault (IsBitSet set.now.out index) (D.tells (slice_index_or drives.old index d)) (D.files (slice_index_or drives.old index d)) (D.count (slice_index_or drives.old index d)) (D.count (slice_index_or drives.new index d))) }
     ensures others { (k : ℕ) (d : D) → k ≢ index → slice_index_or drives.new k d ≡ slice_index_or drives.old k d }
-    ensures kept { AreKept D.tells D.files D.count set.out drives.old drives.new }
+    ensures kept { AreKept D.tells D.files D.count set.now.out drives.old drives.new }
 {
     let table = &mut tables[index as usize];
     let drive = &mut drives[index as usize];
@@ -105,7 +105,7 @@ fn block_at<D: Drive>(
 /// The block of a stripe on a drive that isn't out, if its table verifies. The table is held from then on.
 fn fetched<D: Drive>(
     alloc: Global,
-    set: SetPlan,
+    set: &SetPlan,
     part: &ManifestPart,
     index: u8,
     name: &str,
@@ -113,16 +113,16 @@ fn fetched<D: Drive>(
     table: &mut Vec<u8>,
     drive: &mut D,
 ) -> Result<Fetched, NotGiven>
-    requires index { index < set.drives }
-    requires roots { length part.now.roots ≡ set.drives }
+    requires index { index < set.now.drives }
+    requires roots { length part.now.roots ≡ set.now.drives }
     requires within { stripe < stripe_count part.now.length }
     requires name { name.now ≡ shard_name part.now.id }
-    requires held { IsHeld (data_drives set.drives set.parity) part.now (slice_index_or part.now.roots index []) (D.tells drive.old) (D.files drive.old) table.old.items }
-    ensures held { IsHeld (data_drives set.drives set.parity) part.now (slice_index_or part.now.roots index []) (D.tells drive.old) (D.files drive.old) table.new.items }
-    ensures fetched { IfOk result (λ fetched. IsFetched (data_drives set.drives set.parity) part.now stripe (slice_index_or part.now.roots index []) (D.tells drive.old) (D.files drive.old) fetched.stored fetched.block.items) }
-    ensures in_use { IfOk result (λ _. IsBitSet set.out index → ⊥) }
-    ensures cause { IfErr result (λ fault. IsNoBlock (data_drives set.drives set.parity) part.now stripe (slice_index_or part.now.roots index []) fault (IsBitSet set.out index) (D.tells drive.old) (D.files drive.old) (D.count drive.old) (D.count drive.new)) }
-    ensures alone { IsBitSet set.out index → drive.new ≡ drive.old }
+    requires held { IsHeld (data_drives set.now.drives set.now.parity) part.now (slice_index_or part.now.roots index []) (D.tells drive.old) (D.files drive.old) table.old.items }
+    ensures held { IsHeld (data_drives set.now.drives set.now.parity) part.now (slice_index_or part.now.roots index []) (D.tells drive.old) (D.files drive.old) table.new.items }
+    ensures fetched { IfOk result (λ fetched. IsFetched (data_drives set.now.drives set.now.parity) part.now stripe (slice_index_or part.now.roots index []) (D.tells drive.old) (D.files drive.old) fetched.stored fetched.block.items) }
+    ensures in_use { IfOk result (λ _. IsBitSet set.now.out index → ⊥) }
+    ensures cause { IfErr result (λ fault. IsNoBlock (data_drives set.now.drives set.now.parity) part.now stripe (slice_index_or part.now.roots index []) fault (IsBitSet set.now.out index) (D.tells drive.old) (D.files drive.old) (D.count drive.old) (D.count drive.new)) }
+    ensures alone { IsBitSet set.now.out index → drive.new ≡ drive.old }
     ensures files { IsTrue (D.tells drive.old) → D.files drive.new ≡ D.files drive.old }
     ensures tells { D.tells drive.new ≡ D.tells drive.old }
     ensures count { D.count drive.old ≤ D.count drive.new }
@@ -146,7 +146,7 @@ fn fetched<D: Drive>(
 /// Reads the digest table of a drive, unless it is held.
 fn hold_table<D: Drive>(
     alloc: Global,
-    set: SetPlan,
+    set: &SetPlan,
     part: &ManifestPart,
     root: [u8; 32],
     name: &str,
@@ -155,10 +155,11 @@ fn hold_table<D: Drive>(
 ) -> Result<(), NotGiven>
     requires some { 0 < part.now.length }
     requires name { name.now ≡ shard_name part.now.id }
-    requires held { IsHeld (data_drives set.drives set.parity) part.now root (D.tells drive.old) (D.files drive.old) table.old.items }
-    ensures held { IsOk result → IsTableFor (data_drives set.drives set.parity) part.now root (D.tells drive.old) (D.files drive.old) table.new.items }
+    requires held { IsHeld (data_drives set.now.drives set.now.parity) part.now root (D.tells drive.old) (D.files drive.old) table.old.items }
+    ensures held { IsOk result → IsTableFor (data_drives set.now.drives set.now.parity) part.now root (D.tells drive.old) (D.files drive.old) table.new.items }
     ensures kept { IsErr result → table.new.items ≡ table.old.items }
-    ensures cause { IfErr result (λ fault. IsRefusedBy Shard name.now (IsTableDamage (data_drives set.drives set.parity) part.now.length root) fault (D.tells drive.old) (D.files drive.old) (D.count drive.old) (D.count drive.new)) }
+    ensures calm { OnOk result (D.count drive.new ≡ D.count drive.old) }
+    ensures cause { IfErr result (λ fault. IsRefusedBy Shard name.now (IsTableDamage (data_drives set.now.drives set.now.parity) part.now.length root) fault (D.tells drive.old) (D.files drive.old) (D.count drive.old) (D.count drive.new)) }
     ensures files { IsTrue (D.tells drive.old) → D.files drive.new ≡ D.files drive.old }
     ensures tells { D.tells drive.new ≡ D.tells drive.old }
     ensures count { D.count drive.old ≤ D.count drive.new }
@@ -173,20 +174,20 @@ fn hold_table<D: Drive>(
 /// Adds the bytes of a stripe of so many bytes to the body, from verified blocks of this size.
 pub fn add_stripe(
     alloc: Global,
-    set: SetPlan,
+    set: &SetPlan,
     blocks: &Blocks,
     size: usize,
     long: usize,
     body: &mut Vec<u8>,
 ) -> Result<(), AllocError>
-    requires rows { length blocks.now.rows.items ≡ data_drives set.drives set.parity }
-    requires below { All (λ row. row < set.drives) blocks.now.rows.items }
+    requires rows { length blocks.now.rows.items ≡ data_drives set.now.drives set.now.parity }
+    requires below { All (λ row. row < set.now.drives) blocks.now.rows.items }
     requires distinct { AreDistinct blocks.now.rows.items }
     requires have { length blocks.now.bytes.items ≡ length blocks.now.rows.items * size }
-    requires size { size ≡ block_size (data_drives set.drives set.parity) long }
+    requires size { size ≡ block_size (data_drives set.now.drives set.now.parity) long }
     ensures long { IsOk result → length body.new.items ≡ length body.old.items + long }
     ensures stripe { IsOk result → (stripe : List ℕ) (shards : List (List ℕ)) → length stripe ≡ long
-        → AreStripeBlocks set.drives (data_drives set.drives set.parity) stripe shards
+        → AreStripeBlocks set.now.drives (data_drives set.now.drives set.now.parity) stripe shards
         → ((j : ℕ) → j < length blocks.now.rows.items → piece size blocks.now.bytes.items j ≡ slice_index_or shards (slice_index blocks.now.rows.items j) [])
         → body.new.items ≡ body.old.items ++ stripe }
 {
@@ -194,7 +195,7 @@ pub fn add_stripe(
     let mut out = vec![in alloc; 0; size]?;
     for which in 0..set.read_quorum() {
         rebuild(
-            set,
+            *set,
             blocks.rows.as_slice(),
             blocks.bytes.as_slice(),
             which,

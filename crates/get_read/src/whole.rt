@@ -40,8 +40,8 @@ pub fn read_whole<D: Drive>(
         print,
         reach: long,
     };
-    let manifest = manifest_for(alloc, wanted, id, drives)?;
-    let mut body = parts_of(alloc, set, manifest.parts.as_slice(), long, drives)?;
+    let manifest = manifest_for(alloc, &wanted, id, drives)?;
+    let mut body = parts_of(alloc, &wanted.set, manifest.parts.as_slice(), long, drives)?;
     body.truncate(long as usize);
     Ok(body)
 }

@@ -4,9 +4,9 @@ use Rattle.std.specs.Prelude.{map, sum_by}
 use Rattle.std.specs.List.{AllByRecursion}
 use Rattle.std.proofs.lemmas.List.{length-map}
 use Rattle.std.proofs.lemmas.List.Sums.{sum_by-cons, sum_by_more_le}
-use Rattle.sha2.proofs.Facts256.{length-sha256}
 use Rattle.stamp_id.specs.declared.version.VersionId.{VersionId}
 use Rattle.drive_base.specs.declared.plan.SetPlan.{SetPlan}
+use Rattle.manifest_file.proofs.RootLemmas.{sha256_is_root}
 use Rattle.manifest_file.specs.Canonical.{IsCanonical, IsCanonicalPart, IsRoot}
 use Rattle.manifest_file.specs.declared.manifest.Manifest.{Manifest}
 use Rattle.manifest_file.specs.declared.manifest.ManifestPart.{ManifestPart}
@@ -46,7 +46,7 @@ next_fits manifest parts i total part is same low so at =
 -- roots are digests
 pub roots_are_roots : (shards : List (List (List ℕ))) → AllByRecursion IsRoot (map root_of shards)
 roots_are_roots [] = tt
-roots_are_roots (shard ∷ shards) = (length-sha256 (table_of shard), roots_are_roots shards)
+roots_are_roots (shard ∷ shards) = (sha256_is_root (table_of shard), roots_are_roots shards)
 
 -- the manifest of a body that is one part is canonical
 pub canonical : (set : SetPlan) (id : VersionId) (name body : List ℕ) (size d : ℕ) (files roots : List (List ℕ)) (m : Manifest)

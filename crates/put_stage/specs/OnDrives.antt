@@ -81,15 +81,15 @@ LeavesOf (Damaged _) written old new = ⊥
 LeavesOf (Behind _) written old new = ⊥
 LeavesOf (Lacks _) written old new = Leaves [] written old new
 
--- the cause of a drive's answer to a stage: the drive is out, or its count of faults rose, or it forgot a file just written
+-- the cause of a drive's answer to a stage: the drive is out, or its count of faults rose, or it forgot a file just written, and no count rose
 abbrev pub CauseOf : Why → List StagedFile → Type 0 → Bool → ℕ → ℕ → Type 0
 CauseOf Good written out tells old new = (out → ⊥) × (new ≡ old)
 CauseOf (Failed before after) written out tells old new = (out → ⊥) × (before ≡ old) × (after ≡ new) × Rose old new
 CauseOf (Damaged _) written out tells old new = ⊥
 CauseOf (Behind _) written out tells old new = ⊥
 CauseOf (Lacks Format) written out tells old new = out × (new ≡ old)
-CauseOf (Lacks Manifest) written out tells old new = (out → ⊥) × HasKind Manifest written × (IsTrue tells → ⊥)
-CauseOf (Lacks Shard) written out tells old new = (out → ⊥) × HasKind Shard written × (IsTrue tells → ⊥)
+CauseOf (Lacks Manifest) written out tells old new = (out → ⊥) × HasKind Manifest written × (IsTrue tells → ⊥) × (new ≡ old)
+CauseOf (Lacks Shard) written out tells old new = (out → ⊥) × HasKind Shard written × (IsTrue tells → ⊥) × (new ≡ old)
 CauseOf (Lacks Register) written out tells old new = ⊥
 
 module _ {D : Type 0} (tells : D → Bool) (files : D → Files) (count : D → ℕ) where

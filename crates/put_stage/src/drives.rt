@@ -37,15 +37,15 @@ fn write_both<D: Drive>(
 
 /// Stages the files on a drive that isn't out, and tells whether it took them.
 pub fn stage_on<D: Drive>(
-    set: SetPlan,
+    set: &SetPlan,
     index: u8,
     drive: &mut D,
     names: &Names,
     manifest: &[u8],
     shard: &[u8],
 ) -> Why
-    requires { index < set.drives }
-    ensures staged { StagedOn D.tells D.files D.count (IsBitSet set.out index) (manifest_and_shard names.now.id manifest.now shard.now) result drive.old drive.new }
+    requires { index < set.now.drives }
+    ensures staged { StagedOn D.tells D.files D.count (IsBitSet set.now.out index) (manifest_and_shard names.now.id manifest.now shard.now) result drive.old drive.new }
     ensures tells { D.tells drive.new ≡ D.tells drive.old }
     ensures count { D.count drive.old ≤ D.count drive.new }
 {

@@ -12,15 +12,15 @@ use drive_base::{Drive, SetPlan};
 
 /// Stages the files on each drive that isn't out, and tells of each drive whether it took them.
 pub fn stage_all<D: Drive>(
-    set: SetPlan,
+    set: &SetPlan,
     names: &Names,
     manifest: &[u8],
     files: &[Vec<u8>],
     drives: &mut [D],
 ) -> Whys
-    requires drives { length drives.old ≡ set.drives }
-    requires files { length files.now ≡ set.drives }
-    ensures on { StagesOn D.tells D.files D.count set (files_of names.now.id manifest.now (all_bytes files.now)) result drives.old drives.new }
+    requires drives { length drives.old ≡ set.now.drives }
+    requires files { length files.now ≡ set.now.drives }
+    ensures on { StagesOn D.tells D.files D.count set.now (files_of names.now.id manifest.now (all_bytes files.now)) result drives.old drives.new }
     ensures tells { (k : ℕ) (d : D) → k < length drives.old → D.tells (slice_index_or drives.new k d) ≡ D.tells (slice_index_or drives.old k d) }
     ensures counts { (k : ℕ) (d : D) → k < length drives.old → D.count (slice_index_or drives.old k d) ≤ D.count (slice_index_or drives.new k d) }
 {

@@ -43,8 +43,8 @@ pub fn stage_manifest<D: Drive>(
 {
     let file = write(alloc, manifest)?;
     let names = names_of(alloc, id)?;
-    let whys = manifest_on_all(set, &names, file.as_slice(), drives);
-    answer(set, whys, print_of(manifest), total_size(manifest), etag)
+    let whys = manifest_on_all(&set, &names, file.as_slice(), drives);
+    answer(&set, whys, print_of(manifest), total_size(manifest), etag)
 }
 
 /// The bytes of all parts of a body.
@@ -60,9 +60,14 @@ fn total_size(manifest: &Manifest) -> u64
 }
 
 /// Stages a manifest on each drive that isn't out, and tells of each drive whether it took it.
-fn manifest_on_all<D: Drive>(set: SetPlan, names: &Names, manifest: &[u8], drives: &mut [D]) -> Whys
-    requires { length drives.old ≡ set.drives }
-    ensures on { StagesOn D.tells D.files D.count set (same_manifest names.now.id manifest.now) result drives.old drives.new }
+fn manifest_on_all<D: Drive>(
+    set: &SetPlan,
+    names: &Names,
+    manifest: &[u8],
+    drives: &mut [D],
+) -> Whys
+    requires { length drives.old ≡ set.now.drives }
+    ensures on { StagesOn D.tells D.files D.count set.now (same_manifest names.now.id manifest.now) result drives.old drives.new }
     ensures tells { (k : ℕ) (d : D) → k < length drives.old → D.tells (slice_index_or drives.new k d) ≡ D.tells (slice_index_or drives.old k d) }
     ensures counts { (k : ℕ) (d : D) → k < length drives.old → D.count (slice_index_or drives.old k d) ≤ D.count (slice_index_or drives.new k d) }
 {
@@ -78,14 +83,14 @@ fn manifest_on_all<D: Drive>(set: SetPlan, names: &Names, manifest: &[u8], drive
 
 /// Stages a manifest on a drive that isn't out, and tells whether it took it.
 fn manifest_on<D: Drive>(
-    set: SetPlan,
+    set: &SetPlan,
     index: u8,
     drive: &mut D,
     names: &Names,
     manifest: &[u8],
 ) -> Why
-    requires { index < set.drives }
-    ensures staged { StagedOn D.tells D.files D.count (IsBitSet set.out index) (manifest_alone names.now.id manifest.now) result drive.old drive.new }
+    requires { index < set.now.drives }
+    ensures staged { StagedOn D.tells D.files D.count (IsBitSet set.now.out index) (manifest_alone names.now.id manifest.now) result drive.old drive.new }
     ensures tells { D.tells drive.new ≡ D.tells drive.old }
     ensures count { D.count drive.old ≤ D.count drive.new }
 {

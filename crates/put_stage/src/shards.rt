@@ -51,8 +51,8 @@ fn file_of(
 }
 
 /// The files and roots of a body's shards.
-pub fn shards_of(alloc: Global, set: SetPlan, body: &[u8]) -> Result<Shards, AllocError>
-    ensures { IfOk result (λ shards. IsSharded set.drives (data_drives set.drives set.parity) body.now
+pub fn shards_of(alloc: Global, set: &SetPlan, body: &[u8]) -> Result<Shards, AllocError>
+    ensures { IfOk result (λ shards. IsSharded set.now.drives (data_drives set.now.drives set.now.parity) body.now
         (all_bytes shards.files.items) shards.roots.items) }
 {
     let drives = set.drives as usize;

@@ -4,6 +4,7 @@ ghost use Rattle.std.specs.Prelude.{◌≡◌};
 ghost use Rattle.put_stage.specs.declared.staged.StageFault.TheVariants.{NoMemory};
 
 use call_types::Whys;
+use drive_base::DriveSet;
 use std::alloc::{AllocError, AllocFailed};
 
 /// A body that is staged.
@@ -15,8 +16,8 @@ pub struct Staged {
     pub length: u64,
     /// Its MD5 (RFC 1321), or the ETag handed in with a manifest.
     pub etag: [u8; 16],
-    /// A mask of the drives that took all its files: bit i stands for drive i.
-    pub took: u16,
+    /// The drives that took all its files.
+    pub took: DriveSet,
 }
 
 /// Why a body wasn't staged.

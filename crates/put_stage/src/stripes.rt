@@ -32,16 +32,16 @@ impl Stripe {
 }
 
 /// Codes a stripe: its data blocks, filled up with zeros, then the parity.
-fn code_stripe(alloc: Global, set: SetPlan, stripe: &[u8]) -> Result<Stripe, AllocError>
+fn code_stripe(alloc: Global, set: &SetPlan, stripe: &[u8]) -> Result<Stripe, AllocError>
     requires { length stripe.now ≤ 1048576 }
-    ensures { IfOk result (λ coded. IsCoded set.drives (data_drives set.drives set.parity) stripe.now coded) }
+    ensures { IfOk result (λ coded. IsCoded set.now.drives (data_drives set.now.drives set.now.parity) stripe.now coded) }
 {
-    let size = block_len(&set, stripe.len() as u64) as usize;
+    let size = block_len(set, stripe.len() as u64) as usize;
     let mut blocks = Vec::with_capacity(alloc, size * set.drives as usize)?;
     blocks.extend_from_slice(stripe)?;
     blocks.resize(size * set.read_quorum() as usize, 0)?;
     let mut parity = vec![in alloc; 0; size * set.parity as usize]?;
-    encode(set, blocks.as_slice(), parity.as_mut_slice());
+    encode(*set, blocks.as_slice(), parity.as_mut_slice());
     blocks.extend_from_slice(parity.as_slice())?;
     let mut digests = vec![in alloc; [0; 32]; set.drives as usize]?;
     block_digests(blocks.as_slice(), size, digests.as_mut_slice());
@@ -53,8 +53,8 @@ fn code_stripe(alloc: Global, set: SetPlan, stripe: &[u8]) -> Result<Stripe, All
 }
 
 /// Codes the stripes of a body.
-pub fn stripes_of(alloc: Global, set: SetPlan, body: &[u8]) -> Result<Vec<Stripe>, AllocError>
-    ensures { IfOk result (λ stripes. AreCoded set.drives (data_drives set.drives set.parity) body.now stripes.items) }
+pub fn stripes_of(alloc: Global, set: &SetPlan, body: &[u8]) -> Result<Vec<Stripe>, AllocError>
+    ensures { IfOk result (λ stripes. AreCoded set.now.drives (data_drives set.now.drives set.now.parity) body.now stripes.items) }
 {
     let mut stripes = Vec::new(alloc);
     let mut rest = body;

@@ -43,11 +43,11 @@ pub fn stage_whole<D: Drive>(
 {
     let etag = Md5::digest(body);
     compare(md5, etag)?;
-    let prepared = prepare(alloc, set, id, name, body)?;
+    let prepared = prepare(alloc, &set, id, name, body)?;
     let manifest = prepared.manifest.as_slice();
     let files = prepared.files.as_slice();
-    let whys = stage_all(set, &prepared.names, manifest, files, drives);
-    answer(set, whys, prepared.print, body.len() as u64, etag)
+    let whys = stage_all(&set, &prepared.names, manifest, files, drives);
+    answer(&set, whys, prepared.print, body.len() as u64, etag)
 }
 
 /// Whether the MD5 that was stated, if any, is the body's.
@@ -79,14 +79,14 @@ struct Prepared {
 /// Makes the files of a body.
 fn prepare(
     alloc: Global,
-    set: SetPlan,
+    set: &SetPlan,
     id: VersionId,
     name: &str,
     body: &[u8],
 ) -> Result<Prepared, NoMemory>
     requires few { length body.now ≤ 5368709120 }
     requires name { length name.now < 2 ^ 16 }
-    ensures { IfOk result (λ prepared. IsPrepared set id name.now body.now prepared) }
+    ensures { IfOk result (λ prepared. IsPrepared set.now id name.now body.now prepared) }
 {
     let Shards { files, roots } = shards_of(alloc, set, body)?;
     let manifest = manifest_of(alloc, set, id, name, body.len() as u64, roots)?;
@@ -103,13 +103,13 @@ fn prepare(
 /// The manifest of a body that is one part.
 fn manifest_of(
     alloc: Global,
-    set: SetPlan,
+    set: &SetPlan,
     id: VersionId,
     name: &str,
     size: u64,
     roots: Vec<[u8; 32]>,
 ) -> Result<Manifest, NoMemory>
-    ensures { IfOk result (λ manifest. manifest ≡ manifest_of set id name.now size roots.items) }
+    ensures { IfOk result (λ manifest. manifest ≡ manifest_of set.now id name.now size roots.items) }
 {
     let part = ManifestPart {
         id,

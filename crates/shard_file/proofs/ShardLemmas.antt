@@ -1,18 +1,18 @@
 -- Where blocks and digests stand in a shard file.
 use Rattle.std.proofs.Common.{◌≡◌, ℕ, zero, suc, ◌+◌, ◌-◌, ◌*◌, ◌/◌, ◌%◌, ◌<◌, ◌≤◌, ◌∙◌, List, [], ◌∷◌, ◌++◌, length, slice_index_or, take, drop, map, ap, inl, inr, refl, subst, sym, arith}
 use Rattle.std.specs.List.{concat}
-use Rattle.std.proofs.Math.Nat.{mul-le-mul_right, zero-div, zero-mod}
+use Rattle.std.proofs.Math.Nat.{mul-le-mul_left, mul-le-mul_right, zero-div, zero-mod}
 use Rattle.std.proofs.Math.Numerals.{add-one}
 use Rattle.std.proofs.lemmas.Bool.{cases_eq, cases_lt}
-use Rattle.std.proofs.lemmas.List.{append-nil, append_assoc, drop-drop, drop_at, drop_more, get_or-map, length-append, length-map, length-take-le, map-append, take-append-drop, take_all, take_at, take_more}
+use Rattle.std.proofs.lemmas.List.{append-nil, append_assoc, drop-drop, drop-take, drop_at, drop_more, get_or-map, length-append, length-map, length-take-le, map-append, take-append-drop, take-take, take_all, take_at, take_more}
 use Rattle.std.proofs.lemmas.List.Folds.{concat-append}
 use Rattle.std.proofs.lemmas.List.FromFn.{get_or-map-range_with_len, length-map-range_with_len}
 use Rattle.std.proofs.lemmas.Nat.{mul-le}
 use Rattle.sha2.proofs.Facts256.{length-sha256}
 use Rattle.sha2.specs.Sha256.{sha256}
-use Rattle.shard_file.specs.Laws.{BodiesHaveShards, ShardFilesHaveLength}
-use Rattle.shard_file.specs.Shards.{table_of, shard_bytes, AreShardBlocks, HoldsBlock}
-use Rattle.shard_file.specs.Stripes.{stripe_size, stripe_count, stripe_length, stripe_lengths, stripes, block_size}
+use Rattle.shard_file.specs.Laws.{BodiesHaveShards, DigestsEndTheFile, ShardFilesHaveLength, ShardFilesHoldBlocks, WholeBlocksAdjoin}
+use Rattle.shard_file.specs.Shards.{block_place, digest_place, table_of, table_place, shard_bytes, AreShardBlocks, HoldsBlock}
+use Rattle.shard_file.specs.Stripes.{piece, stripe_size, stripe_count, stripe_length, stripe_lengths, stripes, block_size}
 use Rattle.shard_file.proofs.Pieces.{map_map, map_same}
 use Rattle.shard_file.proofs.StripeLemmas.{stripes_have_lengths}
 
@@ -94,51 +94,6 @@ length-blocks d n blocks last fit below above =
     ∙ length-append (concat (take last blocks)) (slice_index_or blocks last [])
     ∙ omega (arith, front, block)
 
--- the digests of a stripe's block and of the later ones stand up to the end of the file
-pub table_from : (d n : ℕ) (blocks : List (List ℕ)) (last k digest_at : ℕ) → AreShardBlocks d n blocks
-    → stripe_size * last < n → n ≤ stripe_size * (last + 1) → k ≤ last
-    → digest_at ≡ last * block_size d stripe_size + block_size d (n - last * stripe_size) + 32 * k
-    → drop digest_at (shard_bytes blocks) ≡ table_of (drop k blocks)
-table_from d n blocks last k digest_at fit below above low is =
-    let long = length-shard d n blocks fit in
-    let all = length-blocks d n blocks last fit below above in
-    let count : stripe_count n ≡ last + 1 = omega arith in
-    let before : length (table_of (take k blocks)) ≡ 32 * k =
-    length-table_of (take k blocks) ∙ ap (λ (m : ℕ). 32 * m) (length-take-le k blocks (omega arith)) in
-    let place : length (concat blocks) + 32 * k ≡ digest_at = omega (arith, all) in
-    ap (λ (m : ℕ). drop m (shard_bytes blocks)) (sym place)
-    ∙ sym (drop-drop (32 * k) (length (concat blocks)) (shard_bytes blocks))
-    ∙ ap (drop (32 * k)) (drop_at (concat blocks) (table_of blocks) (length (concat blocks)) refl)
-    ∙ ap (drop (32 * k)) (table_around blocks k)
-    ∙ drop_at (table_of (take k blocks)) (table_of (drop k blocks)) (32 * k) before
-
--- a shard file holds a stripe's block and its digest where `layout` says
-pub holds_block : (d n : ℕ) (blocks : List (List ℕ)) (last k at long digest_at : ℕ) → AreShardBlocks d n blocks
-    → stripe_size * last < n → n ≤ stripe_size * (last + 1) → k ≤ last
-    → at ≡ k * block_size d stripe_size → long ≡ block_size d (stripe_length n k)
-    → digest_at ≡ last * block_size d stripe_size + block_size d (n - last * stripe_size) + 32 * k
-    → HoldsBlock (shard_bytes blocks) (slice_index_or blocks k []) at long digest_at
-holds_block d n blocks last k at long digest_at fit below above low at_is long_is digest_is =
-    let count : stripe_count n ≡ last + 1 = omega arith in
-    let within : k < length blocks = omega (arith, length-shard d n blocks fit) in
-    let block = slice_index_or blocks k [] in
-    let before = concat (take k blocks) in
-    let after = concat (drop (k + 1) blocks) in
-    let long_before : length before ≡ at = length-front d n blocks k fit (omega arith) ∙ sym at_is in
-    let long_block : length block ≡ long = length-shard_block d n blocks k fit (omega arith) ∙ sym long_is in
-    let file : shard_bytes blocks ≡ before ++ (block ++ (after ++ table_of blocks)) =
-    ap (λ (front : List ℕ). front ++ table_of blocks) (concat_around blocks k within)
-    ∙ simp append_assoc in
-    record {
-      size = long_block;
-      block = ap (λ (bytes : List ℕ). take long (drop at bytes)) file
-          ∙ ap (take long) (drop_at before (block ++ (after ++ table_of blocks)) at long_before)
-          ∙ take_at block (after ++ table_of blocks) long long_block;
-      digest = ap (take 32) (table_from d n blocks last k digest_at fit below above low digest_is)
-          ∙ ap (λ (rest : List (List ℕ)). take 32 (table_of rest)) (drop_more blocks k [] within)
-          ∙ take_at (sha256 block) (table_of (drop (k + 1) blocks)) 32 (length-sha256 block);
-    }
-
 -- no bytes need a block of none
 block_size-zero : (d : ℕ) → block_size d 0 ≡ 0
 block_size-zero d = rw (zero-div d, zero-mod d) refl
@@ -164,6 +119,75 @@ shard_files_have_length d n blocks some fit =
     length-append (concat blocks) (table_of blocks)
     ∙ omega (arith, length-blocks_by_rest d n blocks fit, length-table_of blocks, length-shard d n blocks fit)
 
+pub digests_end_the_file : DigestsEndTheFile
+digests_end_the_file d n i blocks fit low =
+    let long = length-shard d n blocks fit in
+    let all = length-blocks_by_rest d n blocks fit in
+    let before : length (table_of (take i blocks)) ≡ 32 * i =
+    length-table_of (take i blocks) ∙ ap (λ (m : ℕ). 32 * m) (length-take-le i blocks (omega arith)) in
+    let place : length (concat blocks) + 32 * i ≡ digest_place d n i = ap (λ (m : ℕ). m + 32 * i) all in
+    ap (λ (m : ℕ). drop m (shard_bytes blocks)) (sym place)
+    ∙ sym (drop-drop (32 * i) (length (concat blocks)) (shard_bytes blocks))
+    ∙ ap (drop (32 * i)) (drop_at (concat blocks) (table_of blocks) (length (concat blocks)) refl)
+    ∙ ap (drop (32 * i)) (table_around blocks i)
+    ∙ drop_at (table_of (take i blocks)) (table_of (drop i blocks)) (32 * i) before
+
+pub shard_files_hold_blocks : ShardFilesHoldBlocks
+shard_files_hold_blocks d n i blocks fit low =
+    let within : i < length blocks = omega (arith, length-shard d n blocks fit) in
+    let block = slice_index_or blocks i [] in
+    let long = block_size d (stripe_length n i) in
+    let before = concat (take i blocks) in
+    let after = concat (drop (i + 1) blocks) in
+    let long_before : length before ≡ block_place d i = length-front d n blocks i fit (omega arith) in
+    let long_block : length block ≡ long = length-shard_block d n blocks i fit low in
+    let file : shard_bytes blocks ≡ before ++ (block ++ (after ++ table_of blocks)) =
+    ap (λ (front : List ℕ). front ++ table_of blocks) (concat_around blocks i within)
+    ∙ simp append_assoc in
+    record {
+      size = long_block;
+      block = ap (λ (bytes : List ℕ). take long (drop (block_place d i) bytes)) file
+          ∙ ap (take long) (drop_at before (block ++ (after ++ table_of blocks)) (block_place d i) long_before)
+          ∙ take_at block (after ++ table_of blocks) long long_block;
+      digest = ap (take 32) (digests_end_the_file d n i blocks fit low)
+          ∙ ap (λ (rest : List (List ℕ)). take 32 (table_of rest)) (drop_more blocks i [] within)
+          ∙ take_at (sha256 block) (table_of (drop (i + 1) blocks)) 32 (length-sha256 block);
+    }
+
+-- a piece of the front of a file from a place on
+pub piece_of_front : (size at count j : ℕ) (file : List ℕ) → j < count
+    → piece size (take (count * size) (drop at file)) j ≡ take size (drop (at + size * j) file)
+piece_of_front size at count j file low =
+    let ends : size * (j + 1) ≤ size * count = mul-le-mul_left size (omega arith) in
+    let split : size * (j + 1) ≡ size * j + size = omega arith in
+    let turn : count * size ≡ size * count = omega arith in
+    let left : size ≤ count * size - size * j = omega arith in
+    let sum : count * size ≡ size * j + (count * size - size * j) = omega arith in
+    ap (λ (m : ℕ). take size (drop (size * j) (take m (drop at file)))) sum
+    ∙ ap (take size) (drop-take (size * j) (count * size - size * j) (drop at file))
+    ∙ take-take size (count * size - size * j) (drop (size * j) (drop at file)) left
+    ∙ ap (take size) (drop-drop (size * j) at file)
+
+pub whole_blocks_adjoin : WholeBlocksAdjoin
+whole_blocks_adjoin d i count j file low =
+    let size = block_size d stripe_size in
+    let place : block_place d i + size * j ≡ block_place d (i + j) = omega arith in
+    piece_of_front size (block_place d i) count j file low ∙ ap (λ (m : ℕ). take size (drop m file)) place
+
+-- the bytes of the blocks, told by the last stripe
+pub table_place-last : (d n last : ℕ) → stripe_size * last < n → n ≤ stripe_size * (last + 1)
+    → last * block_size d stripe_size + block_size d (n - last * stripe_size) ≡ table_place d n
+table_place-last d n last below above = elim (cases_eq (n % stripe_size) 0) [
+  | inl none ↦
+      let all : n / stripe_size ≡ last + 1 = omega arith in
+      let rest : n - last * stripe_size ≡ stripe_size = omega arith in
+      omega (arith, ap (block_size d) rest, ap (block_size d) none, block_size-zero d, ap (λ (m : ℕ). m * block_size d stripe_size) all)
+  | inr some ↦
+      let all : n / stripe_size ≡ last = omega arith in
+      let rest : n - last * stripe_size ≡ n % stripe_size = omega arith in
+      omega (arith, ap (block_size d) rest, ap (λ (m : ℕ). m * block_size d stripe_size) all)
+]
+
 -- a block has at most half a stripe's bytes, rounded up
 pub half_block : (d n size : ℕ) → 2 ≤ d → d * size < n + d → size + size ≤ n + 1
 half_block d n size enough few =
@@ -175,9 +199,9 @@ half_block d n size enough few =
       | inr within ↦ within
     ]
 
--- the blocks before the last one have fewer than 2^63 bytes
-pub small_front : (last whole : ℕ) → last ≤ 17592186044415 → whole ≤ 524288 → last * whole ≤ 9223372036854251520
-small_front last whole few small = omega (arith, mul-le last whole 17592186044415 524288 few small)
+-- the blocks of whole stripes have fewer than 2^63 bytes
+pub small_front : (count whole : ℕ) → count ≤ 17592186044415 → whole ≤ 524288 → count * whole ≤ 9223372036854251520
+small_front count whole few small = omega (arith, mul-le count whole 17592186044415 524288 few small)
 
 -- a block ends where the next one begins, or where the digests do
 pub block_before_table : (last k whole end long : ℕ) → k ≤ last → (k < last → long ≡ whole) → (k ≡ last → long ≡ end)

@@ -1,8 +1,8 @@
 -- The laws of stripes, blocks and shard files.
-use Rattle.std.specs.Prelude.{◌≡◌, ℕ, ◌+◌, ◌*◌, ◌/◌, ◌%◌, ◌<◌, List, All, length, take, map}
+use Rattle.std.specs.Prelude.{◌≡◌, ℕ, ◌+◌, ◌*◌, ◌<◌, List, [], All, length, take, drop, map, slice_index_or}
 use Rattle.std.specs.List.{concat}
-use Rattle.shard_file.specs.Stripes.{stripe_size, stripe_count, stripe_lengths, stripes, block_size, padded, data_blocks}
-use Rattle.shard_file.specs.Shards.{shard_bytes, AreShardBlocks}
+use Rattle.shard_file.specs.Stripes.{piece, stripe_size, stripe_count, stripe_length, stripe_lengths, stripes, block_size, padded, data_blocks}
+use Rattle.shard_file.specs.Shards.{block_place, digest_place, file_length, shard_bytes, table_of, AreShardBlocks, HoldsBlock}
 
 -- the stripes of a body, joined, are the body
 abbrev pub StripesAreTheBody : Type 0
@@ -26,11 +26,26 @@ abbrev pub DataBlocksHaveOneSize : Type 0
 DataBlocksHaveOneSize = (d : ℕ) (stripe : List ℕ) → 0 < d
     → (length (data_blocks d stripe) ≡ d) × All (λ block. length block ≡ block_size d (length stripe)) (data_blocks d stripe)
 
--- the length of a shard file: its blocks, and 32 bytes for each
+-- a shard file has the length that follows from its body's
 abbrev pub ShardFilesHaveLength : Type 0
-ShardFilesHaveLength = (d n : ℕ) (blocks : List (List ℕ)) → 0 < d → AreShardBlocks d n blocks
-    → length (shard_bytes blocks)
-    ≡ n / stripe_size * block_size d stripe_size + block_size d (n % stripe_size) + 32 * stripe_count n
+ShardFilesHaveLength = (d n : ℕ) (blocks : List (List ℕ)) → 0 < d → AreShardBlocks d n blocks → length (shard_bytes blocks) ≡ file_length d n
+
+-- a shard file has the block of each stripe, and the block's digest, at their places
+abbrev pub ShardFilesHoldBlocks : Type 0
+ShardFilesHoldBlocks = (d n i : ℕ) (blocks : List (List ℕ)) → AreShardBlocks d n blocks → i < stripe_count n
+    → HoldsBlock (shard_bytes blocks) (slice_index_or blocks i []) (block_place d i) (block_size d (stripe_length n i)) (digest_place d n i)
+
+-- from the digest of a block on, a shard file has the digests of this block and the later ones, and nothing after them
+abbrev pub DigestsEndTheFile : Type 0
+DigestsEndTheFile = (d n i : ℕ) (blocks : List (List ℕ)) → AreShardBlocks d n blocks → i < stripe_count n
+    → drop (digest_place d n i) (shard_bytes blocks) ≡ table_of (drop i blocks)
+
+-- the blocks of successive whole stripes adjoin in a file: of those that are read together from its block i on, block j is the one at the place
+-- of block i + j
+abbrev pub WholeBlocksAdjoin : Type 0
+WholeBlocksAdjoin = (d i count j : ℕ) (file : List ℕ) → j < count
+    → piece (block_size d stripe_size) (take (count * block_size d stripe_size) (drop (block_place d i) file)) j
+    ≡ take (block_size d stripe_size) (drop (block_place d (i + j)) file)
 
 -- one block for each stripe of a body, of the size that the stripe's length asks for, are a shard's blocks
 abbrev pub BodiesHaveShards : Type 0

@@ -1,8 +1,8 @@
 -- What a shard file holds, and where.
-use Rattle.std.specs.Prelude.{◌≡◌, ℕ, List, ◌++◌, length, take, drop, map}
+use Rattle.std.specs.Prelude.{◌≡◌, ℕ, ◌+◌, ◌*◌, ◌/◌, ◌%◌, List, ◌++◌, length, take, drop, map}
 use Rattle.std.specs.List.{concat}
 use Rattle.sha2.specs.Sha256.{sha256}
-use Rattle.shard_file.specs.Stripes.{block_size, stripe_lengths}
+use Rattle.shard_file.specs.Stripes.{block_size, stripe_count, stripe_lengths, stripe_size}
 
 -- the digest table of blocks: the SHA-256 of each, joined
 abbrev pub table_of : List (List ℕ) → List ℕ
@@ -19,6 +19,22 @@ root_of blocks = sha256 (table_of blocks)
 -- blocks that have the lengths of one shard's: one block for each stripe of a body of n bytes, of which each stripe has d of data
 abbrev pub AreShardBlocks : ℕ → ℕ → List (List ℕ) → Type 0
 AreShardBlocks d n blocks = map length blocks ≡ map (block_size d) (stripe_lengths n)
+
+-- where the block of stripe i begins in a shard file, where a stripe has d data blocks: after those of the whole stripes before it
+abbrev pub block_place : ℕ → ℕ → ℕ
+block_place d i = i * block_size d stripe_size
+
+-- where the digest table begins in the shard file of a body of n bytes: after the blocks of the whole stripes and that of what is left
+abbrev pub table_place : ℕ → ℕ → ℕ
+table_place d n = n / stripe_size * block_size d stripe_size + block_size d (n % stripe_size)
+
+-- where the digest of the block of stripe i begins
+abbrev pub digest_place : ℕ → ℕ → ℕ → ℕ
+digest_place d n i = table_place d n + 32 * i
+
+-- the length of the shard file of a body of n bytes: its blocks, and 32 bytes for each
+abbrev pub file_length : ℕ → ℕ → ℕ
+file_length d n = table_place d n + 32 * stripe_count n
 
 -- a file has a block of `long` bytes at one place, and the SHA-256 of that block at another
 pub record HoldsBlock (file bytes : List ℕ) (at long digest_at : ℕ) : Type 0 where

@@ -1,9 +1,9 @@
 //! Where blocks and digests stand.
 
-ghost use Rattle.std.specs.Prelude.{◌≡◌, ◌+◌, ◌*◌, ◌^◌, ◌<◌, ◌≤◌, ℕ, List, [], drop, slice_index_or};
+ghost use Rattle.std.specs.Prelude.{◌≡◌, ◌+◌, ◌*◌, ◌^◌, ◌<◌, ◌≤◌};
 ghost use Rattle.drive_base.specs.Plan.{data_drives};
-ghost use Rattle.shard_file.specs.Stripes.{block_size};
-ghost use Rattle.shard_file.specs.Shards.{AreShardBlocks, HoldsBlock, shard_bytes, table_of};
+ghost use Rattle.shard_file.specs.Stripes.{block_size, stripe_length};
+ghost use Rattle.shard_file.specs.Shards.{block_place, digest_place, file_length, table_place};
 
 use drive_base::SetPlan;
 
@@ -34,24 +34,35 @@ pub fn block_len(set: &SetPlan, stripe: u64) -> u64
     stripe.div_ceil(set.read_quorum() as u64)
 }
 
+/// The bytes of the blocks in each shard file of a body of so many bytes. The digest table begins there.
+fn blocks_len(set: &SetPlan, length: u64) -> u64
+    ensures place { result ≡ table_place (data_drives set.now.drives set.now.parity) length }
+    ensures small { result ≤ 9223372036855037952 }
+{
+    length / STRIPE * block_len(set, STRIPE) + block_len(set, length % STRIPE)
+}
+
+/// The bytes of each shard file of a body of so many bytes.
+pub fn file_len(set: &SetPlan, length: u64) -> u64
+    ensures { result ≡ file_length (data_drives set.now.drives set.now.parity) length }
+{
+    blocks_len(set, length) + DIGEST * length.div_ceil(STRIPE)
+}
+
 /// Where the block of a stripe and its digest stand in each shard file of a body of so many bytes. Stripes
 /// count from 0. The digests of the later stripes follow that of this one, up to the file's end, so that the
 /// place of the first one is that of the digest table.
 pub fn layout(set: &SetPlan, length: u64, stripe: u64) -> Place
     requires { stripe * STRIPE < length }
-    ensures holds { (blocks : List (List ℕ)) → AreShardBlocks (data_drives set.now.drives set.now.parity) length blocks →
-        HoldsBlock (shard_bytes blocks) (slice_index_or blocks stripe []) result.block result.length result.digest }
-    ensures table { (blocks : List (List ℕ)) → AreShardBlocks (data_drives set.now.drives set.now.parity) length blocks →
-        drop result.digest (shard_bytes blocks) ≡ table_of (drop stripe blocks) }
+    ensures block { result.block ≡ block_place (data_drives set.now.drives set.now.parity) stripe }
+    ensures length { result.length ≡ block_size (data_drives set.now.drives set.now.parity) (stripe_length length stripe) }
+    ensures digest { result.digest ≡ digest_place (data_drives set.now.drives set.now.parity) length stripe }
     ensures apart { result.block + result.length ≤ result.digest }
     ensures fits { result.digest + 32 < 2 ^ 64 }
 {
-    let whole = block_len(set, STRIPE);
-    let last = (length - 1) / STRIPE;
-    let table = last * whole + block_len(set, length - last * STRIPE);
     Place {
-        block: stripe * whole,
+        block: stripe * block_len(set, STRIPE),
         length: block_len(set, (length - stripe * STRIPE).min(STRIPE)),
-        digest: table + stripe * DIGEST,
+        digest: blocks_len(set, length) + stripe * DIGEST,
     }
 }

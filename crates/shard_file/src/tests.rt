@@ -134,8 +134,7 @@ fn places_of_every_set(rt: HostRuntime) {
             digest,
         };
         assert_eq!(rt; place(&set, length, stripe), Some(wanted));
-        let last = place(&set, length, stripe.saturating_add(1)).is_none();
-        assert!(rt; last == (digest.saturating_add(32) == file));
+        assert_eq!(rt; file_len(&set, length), file);
     }
 }
 
@@ -145,6 +144,7 @@ fn an_empty_body_has_no_stripe(rt: HostRuntime) {
     let set = plan(4, 2).expect(&rt, "there is such a set");
     assert_eq!(rt; place(&set, 0, 0), None);
     assert_eq!(rt; block_len(&set, 0), 0);
+    assert_eq!(rt; file_len(&set, 0), 0);
     assert_eq!(rt; root(&[]), NO_BLOCK);
 }
 

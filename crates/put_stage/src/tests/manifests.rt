@@ -6,6 +6,7 @@ ghost use Rattle.manifest_file.specs.Canonical.{IsCanonical};
 use super::golden::*;
 use super::{fresh_drives, id, lose, lost, plan, shows, shows_no};
 use crate::{StageFault, Staged, stage_manifest};
+use drive_base::DriveSet;
 use drive_memory::MemDrive;
 use manifest_file::{Manifest, read};
 use std::alloc::Global;
@@ -58,7 +59,7 @@ fn parts_on(took: u16) -> Staged {
         print: PARTS_PRINT,
         length: 5_368_709_131,
         etag: [9; 16],
-        took,
+        took: DriveSet::from_mask(took),
     }
 }
 

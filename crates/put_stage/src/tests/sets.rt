@@ -50,7 +50,7 @@ fn files_and_prints_of_each_set(rt: HostRuntime) -> Result<(), Fail> {
         let set = SetPlan::new([7; 16], count, parity);
         let mut drives = fresh_drives(rt.alloc(), count)?;
         let answer = staged(rt.alloc(), set, bytes, &mut drives)?;
-        assert_eq!(rt; answer.took, u16::MAX >> (16 - count));
+        assert_eq!(rt; answer.took.mask(), u16::MAX >> (16 - count));
         assert_eq!(rt; answer.length, bytes as u64);
         assert_eq!(rt; hex::encode(rt.alloc(), answer.print)?.as_str(), print);
         assert_eq!(rt; digest_of_files(rt.alloc(), &mut drives)?.as_str(), files);

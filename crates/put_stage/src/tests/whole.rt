@@ -5,7 +5,7 @@ ghost use Rattle.std.specs.Prelude.{◌≡◌, ◌≤◌, length};
 use super::golden::*;
 use super::{fresh_drives, id, lose, lost, plan, shows, shows_no};
 use crate::{StageFault, Staged, stage_whole};
-use drive_base::Drive;
+use drive_base::{Drive, DriveSet};
 use drive_memory::MemDrive;
 use std::alloc::Global;
 use std::test::Fail;
@@ -51,7 +51,7 @@ fn hello_on(took: u16) -> Staged {
         print: HELLO_PRINT,
         length: 5,
         etag: HELLO_MD5,
-        took,
+        took: DriveSet::from_mask(took),
     }
 }
 
@@ -72,7 +72,7 @@ fn an_empty_body_has_empty_shards(rt: HostRuntime) -> Result<(), Fail> {
         print: EMPTY_PRINT,
         length: 0,
         etag: EMPTY_MD5,
-        took: 0b1111,
+        took: DriveSet::from_mask(0b1111),
     };
     assert_eq!(rt; answer, Ok(due));
     for drive in drives.iter_mut() {

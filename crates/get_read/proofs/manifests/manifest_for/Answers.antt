@@ -22,15 +22,15 @@ loop-drive-preserved g c =
     let old = c.args.drives.now in
     let now = c.loop-drive.drives in
     let inv = c.loop-drive.invariant in
-    let wanted = wanted_of c.args.wanted.set c.args.wanted.print c.args.wanted.reach in
+    let wanted = wanted_of c.args.wanted.now.set c.args.wanted.now.print c.args.wanted.now.reach in
     let low : i < length now = omega arith in
     let was : (d : T) → slice_index_or now i c.drive-item.result ≡ slice_index_or old i d =
     (λ d. get_or_default now i c.drive-item.result d low ∙ inv.others i d (omega arith)) in
     let P : ℕ → Why → T → T → Type 0 =
-    (λ k (v : Why) a b. NoManifest wanted c.args.id v (IsBitSet c.args.wanted.set.out k) (D.tells a) (D.files a) (D.count a) (D.count b)) in
+    (λ k (v : Why) a b. NoManifest wanted c.args.id v (IsBitSet c.args.wanted.now.set.out k) (D.tells a) (D.files a) (D.count a) (D.count b)) in
     let before = slice_index_or now i c.drive-item.result in
-    let given : NoManifest wanted c.args.id why (IsBitSet c.args.wanted.set.out c.loop-drive.index) (D.tells before) (D.files before) (D.count before) (D.count x) =
-    subst (λ (r : Result Manifest NotGiven). GivesManifest wanted c.args.id (IsBitSet c.args.wanted.set.out c.loop-drive.index) r
+    let given : NoManifest wanted c.args.id why (IsBitSet c.args.wanted.now.set.out c.loop-drive.index) (D.tells before) (D.files before) (D.count before) (D.count x) =
+    subst (λ (r : Result Manifest NotGiven). GivesManifest wanted c.args.id (IsBitSet c.args.wanted.now.set.out c.loop-drive.index) r
     (D.tells before) (D.files before) (D.count before) (D.count x))
     (c.in-Err-Because.is ∙ ap (λ (fault : NotGiven). Err fault) c.in-Err-Because.field-0-is)
     (c.manifest_on.ensures.outcome c.args.id (search rules)) in
@@ -49,7 +49,7 @@ loop-drive-preserved g c =
           (λ d. subst (λ (a : T). D.tells x ≡ D.tells a) (was d) c.manifest_on.ensures.tells) inv.tells;
       counts = set_each T (λ (_ : ℕ) (a b : T). D.count a ≤ D.count b) old now i x low
           (λ d. subst (λ (a : T). D.count a ≤ D.count x) (was d) c.manifest_on.ensures.count) inv.counts;
-      stay = set_each T (λ (k : ℕ) (a b : T). IsBitSet c.args.wanted.set.out k → b ≡ a) old now i x low
-          (λ d is_out. c.manifest_on.ensures.alone (subst (IsBitSet c.args.wanted.set.out) (sym inv.at) is_out) ∙ was d) inv.stay;
+      stay = set_each T (λ (k : ℕ) (a b : T). IsBitSet c.args.wanted.now.set.out k → b ≡ a) old now i x low
+          (λ d is_out. c.manifest_on.ensures.alone (subst (IsBitSet c.args.wanted.now.set.out) (sym inv.at) is_out) ∙ was d) inv.stay;
       others = search rules;
     }

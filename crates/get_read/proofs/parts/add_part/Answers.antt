@@ -18,8 +18,8 @@ loop-stripe-init g c =
       held = λ k default none low.
           inl (ap (λ (tables : List (Vec ℕ Global)). (slice_index_or tables k none).items) value
           ∙ made.empty k none (subst (λ (tables : List (Vec ℕ Global)). k < length tables) value low));
-      kept = kept_alone D.tells D.files D.count c.args.set.out c.args.drives.now;
-      added = front_none D.tells D.files D.count c.args.set c.args.part.now c.args.drives.now c.args.body.now.items;
+      kept = kept_alone D.tells D.files D.count c.args.set.now.out c.args.drives.now;
+      added = front_none D.tells D.files D.count c.args.set.now c.args.part.now c.args.drives.now c.args.body.now.items;
     }
 
 pub loop-stripe-preserved : goal.loop-stripe-preserved
@@ -28,14 +28,14 @@ loop-stripe-preserved g c =
     let inv = c.loop-stripe.invariant in
     let old = c.args.drives.now in
     let mid = c.loop-stripe.drives in
-    let kept = kept_on D.tells D.files D.count c.args.set.out old mid c.stripe_at.new.drives inv.kept c.stripe_at.ensures.kept in
+    let kept = kept_on D.tells D.files D.count c.args.set.now.out old mid c.stripe_at.new.drives inv.kept c.stripe_at.ensures.kept in
     let within : c.loop-stripe.stripe < stripe_count c.args.part.now.length = omega arith in
     record {
       drives = kept.long ∙ c.requires.drives;
       tables = c.stripe_at.ensures.tables ∙ inv.tables;
       held = c.stripe_at.ensures.held;
       kept = kept;
-      added = front_more D.tells D.files D.count c.args.set c.args.part.now c.loop-stripe.stripe old mid c.args.body.now.items c.loop-stripe.body.items
+      added = front_more D.tells D.files D.count c.args.set.now c.args.part.now c.loop-stripe.stripe old mid c.args.body.now.items c.loop-stripe.body.items
           c.stripe_at.new.body.items within inv.kept inv.added (c.in_ok-stripe_at.ensures.added refl);
     }
 
@@ -43,7 +43,7 @@ pub returns-clause-added : goal.returns-clause-added
 returns-clause-added g c = λ ok.
     let D = g.D.Drive in
     let all : stripe_count (min c.args.part.now.length c.args.wanted) ≤ c.loop-stripe.stripe = omega arith in
-    front_all D.tells D.files D.count c.args.set c.args.part.now c.args.wanted c.loop-stripe.stripe c.args.drives.now c.args.body.now.items c.loop-stripe.body.items all
+    front_all D.tells D.files D.count c.args.set.now c.args.part.now c.args.wanted c.loop-stripe.stripe c.args.drives.now c.args.body.now.items c.loop-stripe.body.items all
     c.loop-stripe.invariant.added
 
 pub returns-in_err-stripe_at-clause-few : goal.returns-in_err-stripe_at-clause-few
@@ -51,6 +51,6 @@ returns-in_err-stripe_at-clause-few g c =
     let D = g.D.Drive in
     let mid = c.loop-stripe.drives in
     let new = c.stripe_at.new.drives in
-    let few : IfErr c.from_residual-in_err-stripe_at.result (λ fault. AreFew D.tells D.files D.count c.args.set c.args.part.now c.loop-stripe.stripe fault mid new) = search rules in
-    stripe_few D.tells D.files D.count c.args.set c.args.part.now c.loop-stripe.stripe c.args.wanted c.from_residual-in_err-stripe_at.result c.args.drives.now
+    let few : IfErr c.from_residual-in_err-stripe_at.result (λ fault. AreFew D.tells D.files D.count c.args.set.now c.args.part.now c.loop-stripe.stripe fault mid new) = search rules in
+    stripe_few D.tells D.files D.count c.args.set.now c.args.part.now c.loop-stripe.stripe c.args.wanted c.from_residual-in_err-stripe_at.result c.args.drives.now
     mid new c.requires.drives (omega arith) c.loop-stripe.invariant.kept few

@@ -8,8 +8,8 @@ use Rattle.get_read.proofs.parts.parts_of.Goals as goal
 pub loop-part-init : goal.loop-part-init
 loop-part-init g c = let D = g.D.Drive in record {
   drives = c.requires.drives;
-  kept = kept_alone D.tells D.files D.count c.args.set.out c.args.drives.now;
-  so_far = inl (first_none D.tells D.files D.count c.args.set c.args.parts.now c.args.drives.now c.new-body.result.items c.new-body.ensures.items);
+  kept = kept_alone D.tells D.files D.count c.args.set.now.out c.args.drives.now;
+  so_far = inl (first_none D.tells D.files D.count c.args.set.now c.args.parts.now c.args.drives.now c.new-body.result.items c.new-body.ensures.items);
 }
 
 pub loop-part-preserved : goal.loop-part-preserved
@@ -19,22 +19,22 @@ loop-part-preserved g c =
     let old = c.args.drives.now in
     let mid = c.loop-part.drives in
     let low : c.loop-part.part-index < length c.args.parts.now = omega arith in
-    let kept = kept_on D.tells D.files D.count c.args.set.out old mid c.add_part.new.drives inv.kept c.add_part.ensures.kept in
-    let first : AreFirst D.tells D.files D.count c.args.set c.args.parts.now c.loop-part.part-index old c.loop-part.body.items = elim inv.so_far [
+    let kept = kept_on D.tells D.files D.count c.args.set.now.out old mid c.add_part.new.drives inv.kept c.add_part.ensures.kept in
+    let first : AreFirst D.tells D.files D.count c.args.set.now c.args.parts.now c.loop-part.part-index old c.loop-part.body.items = elim inv.so_far [
       | inl first ↦ first
       | inr enough ↦ absurd (omega (arith, enough.0))
     ] in
     record {
       drives = kept.long ∙ c.requires.drives;
       kept = kept;
-      so_far = so_far_more D.tells D.files D.count c.args.set c.args.parts.now c.part-item.result c.loop-part.part-index (c.args.long - c.len-in-loop-part.result) c.args.long old mid
+      so_far = so_far_more D.tells D.files D.count c.args.set.now c.args.parts.now c.part-item.result c.loop-part.part-index (c.args.long - c.len-in-loop-part.result) c.args.long old mid
           c.loop-part.body.items c.add_part.new.body.items low (sym c.part-item.is) (omega arith) inv.kept first (c.in_ok-add_part.ensures.added refl);
     }
 
 pub returns-in_err-add_part-clause-few : goal.returns-in_err-add_part-clause-few
 returns-in_err-add_part-clause-few g c =
     let D = g.D.Drive in
-    let set = c.args.set in
+    let set = c.args.set.now in
     let part = c.part-item.result in
     let parts = c.args.parts.now in
     let i = c.loop-part.part-index in
@@ -54,11 +54,11 @@ returns-in_err-add_part-clause-few g c =
 pub returns-then-len-long-clause-front : goal.returns-then-len-long-clause-front
 returns-then-len-long-clause-front g c =
     let D = g.D.Drive in
-    so_far_front D.tells D.files D.count c.args.set c.args.parts.now c.args.long c.loop-part.part-index c.args.drives.now c.loop-part.body.items
+    so_far_front D.tells D.files D.count c.args.set.now c.args.parts.now c.args.long c.loop-part.part-index c.args.drives.now c.loop-part.body.items
     c.loop-part.invariant.so_far
 
 pub returns-clause-front : goal.returns-clause-front
 returns-clause-front g c =
     let D = g.D.Drive in
-    so_far_front D.tells D.files D.count c.args.set c.args.parts.now c.args.long c.loop-part.part-index c.args.drives.now c.loop-part.body.items
+    so_far_front D.tells D.files D.count c.args.set.now c.args.parts.now c.args.long c.loop-part.part-index c.args.drives.now c.loop-part.body.items
     c.loop-part.invariant.so_far

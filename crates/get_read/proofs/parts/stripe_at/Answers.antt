@@ -10,6 +10,6 @@ returns-clause-added g c = λ ok.
     let found = c.in_ok-blocks.blocks in
     let long : c.min-long.result ≡ stripe_length part.length c.args.stripe = omega arith in
     let added = c.in_ok-add_stripe.ensures in
-    stripe_added D.tells D.files c.args.set part c.args.stripe c.min-long.result c.block_len-size.result found.rows.items found.bytes.items c.args.drives.now
+    stripe_added D.tells D.files c.args.set.now part c.args.stripe c.min-long.result c.block_len-size.result found.rows.items found.bytes.items c.args.drives.now
     c.args.body.now.items c.add_stripe.new.body.items c.requires.drives c.requires.within long c.block_len-size.ensures.size c.in_ok-blocks.ensures.enough
     (added.long refl) (added.stripe refl)

@@ -9,17 +9,17 @@ use Rattle.poly_code.specs.Columns.{column}
 use Rattle.shard_file.proofs.ShardLemmas.{concat-take_more}
 use Rattle.shard_file.proofs.StripeLemmas.{data_blocks_are_the_stripe}
 use Rattle.shard_file.specs.Stripes.{block_size}
-use Rattle.get_read.proofs.RebuildLemmas.{rebuilt_block}
+use Rattle.body_print.proofs.RebuildLemmas.{rebuilt_block}
 use Rattle.get_read.proofs.stripes.add_stripe.Goals as goal
 
 pub loop-which-preserved : goal.loop-which-preserved
 loop-which-preserved c =
-    let d = data_drives c.args.set.drives c.args.set.parity in
+    let d = data_drives c.args.set.now.drives c.args.set.now.parity in
     let size = c.args.size in
     let rows = c.args.blocks.now.rows.items in
     let bytes = c.args.blocks.now.bytes.items in
     let inv = c.loop-which.invariant in
-    let n = c.args.set.drives in
+    let n = c.args.set.now.drives in
     let which = c.loop-which.which in
     let new = c.rebuild.new.out in
     let slot : length c.as_mut_slice.result.now ≡ size = search rules in
@@ -53,7 +53,7 @@ loop-which-preserved c =
 
 pub returns-clause-stripe : goal.returns-clause-stripe
 returns-clause-stripe c = λ ok stripe shards is are same.
-    let d = data_drives c.args.set.drives c.args.set.parity in
+    let d = data_drives c.args.set.now.drives c.args.set.now.parity in
     let front = c.loop-which.invariant.front stripe shards is are same in
     let old = c.args.body.now.items in
     let all : c.loop-which.which ≡ d = search rules in

@@ -10,7 +10,7 @@ use Rattle.get_read.proofs.stripes.blocks_of.Goals.{in-Ok+in_ok-add_block-in-Ok,
 pub returns-then-are_enough-clause-enough : goal.returns-then-are_enough-clause-enough
 returns-then-are_enough-clause-enough g c =
     let D = g.D.Drive in
-    let set = c.args.set in
+    let set = c.args.set.now in
     let blocks = c.are_enough.new.found in
     let sifted = c.are_enough.ensures.verified c.if-are_enough.true in
     let enough = c.are_enough.ensures.enough c.if-are_enough.true in
@@ -21,18 +21,18 @@ returns-then-are_enough-clause-enough g c =
 pub returns-in_err-add_block-in-Ok-clause-kept : goal.returns-in_err-add_block-in-Ok-clause-kept
 returns-in_err-add_block-in-Ok-clause-kept g c =
     let D = g.D.Drive in
-    kept_on D.tells D.files D.count c.args.set.out c.args.drives.now c.loop-index.drives c.block_at.new.drives c.loop-index.invariant.kept c.block_at.ensures.kept
+    kept_on D.tells D.files D.count c.args.set.now.out c.args.drives.now c.loop-index.drives c.block_at.new.drives c.loop-index.invariant.kept c.block_at.ensures.kept
 
 pub returns-in-Err-NoMemory-clause-kept : goal.returns-in-Err-NoMemory-clause-kept
 returns-in-Err-NoMemory-clause-kept g c =
     let D = g.D.Drive in
-    kept_on D.tells D.files D.count c.args.set.out c.args.drives.now c.loop-index.drives c.block_at.new.drives c.loop-index.invariant.kept c.block_at.ensures.kept
+    kept_on D.tells D.files D.count c.args.set.now.out c.args.drives.now c.loop-index.drives c.block_at.new.drives c.loop-index.invariant.kept c.block_at.ensures.kept
 
 pub loop-index-preserved : goal.loop-index-preserved
 loop-index-preserved g c =
     let D = g.D.Drive in
     let inv = c.loop-index.invariant in
-    let set = c.args.set in
+    let set = c.args.set.now in
     let part = c.args.part.now in
     let i = c.loop-index.index in
     let old = c.args.drives.now in
@@ -48,7 +48,7 @@ loop-index-preserved g c =
     c.requires.size inv.found sifted.1 in
     let fewer : length rows < c.read_quorum-wanted.result = c.are_enough.ensures.fewer c.if-are_enough.false in
     let quorum : c.read_quorum-wanted.result ≡ data_drives set.drives set.parity = c.read_quorum-wanted.ensures.quorum in
-    let kept = kept_on D.tells D.files D.count c.args.set.out old mid new inv.kept c.block_at.ensures.kept in
+    let kept = kept_on D.tells D.files D.count c.args.set.now.out old mid new inv.kept c.block_at.ensures.kept in
     let drives : length new ≡ set.drives = omega (arith, kept.long, c.requires.drives) in
     let tables : length c.block_at.new.tables ≡ set.drives = omega (arith, c.block_at.ensures.tables, inv.tables) in
     elim c.match-block_at.branch [
@@ -90,7 +90,7 @@ loop-index-preserved g c =
 pub returns-then-len-wanted-clause-enough : goal.returns-then-len-wanted-clause-enough
 returns-then-len-wanted-clause-enough g c =
     let D = g.D.Drive in
-    let set = c.args.set in
+    let set = c.args.set.now in
     let enough : length c.sift.new.found.rows.items ≡ data_drives set.drives set.parity = search rules in
     found_enough D.tells D.files D.count set c.args.part.now c.args.stripe c.loop-index.index c.args.size c.loop-index.found c.sift.new.found
     c.loop-index.whys c.sift.new.whys c.args.drives.now c.loop-index.drives c.requires.size (omega arith)
@@ -99,7 +99,7 @@ returns-then-len-wanted-clause-enough g c =
 pub returns-clause-few : goal.returns-clause-few
 returns-clause-few g c =
     let D = g.D.Drive in
-    let set = c.args.set in
+    let set = c.args.set.now in
     let inv = c.loop-index.invariant in
     let fewer : length c.sift.new.found.rows.items < data_drives set.drives set.parity = search rules in
     let all : c.loop-index.index ≡ set.drives = search rules in

@@ -11,7 +11,7 @@ use Rattle.put_stage.proofs.shards.shards_of.Goals as goal
 pub table_of-requires : goal.table_of-requires
 table_of-requires c =
     subst (All (HasDigest c.loop-shard.shard)) (sym c.as_slice.ensures.value)
-    (all_have_digests c.args.set.drives (c.args.set.drives - c.args.set.parity) c.loop-shard.shard c.args.body.now c.in_ok-stripes.stripes.items c.in_ok-stripes.ensures (omega arith))
+    (all_have_digests c.args.set.now.drives (c.args.set.now.drives - c.args.set.now.parity) c.loop-shard.shard c.args.body.now c.in_ok-stripes.stripes.items c.in_ok-stripes.ensures (omega arith))
 
 pub loop-shard-preserved : goal.loop-shard-preserved
 loop-shard-preserved c =
@@ -35,5 +35,5 @@ loop-shard-preserved c =
 
 pub returns : goal.returns
 returns c =
-    sharded c.args.set.drives (c.args.set.drives - c.args.set.parity) c.loop-shard.shard c.args.body.now c.in_ok-stripes.stripes.items
+    sharded c.args.set.now.drives (c.args.set.now.drives - c.args.set.now.parity) c.loop-shard.shard c.args.body.now c.in_ok-stripes.stripes.items
     (all_bytes c.loop-shard.files.items) c.loop-shard.roots.items c.in_ok-stripes.ensures (omega arith) c.loop-shard.invariant.files c.loop-shard.invariant.roots

@@ -9,15 +9,15 @@ use Rattle.put_stage.proofs.stripes.code_stripe.Goals as goal
 pub block_digests-requires : goal.block_digests-requires
 block_digests-requires c =
     let size = c.block_len-size.result in
-    let whole : size * (c.read_quorum.result + c.args.set.parity) ≡ size * c.args.set.drives = ap (λ (m : ℕ). size * m) c.read_quorum.ensures.sum in
-    let same : length c.as_mut_slice-2.result.now ≡ c.args.set.drives = omega (arith, c.in_ok-digests.ensures.len) in
-    let product : size * length c.as_mut_slice-2.result.now ≡ size * c.args.set.drives = ap (λ (m : ℕ). size * m) same in
+    let whole : size * (c.read_quorum.result + c.args.set.now.parity) ≡ size * c.args.set.now.drives = ap (λ (m : ℕ). size * m) c.read_quorum.ensures.sum in
+    let same : length c.as_mut_slice-2.result.now ≡ c.args.set.now.drives = omega (arith, c.in_ok-digests.ensures.len) in
+    let product : size * length c.as_mut_slice-2.result.now ≡ size * c.args.set.now.drives = ap (λ (m : ℕ). size * m) same in
     omega (arith, c.in_ok-extend_from_slice-2.ensures.len, c.in_ok-resize.ensures.len, c.in_ok-parity.ensures.len)
 
 pub returns : goal.returns
 returns c =
-    let set = c.args.set in
-    let d = c.args.set.drives - c.args.set.parity in
+    let set = c.args.set.now in
+    let d = c.args.set.now.drives - c.args.set.now.parity in
     let size = c.block_len-size.result in
     let stripe = c.args.stripe.now in
     let some : 0 < d = omega arith in
@@ -38,8 +38,8 @@ returns c =
     let held : length c.as_slice.result.now ≡ size * c.read_quorum.result = omega (arith, c.in_ok-resize.ensures.len) in
     let front_long : length c.as_slice.result.now ≡ d * size = held ∙ swapped in
     let digests_long : length c.block_digests.new.digests ≡ c.in_ok-digests.digests.len = omega (arith, c.as_mut_slice-2.ensures.len) in
-    let out_long : length c.encode.new.out ≡ size * c.args.set.parity = omega (arith, c.in_ok-parity.ensures.len) in
-    let count : length c.as_mut_slice-2.result.now ≡ c.args.set.drives = omega (arith, c.in_ok-digests.ensures.len) in
+    let out_long : length c.encode.new.out ≡ size * c.args.set.now.parity = omega (arith, c.in_ok-parity.ensures.len) in
+    let count : length c.as_mut_slice-2.result.now ≡ c.args.set.now.drives = omega (arith, c.in_ok-digests.ensures.len) in
     is_coded set.drives d set.parity stripe c.as_slice.result.now c.encode.new.out _ (omega arith) some c.block_len-size.ensures.size front blocks out_long
     (c.encode.ensures size front_long)
     (take_at c.block_digests.new.digests (drop (length c.block_digests.new.digests) c.in_ok-digests.digests.items) c.in_ok-digests.digests.len digests_long

@@ -6,8 +6,8 @@ use Rattle.put_stage.proofs.stripes.stripes_of.Goals as goal
 
 pub loop-rest-preserved : goal.loop-rest-preserved
 loop-rest-preserved c =
-    let n = c.args.set.drives in
-    let d = c.args.set.drives - c.args.set.parity in
+    let n = c.args.set.now.drives in
+    let d = c.args.set.now.drives - c.args.set.now.parity in
     let body = c.args.body.now in
     let rest = c.loop-rest.rest.now in
     let some : 0 < length rest = grind arith in

@@ -1,4 +1,4 @@
-use Rattle.shard_file.proofs.ShardLemmas.{bodies_have_shards, shard_files_have_length}
+use Rattle.shard_file.proofs.ShardLemmas.{bodies_have_shards, digests_end_the_file, shard_files_have_length, shard_files_hold_blocks, whole_blocks_adjoin}
 use Rattle.shard_file.proofs.StripeLemmas.{stripes_are_the_body, stripes_have_lengths, data_blocks_are_padded, data_blocks_are_the_stripe, data_blocks_have_one_size}
 use Rattle.shard_file.proofs.laws.shard_laws.Goals as goal
 
@@ -22,3 +22,12 @@ returns-clause-file c = shard_files_have_length
 
 pub returns-clause-shards : goal.returns-clause-shards
 returns-clause-shards c = bodies_have_shards
+
+pub returns-clause-held : goal.returns-clause-held
+returns-clause-held c = shard_files_hold_blocks
+
+pub returns-clause-digests : goal.returns-clause-digests
+returns-clause-digests c = digests_end_the_file
+
+pub returns-clause-adjoin : goal.returns-clause-adjoin
+returns-clause-adjoin c = whole_blocks_adjoin

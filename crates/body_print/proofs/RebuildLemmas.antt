@@ -1,14 +1,12 @@
 -- A block that is rebuilt from blocks of a stripe is the stripe's.
-use Rattle.std.proofs.Common.{◌≡◌, ℕ, ◌+◌, ◌*◌, ◌<◌, ◌≤◌, ◌∙◌, List, [], length, slice_index, slice_index_or, drop, map, ap, sym, arith}
-use Rattle.std.specs.Prelude.{All}
+use Rattle.std.proofs.Common.{◌≡◌, ℕ, ◌+◌, ◌*◌, ◌<◌, ◌∙◌, List, [], length, slice_index, slice_index_or, drop, map, ap, sym, arith}
 use Rattle.std.proofs.Math.Nat.{mul_comm}
 use Rattle.std.proofs.lemmas.Grind.{same_number_lists}
 use Rattle.std.proofs.lemmas.List.{get_or-drop, get_or-map, get_or-take, get_or_default}
 use Rattle.poly_code.proofs.CodewordLemmas.{codewords_agree, column-at}
-use Rattle.poly_code.specs.Codeword.{AreDistinct, IsOfCodeword}
-use Rattle.poly_code.specs.Columns.{byte_of_block, column}
+use Rattle.poly_code.specs.Columns.{byte_of_block}
 use Rattle.shard_file.specs.Stripes.{block_size, piece}
-use Rattle.body_print.specs.Shards.{AreStripeBlocks}
+use Rattle.body_print.specs.Laws.{AnyBlocksGiveEach}
 
 -- byte k of piece i is byte k of block i
 byte_of_piece : (size k i : ℕ) (bytes : List ℕ) → k < size → byte_of_block size k bytes i ≡ slice_index (piece size bytes i) k
@@ -18,12 +16,7 @@ byte_of_piece size k i bytes low =
     ∙ sym (get_or-take size (drop (size * i) bytes) k 0 low)
 
 -- what is rebuilt from a stripe's blocks at d rows is the stripe's block
-pub rebuilt_block : (n d size which : ℕ) (rows bytes out stripe : List ℕ) (shards : List (List ℕ)) → n ≤ 256 → length rows ≡ d
-    → All (λ row. row < n) rows → AreDistinct rows → which < n → size ≡ block_size d (length stripe) → length out ≡ size
-    → AreStripeBlocks n d stripe shards
-    → ((j : ℕ) → j < d → piece size bytes j ≡ slice_index_or shards (slice_index rows j) [])
-    → ((k : ℕ) → k < size → IsOfCodeword n d rows (column d size k bytes) which (slice_index out k))
-    → out ≡ slice_index_or shards which []
+pub rebuilt_block : AnyBlocksGiveEach
 rebuilt_block n d size which rows bytes out stripe shards most count within distinct low is long are same code =
     let block = slice_index_or shards which [] in
     let block_long : length block ≡ block_size d (length stripe) = are.sizes which [] (omega (arith, are.count)) in
