@@ -1,2 +1,4 @@
 pub mod Good
+pub mod Letters
+pub mod Refusals
 pub mod Whys

@@ -15,7 +15,7 @@ pub enum Mode {
 }
 
 /// A key of a bucket.
-#[derive(Clone, Debug, PartialEq, Eq, Drop)]
+#[derive(Debug, PartialEq, Eq, Drop)]
 pub struct Key {
     /// The bucket's name.
     pub bucket: Text,

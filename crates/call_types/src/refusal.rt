@@ -1,5 +1,8 @@
 //! Refusals of calls, and of content that is read.
 
+ghost use Rattle.std.specs.Prelude.{◌≡◌};
+ghost use Rattle.call_types.specs.Refusals.{refusal_of};
+
 use crate::names::VersionName;
 use crate::why::Whys;
 use seal_file::Text;
@@ -37,7 +40,7 @@ pub enum KeyRefusal {
 }
 
 /// Why a call is refused, as plain data. The code and the text that a client gets are the reply's matter.
-#[derive(Clone, Debug, PartialEq, Eq, Drop)]
+#[derive(Debug, PartialEq, Eq, Drop)]
 pub enum Refusal {
     /// The request head is malformed.
     BadHead,
@@ -128,6 +131,25 @@ pub enum Refusal {
         /// The count after.
         after: u64,
     },
+}
+
+/// A refusal of a key as that of the call.
+impl From<KeyRefusal> for Refusal {
+    ghost from_gives = { λ why refusal. refusal ≡ refusal_of why };
+
+    fn from(why: KeyRefusal) -> Refusal {
+        match why {
+            KeyRefusal::NoSuchKey { marker } => Refusal::NoSuchKey { marker },
+            KeyRefusal::NoSuchVersion => Refusal::NoSuchVersion,
+            KeyRefusal::MarkerNamed { id, modified } => Refusal::MarkerNamed { id, modified },
+            KeyRefusal::VersionLimit => Refusal::VersionLimit,
+            KeyRefusal::NoSuchUpload => Refusal::NoSuchUpload,
+            KeyRefusal::InvalidPart => Refusal::InvalidPart,
+            KeyRefusal::PartOrder => Refusal::PartOrder,
+            KeyRefusal::PartSmall => Refusal::PartSmall,
+            KeyRefusal::UploadLimit => Refusal::UploadLimit,
+        }
+    }
 }
 
 /// Why the content of a key's state is not read.

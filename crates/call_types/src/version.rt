@@ -1,12 +1,9 @@
 //! Versions, uploads and parts as a key's registers hold them.
 
-ghost use Rattle.std.specs.Prelude.{◌≡◌};
-
 use crate::list::Listing;
 use crate::names::VersionName;
 use seal_file::Text;
 use stamp_id::VersionId;
-use std::alloc::AllocError;
 
 /// A version of a key.
 #[derive(Debug, PartialEq, Eq, Drop)]
@@ -20,7 +17,7 @@ pub struct Version {
 }
 
 /// What a version is.
-#[derive(Clone, Debug, PartialEq, Eq, Drop)]
+#[derive(Debug, PartialEq, Eq, Drop)]
 pub enum What {
     /// A delete marker.
     Marker,
@@ -86,31 +83,3 @@ pub type Uploads = Listing<Upload>;
 
 /// The parts that a Complete lists, in its order.
 pub type PartRefs = Listing<PartRef>;
-
-/// The clone of a version is the same version.
-impl Clone for Version {
-    ghost is_clone = { λ version copy. copy ≡ version };
-
-    fn clone(&self) -> Result<Version, AllocError> {
-        let what = self.what.clone()?;
-        Ok(Version {
-            id: self.id,
-            modified: self.modified,
-            what,
-        })
-    }
-}
-
-/// The clone of an upload is the same upload.
-impl Clone for Upload {
-    ghost is_clone = { λ upload copy. copy ≡ upload };
-
-    fn clone(&self) -> Result<Upload, AllocError> {
-        let kind = self.kind.clone()?;
-        Ok(Upload {
-            id: self.id,
-            opened: self.opened,
-            kind,
-        })
-    }
-}

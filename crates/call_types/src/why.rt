@@ -2,7 +2,9 @@
 
 ghost use Rattle.std.specs.Prelude.{◌≡◌, ◌<◌, ◌≤◌, Some, length, replicate, slice_get, slice_set};
 ghost use Rattle.call_types.specs.Good.{IsGoodMask, good_count, is_good};
+ghost use Rattle.call_types.specs.Letters.{letter_of, letters_of};
 
+use drive_base::MOST_DRIVES;
 use seal_file::Damage;
 use stamp_id::Ballot;
 use std::marker::Model;
@@ -34,7 +36,7 @@ pub enum Why {
     },
     /// Its file is damaged.
     Damaged(Damage),
-    /// Its file is older than the one of this ballot. No call answers so yet.
+    /// Its file is good, and its base doesn't carry the value's change. Plans of heals say so, and refusals never do.
     Behind(Ballot),
     /// It has no file of this kind. A drive that is out lacks its format file.
     Lacks(FileKind),
@@ -47,16 +49,29 @@ impl Why {
     {
         matches!(self, Why::Good)
     }
+
+    /// Its letter, for people and scripts: `g` Good, `f` Failed, `d` Damaged, `b` Behind, `l` Lacks.
+    pub fn letter(self) -> u8
+        ensures { result ≡ letter_of self }
+    {
+        match self {
+            Why::Good => b'g',
+            Why::Failed { .. } => b'f',
+            Why::Damaged(_) => b'd',
+            Why::Behind(_) => b'b',
+            Why::Lacks(_) => b'l',
+        }
+    }
 }
 
-/// The most drives of a set.
-pub const MOST_DRIVES: usize = 16;
+/// How many places `Whys` has.
+const PLACES: usize = MOST_DRIVES as usize;
 
 /// One `Why` for each drive of a set, in order of the drives: 1 to 16 of them, kept in place. A contract sees the
 /// list of them.
 #[derive(Clone, Copy, Debug, PartialEq, Eq)]
 pub struct Whys {
-    whys: [Why; MOST_DRIVES],
+    whys: [Why; PLACES],
     count: u8,
 }
 
@@ -85,7 +100,7 @@ impl Whys {
         ensures { result ≡ replicate drives Why.Good }
     {
         Whys {
-            whys: [Why::Good; MOST_DRIVES],
+            whys: [Why::Good; PLACES],
             count: drives,
         }
     }
@@ -121,6 +136,16 @@ impl Whys {
         ensures { result.now ≡ self.now }
     {
         &self.whys[..self.count as usize]
+    }
+
+    /// The letters of the drives in their order, written at the front of `place`.
+    pub fn letters<'a>(&self, place: &'a mut [u8; 16]) -> &'a [u8]
+        ensures { result.now ≡ letters_of self.now }
+    {
+        for k in 0..self.len() {
+            place[k] = self.get(k).letter();
+        }
+        &place[..self.len()]
     }
 
     /// How many drives served.
