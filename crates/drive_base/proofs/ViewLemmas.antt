@@ -1,7 +1,7 @@
 -- From the drives of a list to what is seen of them, and back.
-use Rattle.std.proofs.Common.{◌≡◌, ◌<◌, ℕ, zero, suc, List, [], ◌∷◌, length, slice_index_or, refl, ◌∙◌, arith, IsTrue}
+use Rattle.std.proofs.Common.{sym, subst, ◌≡◌, ◌<◌, ℕ, zero, suc, List, [], ◌∷◌, length, slice_index_or, refl, ◌∙◌, arith, IsTrue}
 use Rattle.std.proofs.lemmas.List.{length-map}
-use Rattle.drive_base.specs.View.{DriveView, view, views, view_at, AtEach, AtSome, GoesOn, OnlyRead, UntouchedGoOn, UntouchedAreOnlyRead, TwoCallsGoOn, TwoCallsOnlyRead, OnlyReadGoOn}
+use Rattle.drive_base.specs.View.{AllGoOn, AllTell, DriveView, view, views, view_at, AtEach, AtSome, GoesOn, OnlyRead, UntouchedGoOn, UntouchedAreOnlyRead, TwoCallsGoOn, TwoCallsOnlyRead, OnlyReadGoOn}
 use Rattle.drive_base.specs.declared.drive.Drive.{Ghosts}
 
 module _ {D : Type 0} (ghosts : Ghosts D) where
@@ -54,6 +54,25 @@ module _ {D : Type 0} (ghosts : Ghosts D) where
   -- as many drives after as before
   pub at_each_long : (R : ℕ → DriveView → DriveView → Type 0) (old new : List D) → AtEach R (views ghosts old) (views ghosts new) → length new ≡ length old
   at_each_long R old new all = omega (arith, all.long, length-views old, length-views new)
+
+  -- a drive of which it is asked tells, where each view of which it is asked does, and the other way round
+  pub tells_at : (IsAsked : ℕ → Type 0) (drives : List D) → AllTell IsAsked (views ghosts drives)
+      → (k : ℕ) (d : D) → k < length drives → IsAsked k → IsTrue (ghosts.tells (slice_index_or drives k d))
+  tells_at IsAsked drives all k d lt asked =
+      subst (λ (v : DriveView). IsTrue v.tells) (view_at-views drives k d lt) (all k (omega (arith, length-views drives)) asked)
+
+  pub all_tell : (IsAsked : ℕ → Type 0) (drives : List D) → ((k : ℕ) (d : D) → k < length drives → IsAsked k → IsTrue (ghosts.tells (slice_index_or drives k d)))
+      → AllTell IsAsked (views ghosts drives)
+  all_tell IsAsked drives each k lt asked =
+      let within : k < length drives = omega (arith, length-views drives) in
+      let d = any_of drives k within in
+      subst (λ (v : DriveView). IsTrue v.tells) (sym (view_at-views drives k d within)) (each k d within asked)
+
+-- drives that tell go on telling
+pub still_tell : (IsAsked : ℕ → Type 0) (old new : List DriveView) → AllGoOn old new → AllTell IsAsked old → AllTell IsAsked new
+still_tell IsAsked old new all tell k lt asked =
+    let here : k < length old = omega (arith, all.long) in
+    subst IsTrue (sym (all.each k here).tells) (tell k here asked)
 
 -- one drive over two calls
 goes_on_twice : (old mid new : DriveView) → GoesOn old mid → GoesOn mid new → GoesOn old new

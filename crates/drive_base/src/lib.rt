@@ -9,7 +9,12 @@
 //! folder or a drive behind a lock. What a drive holds is claimed only of one that tells it. Counts,
 //! causes and the order of names are claimed of every drive.
 //!
-//! It stands on no other crate of the store.
+//! A set of drives is a [`SetPlan`]; a [`DriveSet`] names some of its drives, and [`drive_set_laws`] says how such sets are
+//! counted. The layers above see the drives of a set as a list of views, one for each: [`view_laws`] says what holds of
+//! such lists over several calls, and that no call makes damage dishonest. [`page`] lists the keys of a map as a drive
+//! lists its names.
+//!
+//! It stands on `fault_base`, which says when a count rose.
 #![tactic(auto)]
 
 mod drive;

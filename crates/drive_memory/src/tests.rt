@@ -1,4 +1,4 @@
-//! Each call on its happy path, and what a lost drive and a forgotten `sync` show.
+//! Each call on its happy path, and what a lost drive shows.
 
 ghost use Rattle.std.specs.Prelude.{◌≡◌, ◌≤◌, length};
 ghost use Rattle.drive_base.specs.Files.{no_files};
@@ -141,17 +141,6 @@ fn a_lost_drive_fails_until_it_is_back(rt: HostRuntime) -> Result<(), Fail> {
     assert_eq!(rt; read_four(&mut drive, "b", 0), Some((2, *b"xy--")));
     assert_eq!(rt; drive.faults(), 8);
     assert_eq!(rt; drive.starved(), 0);
-    Ok(())
-}
-
-#[test]
-fn a_file_that_was_not_synced_is_zeros(rt: HostRuntime) -> Result<(), Fail> {
-    let mut drive = MemDrive::new(rt.alloc());
-    drive.append("w1", b"ab")?;
-    drive.sync("w1")?;
-    drive.append("w1", b"c")?;
-    drive.rename("w1", "a")?;
-    assert_eq!(rt; read_four(&mut drive, "a", 0), Some((3, [0, 0, 0, b'-'])));
     Ok(())
 }
 
