@@ -1,4 +1,4 @@
-use Rattle.std.proofs.Common.{rules, arith, sym, ◌∙◌}
+use Rattle.std.proofs.Common.{arith, sym, ◌∙◌}
 use Rattle.std.proofs.lemmas.Option.{none-some}
 use Rattle.turn_lock.proofs.Moves.{closes, closes_with}
 use Rattle.turn_lock.proofs.lock.TurnLock.close.Goals as goal
