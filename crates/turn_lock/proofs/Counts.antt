@@ -1,10 +1,10 @@
 -- Sums over lists that change at one place, and tickets counted.
-use Rattle.std.proofs.Common.{◌≡◌, ℕ, zero, suc, ◌+◌, ◌<◌, ◌≤◌, ◌≢◌, List, [], ◌∷◌, ◌++◌, Option, Some, None, length, set, cond, eqb, ltb, sym, refl, ap, ◌∙◌, arith, eq-eqb, ne_eqb, lt-ltb, le-ltb}
+use Rattle.std.proofs.Common.{◌≡◌, ℕ, zero, suc, ◌+◌, ◌<◌, ◌≤◌, ◌≢◌, List, [], ◌∷◌, ◌++◌, set, cond, ltb, sym, refl, ap, ◌∙◌, arith, eq-eqb, ne_eqb, lt-ltb, le-ltb}
 use mathlib.Core.Logic.{dite}
 use mathlib.Core.Option as maybe
 use native.Mathlib.Decide.{ℕ_discrete, dec_le}
 use lib.ListN.{get_elem?}
-use Rattle.turn_lock.specs.Tickets.{total, same, times, holds, between}
+use Rattle.turn_lock.specs.Tickets.{total, same, between}
 
 module _ {A : Type 0} where
   pub set_there : (l : List A) (j : ℕ) (v w : A) → get_elem? l j ≡ maybe.some v → get_elem? (set l j w) j ≡ maybe.some w

@@ -1,17 +1,17 @@
 -- Each step keeps the rule, on plain data.
-use Rattle.std.proofs.Common.{◌≡◌, ℕ, zero, suc, ◌+◌, ◌-◌, ◌<◌, ◌≤◌, ◌≢◌, ◌⊎◌, max, List, [], ◌∷◌, ◌++◌, Bool, true, false, Option, Some, None, IfSome, cond, set, sym, refl, ap, subst, ◌∙◌, inl, inr, ⊎_elim, arith}
+use Rattle.std.proofs.Common.{◌≡◌, ℕ, ◌+◌, ◌<◌, ◌≤◌, ◌≢◌, List, [], ◌∷◌, ◌++◌, Bool, true, false, Option, Some, None, IfSome, cond, set, sym, refl, ap, subst, ◌∙◌, inl, inr, ⊎_elim, arith}
 use Rattle.std.proofs.Math.Nat.{max-le}
 use Rattle.std.proofs.lemmas.Option.{none-some}
 use mathlib.Core.Logic.{dite}
 use mathlib.Core.Option as maybe
 use native.Mathlib.Decide.{ℕ_discrete, dec_le}
 use lib.ListN.{get_elem?}
-use Rattle.atomic_table.proofs.Lists.{at_set, at_snoc, at_longer, at_last, set_else}
-use Rattle.turn_lock.specs.Tickets.{total, same, times, holds, between}
-use Rattle.turn_lock.specs.Views.{view, first, cut, part, joined, gone, looked, drew, lent, rested}
+use Rattle.atomic_table.proofs.Lists.{at_set, at_snoc, at_longer, set_else}
+use Rattle.turn_lock.specs.Tickets.{same, times, holds, between}
+use Rattle.turn_lock.specs.Views.{first, cut, part, joined, gone, looked, drew, lent, rested}
 use Rattle.turn_lock.specs.Order.{Fits, IsOut, IsHome, InOrder}
 use Rattle.turn_lock.specs.declared.view.View.{View}
-use Rattle.turn_lock.proofs.Counts.{set_there, total-append, total-set, term_le, terms_le, total_only, same_here, same_else, between_above, between_below, between_most, between_none, between_grows, between_falls}
+use Rattle.turn_lock.proofs.Counts.{set_there, total-append, total-set, term_le, terms_le, total_only, same_here, between_above, between_below, between_most, between_none, between_grows, between_falls}
 
 false_true : false ≡ true → ⊥
 false_true e = omega (arith, ap {B = ℕ} (λ (b : Bool). cond b 0 1) e)

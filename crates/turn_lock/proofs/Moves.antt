@@ -1,18 +1,17 @@
 -- Each step of a lock's table keeps its rule.
-use Rattle.std.proofs.Common.{◌≡◌, ℕ, ◌+◌, ◌<◌, ◌≤◌, ◌≢◌, List, [], ◌∷◌, ◌++◌, Bool, true, false, Option, Some, None, IfSome, length, set, get_or, sym, refl, ap, subst, ◌∙◌, arith, eqb}
+use Rattle.std.proofs.Common.{◌≡◌, ℕ, ◌+◌, ◌<◌, ◌≤◌, ◌≢◌, List, [], ◌∷◌, true, false, Option, Some, None, set, get_or, sym, refl, ap, subst, ◌∙◌, arith, eqb}
 use mathlib.Core.Logic.{dite}
 use mathlib.Core.Option as maybe
 use native.Mathlib.Decide.{ℕ_discrete}
 use lib.ListN.{get_elem?}
 use prog.Atomic.{either}
-use Rattle.atomic_table.specs.Table.{State, Me, step, Act, keeps, takes, gives, Valid, carried_after, stepped, opening, rest, Allows, Splits, Joins, Final, Seen}
+use Rattle.atomic_table.specs.Table.{State, step, Act, keeps, takes, gives, Valid, carried_after, stepped, opening, rest, Allows, Splits, Joins, Final, Seen}
 use Rattle.atomic_table.proofs.Lists.{exchanged, set_again}
 use Rattle.turn_lock.specs.Tickets.{times, between}
 use Rattle.turn_lock.specs.Views.{first, cut, part, joined, gone, looked, drew, lent, rested}
-use Rattle.turn_lock.specs.Steps.{Mine, Looks, Draws, Weighs, Advances, Lends, Serves}
+use Rattle.turn_lock.specs.Steps.{Mine, Looks, Draws, Weighs, Advances, Serves}
 use Rattle.turn_lock.specs.Order.{InOrder, Ordered}
 use Rattle.turn_lock.specs.declared.view.View.{View}
-use Rattle.turn_lock.proofs.Counts.{term_le}
 use Rattle.turn_lock.proofs.Keeps as keep
 
 module _ {T N : Type 0} (turn : T → ℕ) (name : T → N) (of : T) where
@@ -88,9 +87,11 @@ module _ {T N : Type 0} (turn : T → ℕ) (name : T → N) (of : T) where
         ((λ is. absurd (ne (keep.one_ticket ticket serving (sym mine ∙ is)))), λ _. refl),
       )))
 
-  pub advances : (slots id : ℕ) (m : Mine T) (v : View T) (value : T) (ticket new : ℕ) → m ≡ (v, (0, Some value) ∷ []) → v.ticket ≡ Some ticket → v.out ≡ true → new ≡ ticket + 1 → turn value ≡ new
+  pub advances : (slots id : ℕ) (m : Mine T) (v : View T) (value : T) (was : Option T) (had : List (ℕ × Option T)) (ticket new : ℕ) → m ≡ (v, (0, Some value) ∷ rest had) → had ≡ (0, was) ∷ []
+      → v.ticket ≡ Some ticket → v.out ≡ true → new ≡ ticket + 1 → turn value ≡ new
       → v.of ≡ Some of → name value ≡ name of → Allows Rule slots id m 1 (λ _. new) (λ _. Advances (step slots 1 new 0 maybe.none) m new)
-  advances slots id m v value ticket new em mine out e turns known named = subst (λ (x : Mine T). Allows Rule slots id x 1 (λ _. new) (λ _. Advances (step slots 1 new 0 maybe.none) x new)) (sym em)
+  advances slots id m v value was had ticket new em only mine out e turns known named = subst (λ (x : Mine T). Allows Rule slots id x 1 (λ _. new) (λ _. Advances (step slots 1 new 0 maybe.none) x new))
+      (sym (em ∙ ap {B = Mine T} (λ (l : List (ℕ × Option T)). (v, (0, Some value) ∷ rest l)) only))
       (λ s g wide at _. let next = g.0 in let serving = g.1 in let o = g.5 in
       let is : v.ticket ≡ Some serving = (o.each id v at).in_turn out in
       let same : ticket ≡ serving = keep.one_ticket ticket serving (sym mine ∙ is) in

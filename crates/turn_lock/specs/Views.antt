@@ -1,5 +1,5 @@
 -- What a pass knows, and how each step changes it.
-use Rattle.std.specs.Prelude.{◌≡◌, ℕ, ◌+◌, ◌-◌, max, Bool, true, false, List, [], ◌∷◌, ◌++◌, Option, Some, None}
+use Rattle.std.specs.Prelude.{ℕ, ◌+◌, ◌-◌, max, Bool, true, false, List, [], ◌∷◌, ◌++◌, Option, Some, None}
 use Rattle.turn_lock.specs.declared.view.View.{View}
 
 module _ {T : Type 0} where

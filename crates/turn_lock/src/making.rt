@@ -48,7 +48,8 @@ impl<T: Turned> TurnLock<T> {
         ensures drawn { IfOk result (λ value. (ticket : ℕ) → times ticket (drawn_by pass) ≡ between (T.turn (made_with self)) (T.turn value) ticket) }
         ensures err { IfErr result (λ back. (parts_of pass < 65536) × (back.0 ≡ self) × (back.1 ≡ pass)) }
     {
-        if pass.parts < ALL_PARTS {
+        let all = ALL_PARTS;
+        if pass.parts < all {
             return Err((self, pass));
         }
         let Pass {

@@ -1,4 +1,8 @@
 //! The rule of a lock's table, and the names of its steps.
+//!
+//! A lock makes eight kinds of step: it splits a pass, joins two (and reads then that one has no more than all parts), looks at the next
+//! ticket, draws it, looks at the ticket whose turn it is (which hands out the slot), takes the value out of the slot, puts it back,
+//! and ends a turn. Taking and putting are plain accesses, since the slot is then out with one seat.
 
 ghost use Rattle.std.specs.Prelude.{ℕ};
 ghost use Rattle.turn_lock.specs.Order.{Ordered};

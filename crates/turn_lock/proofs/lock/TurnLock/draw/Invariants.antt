@@ -1,4 +1,4 @@
-use Rattle.std.proofs.Common.{◌≡◌, ◌≤◌, ℕ}
+use Rattle.std.proofs.Common.{◌≡◌, ◌≤◌}
 use Rattle.turn_lock.specs.Views.{looked}
 use Rattle.turn_lock.proofs.lock.TurnLock.draw.Given as goal
 

@@ -1,4 +1,4 @@
-use Rattle.std.proofs.Common.{rules, ap, ◌∙◌, refl}
+use Rattle.std.proofs.Common.{rules}
 use Rattle.turn_lock.proofs.Moves.{serves}
 use Rattle.turn_lock.proofs.lock.TurnLock.wait.Goals as goal
 
