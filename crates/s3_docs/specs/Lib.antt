@@ -1,0 +1,5 @@
+pub mod Bytes
+pub mod Machine
+pub mod Documents
+pub mod Reads
+pub mod Answers

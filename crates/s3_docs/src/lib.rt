@@ -1,0 +1,92 @@
+//! The two documents of the S3 API that the store reads, as the bodies of CompleteMultipartUpload and
+//! PutBucketVersioning.
+//!
+//! The crate stands on `call_types` for parts and modes and on `hex` for the digits of an ETag.
+#![tactic(auto)]
+
+ghost use Rattle.std.specs.Prelude.{◌≡◌, ◌⊎◌, IfOk, IfErr, Ok, Err};
+ghost use Rattle.s3_docs.specs.declared.fault.DocFault.TheVariants.{NoMemory};
+ghost use Rattle.s3_docs.specs.declared.prologue.Root.TheVariants.{CompleteMultipartUpload, VersioningConfiguration};
+ghost use Rattle.s3_docs.specs.Machine.{Start, Parts, Versioning, Value, After};
+ghost use Rattle.s3_docs.specs.Documents.{outcome, Says, IsDocument, IsPlace};
+ghost use Rattle.s3_docs.specs.Reads.{Stops};
+ghost use Rattle.s3_docs.specs.Answers.{StopsDocument, RefusesAt};
+
+mod complete;
+mod elements;
+mod fault;
+mod part;
+mod pieces;
+mod prologue;
+mod values;
+mod versioning;
+
+use call_types::{Mode, PartRef, PartRefs};
+use complete::{PartsFault, parts};
+use pieces::skip_blanks;
+use prologue::{Root, start};
+use std::alloc::Global;
+use versioning::configuration;
+
+pub use fault::DocFault;
+
+/// Checks that nothing but white space is left.
+fn end(text: &[u8]) -> Result<(), usize>
+    ensures ends { IfOk result (λ _. (value : Value) → outcome (After value) text.now ≡ Says value) }
+    ensures stops { IfErr result (λ left. (value : Value) → Stops (After value) text.now left) }
+{
+    let rest = skip_blanks(text);
+    if rest.is_empty() {
+        Ok(())
+    } else {
+        Err(rest.len())
+    }
+}
+
+/// The mode, or how many bytes are left where no document goes on.
+fn mode_of(bytes: &[u8]) -> Result<Mode, usize>
+    ensures reads { IfOk result (λ mode. IsDocument VersioningConfiguration bytes.now (Versioning mode)) }
+    ensures stops { IfErr result (λ left. Stops (Start VersioningConfiguration) bytes.now left) }
+{
+    let content = start(bytes, Root::VersioningConfiguration)?;
+    let found = configuration(content)?;
+    end(found.rest)?;
+    Ok(found.value)
+}
+
+/// The parts, or how many bytes are left where no document goes on.
+fn parts_of(alloc: Global, bytes: &[u8]) -> Result<Vec<PartRef>, PartsFault>
+    ensures reads { IfOk result (λ parts. IsDocument CompleteMultipartUpload bytes.now (Parts parts.items)) }
+    ensures stops { IfErr result (StopsDocument bytes.now) }
+{
+    let content = start(bytes, Root::CompleteMultipartUpload)?;
+    let (parts, rest) = parts(alloc, content)?;
+    end(rest)?;
+    Ok(parts)
+}
+
+/// The mode that the body of a PutBucketVersioning asks for. The one refusal is MalformedXML.
+pub fn read_versioning(bytes: &[u8]) -> Result<Mode, DocFault>
+    ensures reads { IfOk result (λ mode. IsDocument VersioningConfiguration bytes.now (Versioning mode)) }
+    ensures refuses { IfErr result (λ fault. RefusesAt VersioningConfiguration bytes.now fault) }
+{
+    match mode_of(bytes) {
+        Ok(mode) => Ok(mode),
+        Err(left) => Err(DocFault::MalformedXML((bytes.len() - left) as u64)),
+    }
+}
+
+/// The parts that the body of a CompleteMultipartUpload lists, in its order.
+pub fn read_complete(alloc: Global, bytes: &[u8]) -> Result<PartRefs, DocFault>
+    ensures reads { IfOk result (λ parts. IsDocument CompleteMultipartUpload bytes.now (Parts parts)) }
+    ensures refuses { IfErr result (λ fault. (fault ≡ NoMemory) ⊎ RefusesAt CompleteMultipartUpload bytes.now fault) }
+{
+    match parts_of(alloc, bytes) {
+        Ok(parts) => Ok(PartRefs::from_vec(parts)),
+        Err(PartsFault::Left(left)) => Err(DocFault::MalformedXML((bytes.len() - left) as u64)),
+        Err(PartsFault::NoMemory) => Err(DocFault::NoMemory),
+    }
+}
+
+#[cfg(test)]
+mod tests;
