@@ -3,3 +3,4 @@ pub mod Machine
 pub mod Documents
 pub mod Reads
 pub mod Answers
+pub mod Grammar
