@@ -5,7 +5,7 @@ use Rattle.std.proofs.lemmas.Bool.Decides.{eqb_tells}
 use Rattle.std.proofs.lemmas.List.{length_push, append-nil}
 use Rattle.s3_docs.specs.Bytes.{is_blank, is_digit, is_letter, is_name_byte}
 use Rattle.s3_docs.specs.Machine.{Value, Holder, State, Expect, Inside, Inner, Name, Text, due, end_tag, is_gap, moves, step, said, closes, naming, behind_name, Naming}
-use Rattle.s3_docs.specs.Documents.{Outcome, Says, Fails, outcome, goes_on, at_the_end}
+use Rattle.s3_docs.specs.Outcomes.{Outcome, Says, Fails, outcome, goes_on, at_the_end}
 use Rattle.s3_docs.specs.Reads.{NoBlank, NoNameByte, Opens}
 use Rattle.s3_docs.specs.Grammar.{◌·◌, Every, IsGap, IsName, Passed, content_text, passed_text, HoldsNoTag, IsPassed}
 

@@ -9,7 +9,7 @@ use Rattle.std.proofs.lemmas.Slice.Eq.{bytes_eq-Decides}
 use Rattle.call_types.specs.declared.version.PartRef.{PartRef}
 use Rattle.s3_docs.specs.Bytes.{is_blank}
 use Rattle.s3_docs.specs.Machine.{Value, Parts, Holder, Part, Field, PartNumber, ETag, Naming, Awaited, Spent, State, Inside, Inner, Name, Awaiting, Between, Tag, After, due, naming, behind_name, closes, closes_all, quote_text, md5_of}
-use Rattle.s3_docs.specs.Documents.{Outcome, Says, Fails, outcome, goes_on}
+use Rattle.s3_docs.specs.Outcomes.{Outcome, Says, Fails, outcome, goes_on}
 use Rattle.s3_docs.specs.Reads.{NoNameByte}
 use Rattle.s3_docs.specs.Grammar.{◌·◌, IsGap, IsName, Passed, content_text, passed_text, IsPassed, number_of, Item, Number, Etag, Other, item_text, IsItem, items_text, AreItems, numbers, digests, PartTree, part_text, SaysPart, parts_text, SayParts}
 use Rattle.s3_docs.proofs.Back.{Opened, not_failed, gap_back, open_back, due_back, inner_back, content_back}

@@ -8,7 +8,7 @@ use Rattle.call_types.specs.declared.names.Mode.{Mode}
 use Rattle.call_types.specs.declared.names.Mode.TheVariants.{Enabled, Suspended}
 use Rattle.s3_docs.specs.Bytes.{is_blank, is_digit}
 use Rattle.s3_docs.specs.Machine.{Value, Holder, Field, PartNumber, ETag, Status, Quotation, Bare, Plain, Named, Numbered, State, Inside, Awaiting, Ending, Digits, Reference, Hex, due, end_tag, field_name, with_number, with_md5, with_mode, md5_of, quote_text, behind_hex, behind_number, one_digit_more, begins}
-use Rattle.s3_docs.specs.Documents.{Outcome, Says, Fails, outcome, goes_on}
+use Rattle.s3_docs.specs.Outcomes.{Outcome, Says, Fails, outcome, goes_on}
 use Rattle.s3_docs.specs.Reads.{NoBlank}
 use Rattle.s3_docs.specs.Grammar.{◌·◌, Every, IsGap, value_behind, number_of, IsNumber, IsDigest, mode_name, IsAsked}
 use Rattle.s3_docs.proofs.ValueLemmas.{awaiting_number, awaiting_hex}

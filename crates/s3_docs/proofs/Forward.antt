@@ -10,7 +10,7 @@ use Rattle.hex.specs.Hex.{is_hex_digit}
 use Rattle.call_types.specs.declared.version.PartRef.{PartRef}
 use Rattle.s3_docs.specs.Bytes.{is_blank, is_digit, is_letter, is_name_byte}
 use Rattle.s3_docs.specs.Machine.{Value, Holder, Part, Configuration, Quotation, Bare, Plain, Named, Numbered, Field, PartNumber, ETag, State, Expect, Inside, Inner, Name, Text, Awaiting, Ending, Digits, Reference, Hex, Between, due, end_tag, is_gap, moves, step, naming, with_number, with_md5, md5_of, quote_text, behind_hex}
-use Rattle.s3_docs.specs.Documents.{Outcome, Says, Fails, outcome}
+use Rattle.s3_docs.specs.Outcomes.{Outcome, Says, Fails, outcome}
 use Rattle.s3_docs.specs.Reads.{NoBlank}
 use Rattle.s3_docs.specs.Grammar.{◌·◌, Every, IsGap, IsName, Passed, content_text, passed_text, HoldsNoTag, IsPassed, value_behind, number_of, IsNumber, IsDigest, Item, number_text, etag_text, item_text, IsItem, items_text, AreItems, numbers, digests}
 use Rattle.s3_docs.proofs.Live.{outcome-due}

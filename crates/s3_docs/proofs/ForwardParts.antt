@@ -10,7 +10,7 @@ use Rattle.hex.specs.Hex.{is_hex_digit}
 use Rattle.call_types.specs.declared.version.PartRef.{PartRef}
 use Rattle.s3_docs.specs.Bytes.{is_blank, is_digit}
 use Rattle.s3_docs.specs.Machine.{Value, Parts, Holder, Part, Quotation, Bare, Plain, Named, Numbered, Awaited, PartNumber, ETag, State, Inside, Awaiting, Ending, Digits, Hex, Between, After, due, naming, with_number, with_md5, md5_of, quote_text, behind_hex}
-use Rattle.s3_docs.specs.Documents.{Outcome, Says, outcome}
+use Rattle.s3_docs.specs.Outcomes.{Outcome, Says, outcome}
 use Rattle.s3_docs.specs.Reads.{NoBlank}
 use Rattle.s3_docs.specs.Grammar.{◌·◌, Every, IsGap, Passed, value_behind, number_of, IsNumber, IsDigest, Item, Number, Etag, Other, number_text, etag_text, item_text, IsItem, items_text, AreItems, numbers, digests, PartTree, part_text, SaysPart, parts_text, SayParts}
 use Rattle.s3_docs.proofs.Live.{outcome-due}

@@ -6,8 +6,9 @@ use Rattle.s3_docs.specs.declared.prologue.Root.{Root}
 use Rattle.s3_docs.specs.declared.prologue.Root.TheVariants.{CompleteMultipartUpload, VersioningConfiguration}
 use Rattle.s3_docs.specs.Bytes.{is_blank}
 use Rattle.s3_docs.specs.Machine.{Value, Parts, Versioning, Configuration, State, Start, Between, Inside, After}
-use Rattle.s3_docs.specs.Documents.{Outcome, Says, Fails, outcome}
-use Rattle.s3_docs.specs.Grammar.{◌·◌, IsGap, prologue_text, CompleteTree, SaysComplete, complete_text, parts_text, VersioningTree, SaysVersioning, versioning_text, settings_text, IsSpelled}
+use Rattle.s3_docs.specs.Outcomes.{Outcome, Says, Fails, outcome}
+use Rattle.s3_docs.specs.Documents.{IsDocument}
+use Rattle.s3_docs.specs.Grammar.{◌·◌, IsGap, prologue_text, CompleteTree, SaysComplete, complete_text, parts_text, VersioningTree, SaysVersioning, versioning_text, settings_text}
 use Rattle.s3_docs.proofs.Forward.{gap_read}
 use Rattle.s3_docs.proofs.ForwardParts.{parts_read}
 use Rattle.s3_docs.proofs.BackParts.{PartsBack, parts_back}
@@ -42,28 +43,28 @@ versioning_read tree mode says =
       ∙ gap_read (Inside (Configuration (Some mode))) refl tree.last_gap says.last_gap (codes "</VersioningConfiguration>" · tree.after)
       ∙ after_read (Versioning mode) tree.after says.after
 
-pub read_spelled : (root : Root) (bytes : List ℕ) (value : Value) → IsSpelled root bytes value → outcome (Start root) bytes ≡ Says value
-read_spelled CompleteMultipartUpload bytes (Parts parts) is = rw is.2 (complete_read is.0 parts is.1)
-read_spelled CompleteMultipartUpload bytes (Versioning mode) is = absurd is
-read_spelled VersioningConfiguration bytes (Versioning mode) is = rw is.2 (versioning_read is.0 mode is.1)
-read_spelled VersioningConfiguration bytes (Parts parts) is = absurd is
+pub document_accepted : (root : Root) (bytes : List ℕ) (value : Value) → IsDocument root bytes value → outcome (Start root) bytes ≡ Says value
+document_accepted CompleteMultipartUpload bytes (Parts parts) is = rw is.2 (complete_read is.0 parts is.1)
+document_accepted CompleteMultipartUpload bytes (Versioning mode) is = absurd is
+document_accepted VersioningConfiguration bytes (Versioning mode) is = rw is.2 (versioning_read is.0 mode is.1)
+document_accepted VersioningConfiguration bytes (Parts parts) is = absurd is
 
-pub spelled_read : (root : Root) (bytes : List ℕ) (value : Value) → outcome (Start root) bytes ≡ Says value → IsSpelled root bytes value
-spelled_read CompleteMultipartUpload bytes value goes =
+pub accepted_document : (root : Root) (bytes : List ℕ) (value : Value) → outcome (Start root) bytes ≡ Says value → IsDocument root bytes value
+accepted_document CompleteMultipartUpload bytes value goes =
     let start = prologue_back CompleteMultipartUpload value bytes goes in
     let parts = parts_back (suc (length start.rest)) [] value start.rest (omega arith) start.goes in
-    subst (λ (value : Value). IsSpelled CompleteMultipartUpload bytes value) parts.value_is (spelled start parts)
+    subst (λ (value : Value). IsDocument CompleteMultipartUpload bytes value) parts.value_is (spelled start parts)
   where
-  spelled : (start : PrologueBack CompleteMultipartUpload bytes value) (parts : PartsBack [] start.rest value) → IsSpelled CompleteMultipartUpload bytes (Parts parts.parts)
+  spelled : (start : PrologueBack CompleteMultipartUpload bytes value) (parts : PartsBack [] start.rest value) → IsDocument CompleteMultipartUpload bytes (Parts parts.parts)
   spelled start parts =
     let tree : CompleteTree = record { prologue = start.prologue; parts = parts.trees; last_gap = parts.last_gap; after = parts.after; } in
     (tree, record { prologue = start.is; says = parts.say; some = parts.some; last_gap = parts.gap_is; after = parts.after_is; }, start.whole ∙ ap (prologue_text CompleteMultipartUpload start.prologue) parts.whole)
-spelled_read VersioningConfiguration bytes value goes =
+accepted_document VersioningConfiguration bytes value goes =
     let start = prologue_back VersioningConfiguration value bytes goes in
     let settings = settings_back (suc (length start.rest)) None value start.rest (omega arith) start.goes in
-    subst (λ (value : Value). IsSpelled VersioningConfiguration bytes value) settings.value_is (spelled start settings)
+    subst (λ (value : Value). IsDocument VersioningConfiguration bytes value) settings.value_is (spelled start settings)
   where
-  spelled : (start : PrologueBack VersioningConfiguration bytes value) (settings : SettingsBack None start.rest value) → IsSpelled VersioningConfiguration bytes (Versioning settings.mode)
+  spelled : (start : PrologueBack VersioningConfiguration bytes value) (settings : SettingsBack None start.rest value) → IsDocument VersioningConfiguration bytes (Versioning settings.mode)
   spelled start settings =
     let tree : VersioningTree = record { prologue = start.prologue; settings = settings.settings; last_gap = settings.last_gap; after = settings.after; } in
     (tree, record { prologue = start.is; settings = settings.are; says = settings.one; last_gap = settings.gap_is; after = settings.after_is; }, start.whole ∙ ap (prologue_text VersioningConfiguration start.prologue) settings.whole)

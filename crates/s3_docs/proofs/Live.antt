@@ -10,7 +10,7 @@ use Rattle.call_types.specs.declared.names.Mode.{Mode}
 use Rattle.s3_docs.specs.declared.prologue.Root.{Root}
 use Rattle.s3_docs.specs.declared.prologue.Root.TheVariants.{CompleteMultipartUpload, VersioningConfiguration}
 use Rattle.s3_docs.specs.Machine.{Value, Parts, Versioning, Field, PartNumber, ETag, Status, Holder, Part, Configuration, Quotation, State, Expect, Start, Opened, Declaration, Mark, Before, Rooted, Spaced, Quote, Quoted, Between, Tag, Inside, Inner, Name, Text, Awaiting, Ending, Digits, Reference, Hex, After, Numbered, Other, due, within, end_tag, naming, with_number, with_md5, with_mode, md5_of, quote_text, behind_hex, step}
-use Rattle.s3_docs.specs.Documents.{Outcome, Says, outcome}
+use Rattle.s3_docs.specs.Outcomes.{Outcome, Says, outcome}
 
 -- some bytes make a document of what has come
 abbrev pub IsLive : State → Type 0

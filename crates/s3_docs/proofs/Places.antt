@@ -1,12 +1,14 @@
 -- Where bytes stop to be the beginning of a document.
 use Rattle.std.proofs.Common.{◌≡◌, ◌≢◌, refl, sym, ◌∙◌, ap, subst, ℕ, zero, suc, ◌+◌, ◌-◌, ◌<◌, ◌≤◌, ◌⊎◌, inl, inr, Bool, true, false, List, [], ◌∷◌, ◌++◌, length, take, drop, Option, Some, None, append_assoc, arith, cond, length-append, ◌||◌, ◌&&◌, leb, ltb, eqb}
 use Rattle.std.proofs.lemmas.Bool.Decides.{eqb_tells}
-use Rattle.std.proofs.lemmas.List.{length_push, take_at, append-nil}
+use Rattle.std.proofs.lemmas.List.{length_push, take_at, append-nil, take-append-drop, take-take}
 use Rattle.s3_docs.specs.declared.prologue.Root.{Root}
 use Rattle.s3_docs.specs.declared.prologue.Root.TheVariants.{CompleteMultipartUpload, VersioningConfiguration}
 use Rattle.s3_docs.specs.Machine.{Value, Field, PartNumber, ETag, Status, Holder, Part, Configuration, Quotation, Naming, Awaited, Spent, Other, State, Expect, Start, Opened, Declaration, Mark, Before, Rooted, Spaced, Quote, Quoted, Between, Tag, Inside, Inner, Name, Text, Awaiting, Ending, Digits, Reference, Hex, After, due, within, end_tag, naming, with_md5, md5_of, quote_text, behind_name, closes, closes_all, begins, ends, one_digit_more, behind_number, behind_hex, moves, is_gap, step, said}
 use Rattle.s3_docs.specs.Bytes.{is_blank}
-use Rattle.s3_docs.specs.Documents.{Outcome, Says, Fails, outcome, goes_on, at_the_end, IsDocument, GoesOn, IsPlace}
+use Rattle.s3_docs.specs.Outcomes.{Outcome, Says, Fails, outcome, goes_on, at_the_end}
+use Rattle.s3_docs.specs.Documents.{IsDocument, GoesOn, IsPlace}
+use Rattle.s3_docs.proofs.Law.{document_accepted, accepted_document}
 use Rattle.s3_docs.proofs.Live.{IsLive, IsLawful, live}
 
 -- what a byte leads to is lawful
@@ -150,18 +152,18 @@ place_at : (root : Root) (front rest : List ℕ) (between : State) → IsLawful 
     → ((more : List ℕ) → outcome (Start root) (front ++ more) ≡ outcome between more) → Blocks between rest → IsPlace root (front ++ rest) (length front)
 place_at root front [] between lawful reads blocks = record {
   before = rw (take_at front [] (length front) refl) (goes_to_live);
-  after = inr (sym (ap length (append-nil front)), λ value document. not_said value 0 (sym document ∙ reads [] ∙ ap at_the_end blocks));
+  after = inr (sym (ap length (append-nil front)), λ value document. not_said value 0 (sym (document_accepted root (front ++ []) value document) ∙ reads [] ∙ ap at_the_end blocks));
 }
   where
   goes_to_live : GoesOn root front
-  goes_to_live = let more = live between lawful in (more.0, more.1, reads more.0 ∙ more.2)
+  goes_to_live = let more = live between lawful in (more.0, more.1, accepted_document root (front ++ more.0) more.1 (reads more.0 ∙ more.2))
 place_at root front (b ∷ rest) between lawful reads blocks = record {
   before = rw (take_at front (b ∷ rest) (length front) refl) (goes_to_live);
   after = inl (omega (arith, length-append front (b ∷ rest)), goes_no_further);
 }
   where
   goes_to_live : GoesOn root front
-  goes_to_live = let more = live between lawful in (more.0, more.1, reads more.0 ∙ more.2)
+  goes_to_live = let more = live between lawful in (more.0, more.1, accepted_document root (front ++ more.0) more.1 (reads more.0 ∙ more.2))
   goes_no_further : GoesOn root (take (suc (length front)) (front ++ b ∷ rest)) → ⊥
   goes_no_further on =
     let taken : take (suc (length front)) (front ++ b ∷ rest) ≡ front ++ b ∷ [] =
@@ -169,7 +171,8 @@ place_at root front (b ∷ rest) between lawful reads blocks = record {
         (take_at (front ++ b ∷ []) rest (suc (length front)) (omega (arith, length_push front b))) in
     let still = subst (λ (bytes : List ℕ). GoesOn root bytes) taken on in
     let said : outcome (Start root) (front ++ b ∷ still.0) ≡ Says still.1 =
-      subst (λ (bytes : List ℕ). outcome (Start root) bytes ≡ Says still.1) (append_assoc front (b ∷ []) still.0) still.2 in
+      subst (λ (bytes : List ℕ). outcome (Start root) bytes ≡ Says still.1) (append_assoc front (b ∷ []) still.0)
+        (document_accepted root ((front ++ b ∷ []) ++ still.0) still.1 still.2) in
     not_said still.1 (length (b ∷ still.0)) (sym said ∙ reads (b ∷ still.0) ∙ stuck between b still.0 blocks)
 
 -- Bytes of which so many are left stop at the place before these.
@@ -184,3 +187,60 @@ place_of root bytes left stops =
       rw at (subst (λ (bytes : List ℕ). IsPlace root bytes (length parts.front)) (sym parts.whole)
         (place_at root parts.front parts.rest parts.between parts.lawful parts.reads parts.blocks)),
     )
+
+-- what a document says is what is read
+pub one_value : (root : Root) (bytes : List ℕ) (read value : Value) → outcome (Start root) bytes ≡ Says read → IsDocument root bytes value → read ≡ value
+one_value root bytes read value goes document = ap told (sym goes ∙ document_accepted root bytes value document)
+  where
+  told : Outcome → Value
+  told (Says value) = value
+  told (Fails left) = read
+
+pub no_value : (root : Root) (bytes : List ℕ) (left : ℕ) (value : Value) → outcome (Start root) bytes ≡ Fails left → IsDocument root bytes value → ⊥
+no_value root bytes left value stops document = not_said value left (sym (document_accepted root bytes value document) ∙ stops)
+
+front_goes_on : (root : Root) (front back : List ℕ) → GoesOn root (front ++ back) → GoesOn root front
+front_goes_on root front back on =
+    (back ++ on.0, on.1, subst (λ (bytes : List ℕ). IsDocument root bytes on.1) (append_assoc front back on.0) on.2)
+
+earlier : (root : Root) (bytes : List ℕ) (m n : ℕ) → m ≤ n → GoesOn root (take n bytes) → GoesOn root (take m bytes)
+earlier root bytes m n le on =
+    let split : take n bytes ≡ take m bytes ++ drop m (take n bytes) =
+      sym (take-append-drop m (take n bytes)) ∙ ap (λ (front : List ℕ). front ++ drop m (take n bytes)) (take-take m n bytes le) in
+    front_goes_on root (take m bytes) (drop m (take n bytes)) (subst (λ (bytes : List ℕ). GoesOn root bytes) split on)
+
+place_within : (root : Root) (bytes : List ℕ) (place : ℕ) → IsPlace root bytes place → place ≤ length bytes
+place_within root bytes place is = elim is.after [ inl inner ↦ omega (arith, inner.0) | inr end ↦ omega (arith, end.0) ]
+
+not_before : (root : Root) (bytes : List ℕ) (p q : ℕ) → IsPlace root bytes p → IsPlace root bytes q → p < q → ⊥
+not_before root bytes p q at_p at_q less = elim at_p.after [
+    inl inner ↦ inner.1 (earlier root bytes (suc p) q less at_q.before)
+  | inr end ↦ omega (arith, end.0, less, place_within root bytes q at_q)
+  ]
+
+split_less : (p q : ℕ) → (p ≡ q → ⊥) → (p < q) ⊎ (q < p)
+split_less p q other = by_test (ltb p q) refl
+  where
+  by_test : (t : Bool) → ltb p q ≡ t → (p < q) ⊎ (q < p)
+  by_test true less = inl (search (arith, less))
+  by_test false more = let le : q ≤ p = search (arith, more) in inr (omega (arith, le, other))
+
+order : (p q : ℕ) → (p ≡ q) ⊎ ((p < q) ⊎ (q < p))
+order p q = elim (eqb_tells p q) [ inl same ↦ inl same.1 | inr other ↦ inr (split_less p q other.1) ]
+
+-- There is one place, where the bytes are no document, and else none.
+pub one_place : (root : Root) (bytes : List ℕ) (left place : ℕ) → outcome (Start root) bytes ≡ Fails left → IsPlace root bytes place → length bytes - left ≡ place
+one_place root bytes left place stops is = by_order (length bytes - left) place (place_of root bytes left stops).1 is
+  where
+  by_order : (p q : ℕ) → IsPlace root bytes p → IsPlace root bytes q → p ≡ q
+  by_order p q at_p at_q =
+    let not_less = not_before root bytes p q at_p at_q in
+    let not_more = not_before root bytes q p at_q at_p in
+    elim (order p q) [ inl same ↦ same | inr other ↦ elim other [ inl less ↦ absurd (not_less less) | inr more ↦ absurd (not_more more) ] ]
+
+pub no_place : (root : Root) (bytes : List ℕ) (place : ℕ) (value : Value) → outcome (Start root) bytes ≡ Says value → IsPlace root bytes place → ⊥
+no_place root bytes place value goes is = elim is.after [
+    inl inner ↦ inner.1 (front_goes_on root (take (suc place) bytes) (drop (suc place) bytes)
+      ([], value, accepted_document root _ value (ap (outcome (Start root)) (append-nil (take (suc place) bytes ++ drop (suc place) bytes) ∙ take-append-drop (suc place) bytes) ∙ goes)))
+  | inr end ↦ end.1 value (accepted_document root bytes value goes)
+  ]

@@ -6,7 +6,7 @@ use Rattle.s3_docs.specs.declared.prologue.Root.{Root}
 use Rattle.s3_docs.specs.declared.prologue.Root.TheVariants.{CompleteMultipartUpload, VersioningConfiguration}
 use Rattle.s3_docs.specs.Bytes.{is_blank}
 use Rattle.s3_docs.specs.Machine.{Value, State, Expect, Start, Opened, Declaration, Mark, Before, Rooted, Spaced, Quote, Quoted, due, within, initial, behind_initial, root_name}
-use Rattle.s3_docs.specs.Documents.{Outcome, Says, Fails, outcome, goes_on}
+use Rattle.s3_docs.specs.Outcomes.{Outcome, Says, Fails, outcome, goes_on}
 use Rattle.s3_docs.specs.Reads.{NoBlank}
 use Rattle.s3_docs.specs.Grammar.{◌·◌, Every, IsGap, Attribute, Prologue, declaration_text, attribute_text, prologue_text, HasNoMark, is_quote, IsDeclaration, IsAttribute, IsPrologue}
 use Rattle.s3_docs.proofs.Live.{outcome-due}

@@ -8,7 +8,7 @@ use Rattle.call_types.specs.declared.names.Mode.{Mode}
 use Rattle.call_types.specs.declared.names.Mode.TheVariants.{Never, Enabled, Suspended}
 use Rattle.s3_docs.specs.Machine.{Value, Versioning, Holder, Configuration, State, Inside, Inner, Name, Awaiting, Ending, After, due, naming, closes}
 use Rattle.s3_docs.specs.Machine as machine
-use Rattle.s3_docs.specs.Documents.{Outcome, Says, Fails, outcome, goes_on}
+use Rattle.s3_docs.specs.Outcomes.{Outcome, Says, Fails, outcome, goes_on}
 use Rattle.s3_docs.specs.Reads.{NoNameByte}
 use Rattle.s3_docs.specs.Grammar.{◌·◌, IsGap, IsName, Passed, content_text, passed_text, IsPassed, Setting, Status, Else, mode_name, IsAsked, setting_text, IsSetting, settings_text, AreSettings, modes}
 use Rattle.s3_docs.proofs.Forward.{gap_read, passed_read}

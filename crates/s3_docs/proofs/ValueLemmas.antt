@@ -8,7 +8,7 @@ use Rattle.hex.specs.Hex.{is_hex_digit, decode_sized}
 use Rattle.hex.specs.declared.error.FromHexError.{FromHexError}
 use Rattle.hex.proofs.HexLemmas.{IsOk-decode_sized}
 use Rattle.s3_docs.specs.Machine.{Holder, Quotation, PartNumber, ETag, Bare, Awaiting, Digits, Hex, behind_hex}
-use Rattle.s3_docs.specs.Documents.{outcome}
+use Rattle.s3_docs.specs.Outcomes.{outcome}
 use Rattle.s3_docs.specs.Reads.{NoBlank}
 
 pub awaiting_number : (holder : Holder) (text : List ℕ) → NoBlank text → outcome (Awaiting holder PartNumber) text ≡ outcome (Digits holder 0 0) text

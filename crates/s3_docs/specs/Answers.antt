@@ -1,11 +1,12 @@
 -- What is answered.
-use Rattle.std.specs.Prelude.{◌≡◌, ℕ, List, [], ◌∷◌, ◌++◌, Option, Some, None}
+use Rattle.std.specs.Prelude.{◌≡◌, ℕ, List, [], ◌∷◌, ◌++◌, Option, Some, None, Result, Ok, Err}
 use Rattle.call_types.specs.declared.version.PartRef.{PartRef}
 use Rattle.s3_docs.specs.declared.complete.PartsFault.{PartsFault}
 use Rattle.s3_docs.specs.declared.complete.PartsFault.TheVariants.{Left, NoMemory}
 use Rattle.s3_docs.specs.Machine.{State, Start, Between, After, Parts}
 use Rattle.s3_docs.specs.declared.fault.DocFault.{DocFault}
-use Rattle.s3_docs.specs.declared.fault.DocFault.TheVariants.{MalformedXML} 
+use Rattle.s3_docs.specs.declared.fault.DocFault.TheVariants.{MalformedXML}
+use Rattle.s3_docs.specs.declared.fault.DocFault.TheVariants as faults
 use Rattle.s3_docs.specs.declared.prologue.Root.{Root}
 use Rattle.s3_docs.specs.declared.prologue.Root.TheVariants.{CompleteMultipartUpload}
 use Rattle.s3_docs.specs.Documents.{IsPlace}
@@ -30,3 +31,14 @@ StopsDocument bytes NoMemory = Unit {0}
 abbrev pub RefusesAt : Root → List ℕ → DocFault → Type 0
 RefusesAt root bytes (MalformedXML place) = IsPlace root bytes place
 RefusesAt root bytes other = ⊥
+
+-- These parts are answered, or that memory is missing.
+abbrev pub GivesParts : List PartRef → Result (List PartRef) DocFault → Type 0
+GivesParts parts (Ok read) = read ≡ parts
+GivesParts parts (Err fault) = fault ≡ faults.NoMemory
+
+-- MalformedXML at this place is answered, or that memory is missing.
+abbrev pub GivesPlace : ℕ → Result (List PartRef) DocFault → Type 0
+GivesPlace place (Ok read) = ⊥
+GivesPlace place (Err (MalformedXML found)) = found ≡ place
+GivesPlace place (Err other) = Unit {0}

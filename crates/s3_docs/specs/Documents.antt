@@ -1,29 +1,15 @@
 -- Which bytes are documents, and where others stop to be the beginning of one.
-use Rattle.std.specs.Prelude.{◌≡◌, ℕ, zero, suc, ◌+◌, ◌<◌, ◌⊎◌, List, [], ◌∷◌, ◌++◌, length, take, Option, Some, None}
+use Rattle.std.specs.Prelude.{◌≡◌, ℕ, suc, ◌<◌, ◌⊎◌, List, ◌++◌, length, take}
 use Rattle.s3_docs.specs.declared.prologue.Root.{Root}
-use Rattle.s3_docs.specs.Machine.{State, Start, Value, step, said}
+use Rattle.s3_docs.specs.declared.prologue.Root.TheVariants.{CompleteMultipartUpload, VersioningConfiguration}
+use Rattle.s3_docs.specs.Machine.{Value, Parts, Versioning}
+use Rattle.s3_docs.specs.Grammar.{CompleteTree, SaysComplete, complete_text, VersioningTree, SaysVersioning, versioning_text}
 
--- What comes of bytes: what they say, or how many of them are left from the first on at which it doesn't go on.
-pub data Outcome : Type 0 where
-  Says : Value → Outcome
-  Fails : ℕ → Outcome
-
-abbrev pub at_the_end : Option Value → Outcome
-at_the_end (Some value) = Says value
-at_the_end None = Fails 0
-
-abbrev pub goes_on : Option State → (State → Outcome) → ℕ → Outcome
-goes_on (Some next) outcome left = outcome next
-goes_on None outcome left = Fails left
-
--- what comes of these bytes from here on
-abbrev pub outcome : State → List ℕ → Outcome
-outcome state [] = at_the_end (said state)
-outcome state (b ∷ bytes) = goes_on (step state b) (λ next. outcome next bytes) (length (b ∷ bytes))
-
--- The bytes are a document of this root, and say this.
+-- The bytes are those of a tree of this root, and say this.
 abbrev pub IsDocument : Root → List ℕ → Value → Type 0
-IsDocument root bytes value = outcome (Start root) bytes ≡ Says value
+IsDocument CompleteMultipartUpload bytes (Parts parts) = (tree : CompleteTree) × SaysComplete tree parts × (bytes ≡ complete_text tree)
+IsDocument VersioningConfiguration bytes (Versioning mode) = (tree : VersioningTree) × SaysVersioning tree mode × (bytes ≡ versioning_text tree)
+IsDocument root bytes value = ⊥
 
 -- Some document begins so.
 abbrev pub GoesOn : Root → List ℕ → Type 0

@@ -266,9 +266,3 @@ pub record SaysVersioning (tree : VersioningTree) (mode : Mode) : Type 0 where
   pub says : modes tree.settings ≡ mode ∷ []
   pub last_gap : IsGap tree.last_gap
   pub after : IsGap tree.after
-
--- The bytes are those of a tree that says this.
-abbrev pub IsSpelled : Root → List ℕ → Value → Type 0
-IsSpelled CompleteMultipartUpload bytes (Parts parts) = (tree : CompleteTree) × SaysComplete tree parts × (bytes ≡ complete_text tree)
-IsSpelled VersioningConfiguration bytes (Versioning mode) = (tree : VersioningTree) × SaysVersioning tree mode × (bytes ≡ versioning_text tree)
-IsSpelled root bytes value = ⊥

@@ -1,5 +1,6 @@
 pub mod Bytes
 pub mod Machine
+pub mod Outcomes
 pub mod Documents
 pub mod Reads
 pub mod Answers

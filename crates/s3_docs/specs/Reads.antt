@@ -2,7 +2,7 @@
 use Rattle.std.specs.Prelude.{◌≡◌, ℕ, Bool, true, false, List, [], ◌∷◌, Option, Some, None, ◌==◌, if◌then◌else◌}
 use Rattle.s3_docs.specs.Bytes.{is_blank, is_letter, is_name_byte}
 use Rattle.s3_docs.specs.Machine.{State, is_gap, moves, said}
-use Rattle.s3_docs.specs.Documents.{Outcome, Fails, outcome}
+use Rattle.s3_docs.specs.Outcomes.{Outcome, Fails, outcome}
 
 -- The piece is read: what comes of the bytes from the one state on is what comes of the rest from the other on.
 abbrev pub Reads : State → List ℕ → State → List ℕ → Type 0

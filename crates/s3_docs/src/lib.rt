@@ -4,13 +4,16 @@
 //! The crate stands on `call_types` for parts and modes and on `hex` for the digits of an ETag.
 #![tactic(auto)]
 
-ghost use Rattle.std.specs.Prelude.{◌≡◌, ◌⊎◌, IfOk, IfErr, Ok, Err};
-ghost use Rattle.s3_docs.specs.declared.fault.DocFault.TheVariants.{NoMemory};
+ghost use Rattle.std.specs.Prelude.{◌≡◌, ◌⊎◌, ℕ, List, IfOk, IfErr, Ok, Err};
+ghost use Rattle.s3_docs.specs.declared.fault.DocFault.TheVariants.{MalformedXML, NoMemory};
+ghost use Rattle.call_types.specs.declared.names.Mode.{Mode};
+ghost use Rattle.call_types.specs.declared.version.PartRef.{PartRef};
 ghost use Rattle.s3_docs.specs.declared.prologue.Root.TheVariants.{CompleteMultipartUpload, VersioningConfiguration};
 ghost use Rattle.s3_docs.specs.Machine.{Start, Parts, Versioning, Value, After};
-ghost use Rattle.s3_docs.specs.Documents.{outcome, Says, IsDocument, IsPlace};
+ghost use Rattle.s3_docs.specs.Outcomes.{outcome, Says};
+ghost use Rattle.s3_docs.specs.Documents.{IsDocument, IsPlace};
 ghost use Rattle.s3_docs.specs.Reads.{Stops};
-ghost use Rattle.s3_docs.specs.Answers.{StopsDocument, RefusesAt};
+ghost use Rattle.s3_docs.specs.Answers.{StopsDocument, RefusesAt, GivesParts, GivesPlace};
 
 mod complete;
 mod elements;
@@ -45,7 +48,7 @@ fn end(text: &[u8]) -> Result<(), usize>
 
 /// The mode, or how many bytes are left where no document goes on.
 fn mode_of(bytes: &[u8]) -> Result<Mode, usize>
-    ensures reads { IfOk result (λ mode. IsDocument VersioningConfiguration bytes.now (Versioning mode)) }
+    ensures reads { IfOk result (λ mode. outcome (Start VersioningConfiguration) bytes.now ≡ Says (Versioning mode)) }
     ensures stops { IfErr result (λ left. Stops (Start VersioningConfiguration) bytes.now left) }
 {
     let content = start(bytes, Root::VersioningConfiguration)?;
@@ -56,7 +59,7 @@ fn mode_of(bytes: &[u8]) -> Result<Mode, usize>
 
 /// The parts, or how many bytes are left where no document goes on.
 fn parts_of(alloc: Global, bytes: &[u8]) -> Result<Vec<PartRef>, PartsFault>
-    ensures reads { IfOk result (λ parts. IsDocument CompleteMultipartUpload bytes.now (Parts parts.items)) }
+    ensures reads { IfOk result (λ parts. outcome (Start CompleteMultipartUpload) bytes.now ≡ Says (Parts parts.items)) }
     ensures stops { IfErr result (StopsDocument bytes.now) }
 {
     let content = start(bytes, Root::CompleteMultipartUpload)?;
@@ -65,10 +68,13 @@ fn parts_of(alloc: Global, bytes: &[u8]) -> Result<Vec<PartRef>, PartsFault>
     Ok(parts)
 }
 
-/// The mode that the body of a PutBucketVersioning asks for. The one refusal is MalformedXML.
+/// The mode that the body of a PutBucketVersioning asks for. The one refusal is MalformedXML, at the first byte at which
+/// no document goes on. It takes no memory.
 pub fn read_versioning(bytes: &[u8]) -> Result<Mode, DocFault>
     ensures reads { IfOk result (λ mode. IsDocument VersioningConfiguration bytes.now (Versioning mode)) }
+    ensures only { (mode : Mode) → IsDocument VersioningConfiguration bytes.now (Versioning mode) → result ≡ Ok mode }
     ensures refuses { IfErr result (λ fault. RefusesAt VersioningConfiguration bytes.now fault) }
+    ensures refused { (place : ℕ) → IsPlace VersioningConfiguration bytes.now place → result ≡ Err (MalformedXML place) }
 {
     match mode_of(bytes) {
         Ok(mode) => Ok(mode),
@@ -76,10 +82,13 @@ pub fn read_versioning(bytes: &[u8]) -> Result<Mode, DocFault>
     }
 }
 
-/// The parts that the body of a CompleteMultipartUpload lists, in its order.
+/// The parts that the body of a CompleteMultipartUpload lists, in its order. The refusals are MalformedXML, at the first
+/// byte at which no document goes on, and NoMemory.
 pub fn read_complete(alloc: Global, bytes: &[u8]) -> Result<PartRefs, DocFault>
     ensures reads { IfOk result (λ parts. IsDocument CompleteMultipartUpload bytes.now (Parts parts)) }
+    ensures only { (parts : List PartRef) → IsDocument CompleteMultipartUpload bytes.now (Parts parts) → GivesParts parts result }
     ensures refuses { IfErr result (λ fault. (fault ≡ NoMemory) ⊎ RefusesAt CompleteMultipartUpload bytes.now fault) }
+    ensures refused { (place : ℕ) → IsPlace CompleteMultipartUpload bytes.now place → GivesPlace place result }
 {
     match parts_of(alloc, bytes) {
         Ok(parts) => Ok(PartRefs::from_vec(parts)),

@@ -4,7 +4,7 @@
 ghost use Rattle.std.specs.Prelude.{◌≡◌, ◌+◌, ◌<◌, ◌≤◌, true, ◌∷◌, length, IfOk, IfErr};
 ghost use Rattle.s3_docs.specs.Machine.{State, is_gap, due};
 ghost use Rattle.s3_docs.specs.Bytes.{is_blank};
-ghost use Rattle.s3_docs.specs.Documents.{outcome};
+ghost use Rattle.s3_docs.specs.Outcomes.{outcome};
 ghost use Rattle.s3_docs.specs.Reads.{Reads, Stops, NoBlank, Opens};
 
 /// Whether a byte is white space: space, tab, CR or LF.

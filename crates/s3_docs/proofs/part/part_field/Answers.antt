@@ -3,7 +3,7 @@ use Rattle.std.proofs.lemmas.Result.{IfErr-weaker}
 use Rattle.std.proofs.lemmas.Slice.Eq.{bytes_eq-Decides}
 use Rattle.call_types.specs.declared.version.PartRef.{PartRef}
 use Rattle.s3_docs.specs.Machine.{Part, Inner, Name}
-use Rattle.s3_docs.specs.Documents.{outcome}
+use Rattle.s3_docs.specs.Outcomes.{outcome}
 use Rattle.s3_docs.specs.Reads.{Stops}
 use Rattle.s3_docs.proofs.part.part_field.Goals as goal
 
