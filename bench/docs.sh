@@ -16,6 +16,7 @@ cat >"$work/crates/docs_bench/src/main.rt" <<'END_OF_PROGRAM'
 ghost use Rattle.std.specs.Prelude.{◌≡◌, length};
 
 use s3_docs::read_complete;
+use std::fmt::Write;
 use std::process::ExitCode;
 use std::time::{CpuClock, Duration};
 

@@ -34,9 +34,9 @@ text_read holder name (b ∷ text) all rest =
     let other : eqb b 60 ≡ false = not_true (eqb b 60) all.0 in
     rw other (text_read holder name text all.1 rest)
   where
-  not_true : (t : Bool) → not t ≡ true → t ≡ false
-  not_true true e = sym e
-  not_true false e = refl
+    not_true : (t : Bool) → not t ≡ true → t ≡ false
+    not_true true e = sym e
+    not_true false e = refl
 
 -- a name that begins with a letter, from behind `<`
 pub inner_read : (holder : Holder) (name : List ℕ) → IsName name → (rest : List ℕ)
@@ -46,16 +46,16 @@ inner_read holder (b ∷ name) is rest =
     let no_end : eqb b 47 ≡ false = letter_no_slash b is.0 in
     rw (no_end, is.0) (name_read holder (b ∷ []) name is.1 rest)
   where
-  letter_no_slash : (b : ℕ) → is_letter b ≡ true → eqb b 47 ≡ false
-  letter_no_slash b letter = ne_eqb b 47 (λ e. true≢false (sym letter ∙ ap is_letter e))
+    letter_no_slash : (b : ℕ) → is_letter b ≡ true → eqb b 47 ≡ false
+    letter_no_slash b letter = ne_eqb b 47 (λ e. true≢false (sym letter ∙ ap is_letter e))
 
 pub passed_read : (holder : Holder) (passed : Passed) → IsPassed passed → naming holder passed.name ≡ Rattle.s3_docs.specs.Machine.Other → (rest : List ℕ)
     → outcome (Inside holder) (passed_text passed rest) ≡ outcome (Inside holder) rest
 passed_read holder passed is other rest =
     gap_read (Inside holder) refl passed.gap is.gap (60 ∷ (passed.name · content_text passed.name passed.text rest))
-      ∙ inner_read holder passed.name is.name (content_text passed.name passed.text rest)
-      ∙ content_read passed.text is.text
+    ∙ inner_read holder passed.name is.name (content_text passed.name passed.text rest)
+    ∙ content_read passed.text is.text
   where
-  content_read : (text : Option (List ℕ)) → HoldsNoTag text → outcome (Name holder passed.name) (content_text passed.name text rest) ≡ outcome (Inside holder) rest
-  content_read None none = rw other refl
-  content_read (Some text) none = rw other (text_read holder passed.name text none rest)
+    content_read : (text : Option (List ℕ)) → HoldsNoTag text → outcome (Name holder passed.name) (content_text passed.name text rest) ≡ outcome (Inside holder) rest
+    content_read None none = rw other refl
+    content_read (Some text) none = rw other (text_read holder passed.name text none rest)

@@ -29,19 +29,19 @@ complete_read : (tree : CompleteTree) (parts : List PartRef) → SaysComplete tr
 complete_read tree parts says =
     let last = tree.last_gap · codes "</CompleteMultipartUpload>" · tree.after in
     prologue_read CompleteMultipartUpload tree.prologue says.prologue (parts_text tree.parts last)
-      ∙ parts_read tree.parts parts [] says.says last
-      ∙ gap_read (Between parts) refl tree.last_gap says.last_gap (codes "</CompleteMultipartUpload>" · tree.after)
-      ∙ end_read parts says.some tree.after
-      ∙ after_read (Parts parts) tree.after says.after
+    ∙ parts_read tree.parts parts [] says.says last
+    ∙ gap_read (Between parts) refl tree.last_gap says.last_gap (codes "</CompleteMultipartUpload>" · tree.after)
+    ∙ end_read parts says.some tree.after
+    ∙ after_read (Parts parts) tree.after says.after
 
 versioning_read : (tree : VersioningTree) (mode : Mode) → SaysVersioning tree mode
     → outcome (Start VersioningConfiguration) (versioning_text tree) ≡ Says (Versioning mode)
 versioning_read tree mode says =
     let last = tree.last_gap · codes "</VersioningConfiguration>" · tree.after in
     prologue_read VersioningConfiguration tree.prologue says.prologue (settings_text tree.settings last)
-      ∙ settings_read tree.settings None mode says.settings says.says last
-      ∙ gap_read (Inside (Configuration (Some mode))) refl tree.last_gap says.last_gap (codes "</VersioningConfiguration>" · tree.after)
-      ∙ after_read (Versioning mode) tree.after says.after
+    ∙ settings_read tree.settings None mode says.settings says.says last
+    ∙ gap_read (Inside (Configuration (Some mode))) refl tree.last_gap says.last_gap (codes "</VersioningConfiguration>" · tree.after)
+    ∙ after_read (Versioning mode) tree.after says.after
 
 pub document_accepted : (root : Root) (bytes : List ℕ) (value : Value) → IsDocument root bytes value → outcome (Start root) bytes ≡ Says value
 document_accepted CompleteMultipartUpload bytes (Parts parts) is = rw is.2 (complete_read is.0 parts is.1)
@@ -55,16 +55,16 @@ accepted_document CompleteMultipartUpload bytes value goes =
     let parts = parts_back (suc (length start.rest)) [] value start.rest (omega arith) start.goes in
     subst (λ (value : Value). IsDocument CompleteMultipartUpload bytes value) parts.value_is (spelled start parts)
   where
-  spelled : (start : PrologueBack CompleteMultipartUpload bytes value) (parts : PartsBack [] start.rest value) → IsDocument CompleteMultipartUpload bytes (Parts parts.parts)
-  spelled start parts =
-    let tree : CompleteTree = record { prologue = start.prologue; parts = parts.trees; last_gap = parts.last_gap; after = parts.after; } in
-    (tree, record { prologue = start.is; says = parts.say; some = parts.some; last_gap = parts.gap_is; after = parts.after_is; }, start.whole ∙ ap (prologue_text CompleteMultipartUpload start.prologue) parts.whole)
+    spelled : (start : PrologueBack CompleteMultipartUpload bytes value) (parts : PartsBack [] start.rest value) → IsDocument CompleteMultipartUpload bytes (Parts parts.parts)
+    spelled start parts =
+        let tree : CompleteTree = record { prologue = start.prologue; parts = parts.trees; last_gap = parts.last_gap; after = parts.after } in
+        (tree, record { prologue = start.is; says = parts.say; some = parts.some; last_gap = parts.gap_is; after = parts.after_is }, start.whole ∙ ap (prologue_text CompleteMultipartUpload start.prologue) parts.whole)
 accepted_document VersioningConfiguration bytes value goes =
     let start = prologue_back VersioningConfiguration value bytes goes in
     let settings = settings_back (suc (length start.rest)) None value start.rest (omega arith) start.goes in
     subst (λ (value : Value). IsDocument VersioningConfiguration bytes value) settings.value_is (spelled start settings)
   where
-  spelled : (start : PrologueBack VersioningConfiguration bytes value) (settings : SettingsBack None start.rest value) → IsDocument VersioningConfiguration bytes (Versioning settings.mode)
-  spelled start settings =
-    let tree : VersioningTree = record { prologue = start.prologue; settings = settings.settings; last_gap = settings.last_gap; after = settings.after; } in
-    (tree, record { prologue = start.is; settings = settings.are; says = settings.one; last_gap = settings.gap_is; after = settings.after_is; }, start.whole ∙ ap (prologue_text VersioningConfiguration start.prologue) settings.whole)
+    spelled : (start : PrologueBack VersioningConfiguration bytes value) (settings : SettingsBack None start.rest value) → IsDocument VersioningConfiguration bytes (Versioning settings.mode)
+    spelled start settings =
+        let tree : VersioningTree = record { prologue = start.prologue; settings = settings.settings; last_gap = settings.last_gap; after = settings.after } in
+        (tree, record { prologue = start.is; settings = settings.are; says = settings.one; last_gap = settings.gap_is; after = settings.after_is }, start.whole ∙ ap (prologue_text VersioningConfiguration start.prologue) settings.whole)

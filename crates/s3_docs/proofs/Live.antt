@@ -59,10 +59,10 @@ part_live : (parts : List PartRef) (number : Option ℕ) (md5 : Option (List ℕ
 part_live parts number (Some md5) = tagged_live parts number md5
 part_live parts None None =
     leads _ (Inside (Part parts None (Some (md5_of zeros)))) (codes "<ETag>00000000000000000000000000000000</ETag>") (λ more. refl)
-      (tagged_live parts None (md5_of zeros))
+    (tagged_live parts None (md5_of zeros))
 part_live parts (Some number) None =
     leads _ (Inside (Part parts (Some number) (Some (md5_of zeros)))) (codes "<ETag>00000000000000000000000000000000</ETag>") (λ more. refl)
-      (tagged_live parts (Some number) (md5_of zeros))
+    (tagged_live parts (Some number) (md5_of zeros))
 
 moded_live : (mode : Mode) → IsLive (Inside (Configuration (Some mode)))
 moded_live mode =
@@ -87,7 +87,7 @@ inner_live (Configuration mode) = leads _ (Inside (Configuration mode)) (codes "
 not_field : (name front : List ℕ) (last : ℕ) → (last ≡ 120 → ⊥) → bytes_eq (name ++ 120 ∷ []) (front ++ last ∷ []) ≡ false
 not_field name front last other =
     false_from_ne_true (bytes_eq (name ++ 120 ∷ []) (front ++ last ∷ [])) (λ same.
-      other (sym (same_from_push name front 120 last ((bytes_eq-Decides (name ++ 120 ∷ []) (front ++ last ∷ [])).0 same)).1))
+    other (sym (same_from_push name front 120 last ((bytes_eq-Decides (name ++ 120 ∷ []) (front ++ last ∷ [])).0 same)).1))
 
 other_name : (holder : Holder) (name : List ℕ) → naming holder (name ++ 120 ∷ []) ≡ Other
 other_name (Part parts number md5) name =
@@ -101,8 +101,8 @@ name_live holder name =
 text_live : (holder : Holder) (name : List ℕ) → IsLive (Text holder name)
 text_live holder name =
     leads _ (end_tag name (Inside holder)) (codes "<") (λ more. refl)
-      (leads _ (due name (Expect 62 [] (Inside holder))) (codes "/") (λ more. refl)
-        (due_live name (Expect 62 [] (Inside holder)) (leads _ (Inside holder) (codes ">") (λ more. refl) (inside_live holder))))
+    (leads _ (due name (Expect 62 [] (Inside holder))) (codes "/") (λ more. refl)
+    (due_live name (Expect 62 [] (Inside holder)) (leads _ (Inside holder) (codes ">") (λ more. refl) (inside_live holder))))
 
 ending_live : (holder : Holder) (field : Field) → IsLive (Ending holder field)
 ending_live holder PartNumber = leads _ (Inside holder) (codes "</PartNumber>") (λ more. refl) (inside_live holder)
@@ -126,7 +126,7 @@ digits_live holder count zero lawful =
     let few : count < 5 = grind arith in
     let within : leb (count + 1) 5 ≡ true = search (arith, few) in
     leads _ (Digits holder (count + 1) 1) (codes "1") (λ more. rw (within, or_true (ltb (count + 1) 5)) refl)
-      (leads _ (Ending (with_number holder 1) PartNumber) (codes " ") (λ more. refl) (ending_live (with_number holder 1) PartNumber))
+    (leads _ (Ending (with_number holder 1) PartNumber) (codes " ") (λ more. refl) (ending_live (with_number holder 1) PartNumber))
 
 quoted_live : (holder : Holder) (quotation : Quotation) → IsLive (due (quote_text quotation) (Ending holder ETag))
 quoted_live holder quotation = due_live (quote_text quotation) (Ending holder ETag) (ending_live holder ETag)
@@ -138,7 +138,7 @@ hex_live zero holder quotation digits whole =
 hex_live (suc missing) holder quotation digits whole =
     let short : eqb (length digits) 32 ≡ false = ne_eqb (length digits) 32 (λ e. omega (arith, e, whole)) in
     let live : IsLive (behind_hex holder quotation (digits ++ 48 ∷ [])) =
-      hex_live missing holder quotation (digits ++ 48 ∷ []) (omega (arith, whole, length_push digits 48)) in
+    hex_live missing holder quotation (digits ++ 48 ∷ []) (omega (arith, whole, length_push digits 48)) in
     rw short (leads (Hex holder quotation digits) (behind_hex holder quotation (digits ++ 48 ∷ [])) (codes "0") (λ more. refl) live)
 
 rooted_live : (root : Root) → IsLive (Rooted root)

@@ -42,21 +42,21 @@ named_kept Other holder name b = search either
 
 digit_kept : (holder : Holder) (count value : ℕ) → Keeps (one_digit_more holder count value)
 digit_kept holder count value = elim (leb count 5 && leb value 10000) as (λ few. Keeps (cond (few && (ltb count 5 || ltb 0 value)) (Some (Digits holder count value)) None)) [
-    false ↦ tt
+  | false ↦ tt
   | true ↦ on_digits (ltb count 5) (ltb 0 value) (λ e. inr (search (arith, e))) (λ e. inl (search (arith, e)))
-  ]
+]
   where
-  on_digits : (few some : Bool) → (few ≡ true → (0 < value) ⊎ (count < 5)) → (some ≡ true → (0 < value) ⊎ (count < 5))
-    → Keeps (cond (few || some) (Some (Digits holder count value)) None)
-  on_digits true some h k = h refl
-  on_digits false true h k = k refl
-  on_digits false false h k = tt
+    on_digits : (few some : Bool) → (few ≡ true → (0 < value) ⊎ (count < 5)) → (some ≡ true → (0 < value) ⊎ (count < 5))
+        → Keeps (cond (few || some) (Some (Digits holder count value)) None)
+    on_digits true some h k = h refl
+    on_digits false true h k = k refl
+    on_digits false false h k = tt
 
 hex_kept : (holder : Holder) (quotation : Quotation) (digits : List ℕ) → length digits ≤ 32 → IsLawful (behind_hex holder quotation digits)
 hex_kept holder quotation digits few = elim (eqb_tells (length digits) 32) [
-    inl full ↦ rw full.0 (due_kept (quote_text quotation) (Ending (with_md5 holder (md5_of digits)) ETag) tt)
+  | inl full ↦ rw full.0 (due_kept (quote_text quotation) (Ending (with_md5 holder (md5_of digits)) ETag) tt)
   | inr short ↦ rw short.0 (omega (arith, short.1, few))
-  ]
+]
 
 moves_kept : (state : State) (b : ℕ) → IsLawful state → Keeps (moves state b)
 moves_kept (Expect now_due then_due next) b lawful = search (either, due_kept, lawful)
@@ -77,10 +77,10 @@ moves_kept (Name holder name) b lawful = search (either, named_kept)
 moves_kept (Text holder name) b lawful = search (either, due_kept)
 moves_kept (Awaiting holder field) b lawful = begins_kept field holder b
   where
-  begins_kept : (field : Field) (holder : Holder) (b : ℕ) → Keeps (begins field holder b)
-  begins_kept PartNumber holder b = search (either, digit_kept)
-  begins_kept ETag holder b = search (either, arith)
-  begins_kept Status holder b = search either
+    begins_kept : (field : Field) (holder : Holder) (b : ℕ) → Keeps (begins field holder b)
+    begins_kept PartNumber holder b = search (either, digit_kept)
+    begins_kept ETag holder b = search (either, arith)
+    begins_kept Status holder b = search either
 moves_kept (Ending holder field) b lawful = search (either, due_kept)
 moves_kept (Digits holder count value) b lawful = search (either, digit_kept)
 moves_kept (Reference holder) b lawful = search (either, arith)
@@ -94,7 +94,6 @@ step_kept : (state : State) (b : ℕ) → IsLawful state → Keeps (step state b
 step_kept state b lawful =
     let kept = moves_kept state b lawful in
     search (either, kept, lawful)
-
 
 -- nothing goes on from here with these bytes
 abbrev Blocks : State → List ℕ → Type 0
@@ -115,9 +114,9 @@ record Split (state : State) (bytes : List ℕ) (left : ℕ) : Type 0 where
 fails_same : (m n : ℕ) → Fails m ≡ Fails n → m ≡ n
 fails_same m n e = ap left_of e
   where
-  left_of : Outcome → ℕ
-  left_of (Says value) = 0
-  left_of (Fails left) = left
+    left_of : Outcome → ℕ
+    left_of (Says value) = 0
+    left_of (Fails left) = left
 
 not_said : (value : Value) (n : ℕ) → Says value ≡ Fails n → ⊥
 not_said value n e = grind arith
@@ -125,25 +124,44 @@ not_said value n e = grind arith
 end_split : (state : State) (left : ℕ) → IsLawful state → (told : Option Value) → said state ≡ told → at_the_end told ≡ Fails left → Split state [] left
 end_split state left lawful (Some value) is stops = absurd (not_said value left stops)
 end_split state left lawful None is stops = record {
-  front = []; rest = []; between = state; whole = refl; size = fails_same 0 left stops; lawful = lawful; reads = λ more. refl; blocks = is;
+  front = [];
+  rest = [];
+  between = state;
+  whole = refl;
+  size = fails_same 0 left stops;
+  lawful = lawful;
+  reads = λ more. refl;
+  blocks = is;
 }
 
 split : (bytes : List ℕ) (state : State) (left : ℕ) → IsLawful state → outcome state bytes ≡ Fails left → Split state bytes left
 split [] state left lawful stops = end_split state left lawful (said state) refl stops
 split (b ∷ bytes) state left lawful stops = at_step (λ next kept stops. split bytes next left kept stops) (step state b) refl (step_kept state b lawful) stops
   where
-  at_step : ((next : State) → IsLawful next → outcome next bytes ≡ Fails left → Split next bytes left)
-    → (next : Option State) → step state b ≡ next → Keeps next → goes_on next (λ next. outcome next bytes) (length (b ∷ bytes)) ≡ Fails left → Split state (b ∷ bytes) left
-  at_step later None is kept stops = record {
-    front = []; rest = b ∷ bytes; between = state; whole = refl; size = fails_same (length (b ∷ bytes)) left stops;
-    lawful = lawful; reads = λ more. refl; blocks = is;
-  }
-  at_step induction (Some next) is kept stops =
-    let later : Split next bytes left = induction next kept stops in
-    record {
-      front = b ∷ later.front; rest = later.rest; between = later.between; whole = ap (b ∷◌) later.whole; size = later.size;
-      lawful = later.lawful; reads = λ more. rw is (later.reads more); blocks = later.blocks;
+    at_step : ((next : State) → IsLawful next → outcome next bytes ≡ Fails left → Split next bytes left)
+        → (next : Option State) → step state b ≡ next → Keeps next → goes_on next (λ next. outcome next bytes) (length (b ∷ bytes)) ≡ Fails left → Split state (b ∷ bytes) left
+    at_step later None is kept stops = record {
+      front = [];
+      rest = b ∷ bytes;
+      between = state;
+      whole = refl;
+      size = fails_same (length (b ∷ bytes)) left stops;
+      lawful = lawful;
+      reads = λ more. refl;
+      blocks = is;
     }
+    at_step induction (Some next) is kept stops =
+        let later : Split next bytes left = induction next kept stops in
+        record {
+          front = b ∷ later.front;
+          rest = later.rest;
+          between = later.between;
+          whole = ap (b ∷◌) later.whole;
+          size = later.size;
+          lawful = later.lawful;
+          reads = λ more. rw is (later.reads more);
+          blocks = later.blocks;
+        }
 
 stuck : (state : State) (b : ℕ) (more : List ℕ) → step state b ≡ None → outcome state (b ∷ more) ≡ Fails (length (b ∷ more))
 stuck state b more is = rw is refl
@@ -155,25 +173,26 @@ place_at root front [] between lawful reads blocks = record {
   after = inr (sym (ap length (append-nil front)), λ value document. not_said value 0 (sym (document_accepted root (front ++ []) value document) ∙ reads [] ∙ ap at_the_end blocks));
 }
   where
-  goes_to_live : GoesOn root front
-  goes_to_live = let more = live between lawful in (more.0, more.1, accepted_document root (front ++ more.0) more.1 (reads more.0 ∙ more.2))
+    goes_to_live : GoesOn root front
+    goes_to_live = let more = live between lawful in (more.0, more.1, accepted_document root (front ++ more.0) more.1 (reads more.0 ∙ more.2))
 place_at root front (b ∷ rest) between lawful reads blocks = record {
   before = rw (take_at front (b ∷ rest) (length front) refl) (goes_to_live);
   after = inl (omega (arith, length-append front (b ∷ rest)), goes_no_further);
 }
   where
-  goes_to_live : GoesOn root front
-  goes_to_live = let more = live between lawful in (more.0, more.1, accepted_document root (front ++ more.0) more.1 (reads more.0 ∙ more.2))
-  goes_no_further : GoesOn root (take (suc (length front)) (front ++ b ∷ rest)) → ⊥
-  goes_no_further on =
-    let taken : take (suc (length front)) (front ++ b ∷ rest) ≡ front ++ b ∷ [] =
-      subst (λ (bytes : List ℕ). take (suc (length front)) bytes ≡ front ++ b ∷ []) (append_assoc front (b ∷ []) rest)
+    goes_to_live : GoesOn root front
+    goes_to_live = let more = live between lawful in (more.0, more.1, accepted_document root (front ++ more.0) more.1 (reads more.0 ∙ more.2))
+
+    goes_no_further : GoesOn root (take (suc (length front)) (front ++ b ∷ rest)) → ⊥
+    goes_no_further on =
+        let taken : take (suc (length front)) (front ++ b ∷ rest) ≡ front ++ b ∷ [] =
+        subst (λ (bytes : List ℕ). take (suc (length front)) bytes ≡ front ++ b ∷ []) (append_assoc front (b ∷ []) rest)
         (take_at (front ++ b ∷ []) rest (suc (length front)) (omega (arith, length_push front b))) in
-    let still = subst (λ (bytes : List ℕ). GoesOn root bytes) taken on in
-    let said : outcome (Start root) (front ++ b ∷ still.0) ≡ Says still.1 =
-      subst (λ (bytes : List ℕ). outcome (Start root) bytes ≡ Says still.1) (append_assoc front (b ∷ []) still.0)
+        let still = subst (λ (bytes : List ℕ). GoesOn root bytes) taken on in
+        let said : outcome (Start root) (front ++ b ∷ still.0) ≡ Says still.1 =
+        subst (λ (bytes : List ℕ). outcome (Start root) bytes ≡ Says still.1) (append_assoc front (b ∷ []) still.0)
         (document_accepted root ((front ++ b ∷ []) ++ still.0) still.1 still.2) in
-    not_said still.1 (length (b ∷ still.0)) (sym said ∙ reads (b ∷ still.0) ∙ stuck between b still.0 blocks)
+        not_said still.1 (length (b ∷ still.0)) (sym said ∙ reads (b ∷ still.0) ∙ stuck between b still.0 blocks)
 
 -- Bytes of which so many are left stop at the place before these.
 pub place_of : (root : Root) (bytes : List ℕ) (left : ℕ) → outcome (Start root) bytes ≡ Fails left
@@ -181,20 +200,19 @@ pub place_of : (root : Root) (bytes : List ℕ) (left : ℕ) → outcome (Start 
 place_of root bytes left stops =
     let parts = split bytes (Start root) left tt stops in
     let total : length bytes ≡ length parts.front + left = ap length parts.whole ∙ length-append parts.front parts.rest ∙ ap (length parts.front +◌) parts.size in
-    let at : length bytes - left ≡ length parts.front = omega (arith, total) in
-    (
+    let at : length bytes - left ≡ length parts.front = omega (arith, total) in (
       omega (arith, total),
       rw at (subst (λ (bytes : List ℕ). IsPlace root bytes (length parts.front)) (sym parts.whole)
-        (place_at root parts.front parts.rest parts.between parts.lawful parts.reads parts.blocks)),
+          (place_at root parts.front parts.rest parts.between parts.lawful parts.reads parts.blocks)),
     )
 
 -- what a document says is what is read
 pub one_value : (root : Root) (bytes : List ℕ) (read value : Value) → outcome (Start root) bytes ≡ Says read → IsDocument root bytes value → read ≡ value
 one_value root bytes read value goes document = ap told (sym goes ∙ document_accepted root bytes value document)
   where
-  told : Outcome → Value
-  told (Says value) = value
-  told (Fails left) = read
+    told : Outcome → Value
+    told (Says value) = value
+    told (Fails left) = read
 
 pub no_value : (root : Root) (bytes : List ℕ) (left : ℕ) (value : Value) → outcome (Start root) bytes ≡ Fails left → IsDocument root bytes value → ⊥
 no_value root bytes left value stops document = not_said value left (sym (document_accepted root bytes value document) ∙ stops)
@@ -206,7 +224,7 @@ front_goes_on root front back on =
 earlier : (root : Root) (bytes : List ℕ) (m n : ℕ) → m ≤ n → GoesOn root (take n bytes) → GoesOn root (take m bytes)
 earlier root bytes m n le on =
     let split : take n bytes ≡ take m bytes ++ drop m (take n bytes) =
-      sym (take-append-drop m (take n bytes)) ∙ ap (λ (front : List ℕ). front ++ drop m (take n bytes)) (take-take m n bytes le) in
+    sym (take-append-drop m (take n bytes)) ∙ ap (λ (front : List ℕ). front ++ drop m (take n bytes)) (take-take m n bytes le) in
     front_goes_on root (take m bytes) (drop m (take n bytes)) (subst (λ (bytes : List ℕ). GoesOn root bytes) split on)
 
 place_within : (root : Root) (bytes : List ℕ) (place : ℕ) → IsPlace root bytes place → place ≤ length bytes
@@ -214,16 +232,16 @@ place_within root bytes place is = elim is.after [ inl inner ↦ omega (arith, i
 
 not_before : (root : Root) (bytes : List ℕ) (p q : ℕ) → IsPlace root bytes p → IsPlace root bytes q → p < q → ⊥
 not_before root bytes p q at_p at_q less = elim at_p.after [
-    inl inner ↦ inner.1 (earlier root bytes (suc p) q less at_q.before)
+  | inl inner ↦ inner.1 (earlier root bytes (suc p) q less at_q.before)
   | inr end ↦ omega (arith, end.0, less, place_within root bytes q at_q)
-  ]
+]
 
 split_less : (p q : ℕ) → (p ≡ q → ⊥) → (p < q) ⊎ (q < p)
 split_less p q other = by_test (ltb p q) refl
   where
-  by_test : (t : Bool) → ltb p q ≡ t → (p < q) ⊎ (q < p)
-  by_test true less = inl (search (arith, less))
-  by_test false more = let le : q ≤ p = search (arith, more) in inr (omega (arith, le, other))
+    by_test : (t : Bool) → ltb p q ≡ t → (p < q) ⊎ (q < p)
+    by_test true less = inl (search (arith, less))
+    by_test false more = let le : q ≤ p = search (arith, more) in inr (omega (arith, le, other))
 
 order : (p q : ℕ) → (p ≡ q) ⊎ ((p < q) ⊎ (q < p))
 order p q = elim (eqb_tells p q) [ inl same ↦ inl same.1 | inr other ↦ inr (split_less p q other.1) ]
@@ -232,15 +250,15 @@ order p q = elim (eqb_tells p q) [ inl same ↦ inl same.1 | inr other ↦ inr (
 pub one_place : (root : Root) (bytes : List ℕ) (left place : ℕ) → outcome (Start root) bytes ≡ Fails left → IsPlace root bytes place → length bytes - left ≡ place
 one_place root bytes left place stops is = by_order (length bytes - left) place (place_of root bytes left stops).1 is
   where
-  by_order : (p q : ℕ) → IsPlace root bytes p → IsPlace root bytes q → p ≡ q
-  by_order p q at_p at_q =
-    let not_less = not_before root bytes p q at_p at_q in
-    let not_more = not_before root bytes q p at_q at_p in
-    elim (order p q) [ inl same ↦ same | inr other ↦ elim other [ inl less ↦ absurd (not_less less) | inr more ↦ absurd (not_more more) ] ]
+    by_order : (p q : ℕ) → IsPlace root bytes p → IsPlace root bytes q → p ≡ q
+    by_order p q at_p at_q =
+        let not_less = not_before root bytes p q at_p at_q in
+        let not_more = not_before root bytes q p at_q at_p in
+        elim (order p q) [ inl same ↦ same | inr other ↦ elim other [ inl less ↦ absurd (not_less less) | inr more ↦ absurd (not_more more) ] ]
 
 pub no_place : (root : Root) (bytes : List ℕ) (place : ℕ) (value : Value) → outcome (Start root) bytes ≡ Says value → IsPlace root bytes place → ⊥
 no_place root bytes place value goes is = elim is.after [
-    inl inner ↦ inner.1 (front_goes_on root (take (suc place) bytes) (drop (suc place) bytes)
+  | inl inner ↦ inner.1 (front_goes_on root (take (suc place) bytes) (drop (suc place) bytes)
       ([], value, accepted_document root _ value (ap (outcome (Start root)) (append-nil (take (suc place) bytes ++ drop (suc place) bytes) ∙ take-append-drop (suc place) bytes) ∙ goes)))
   | inr end ↦ end.1 value (accepted_document root bytes value goes)
-  ]
+]

@@ -32,13 +32,13 @@ pub hex_decodes : (text : List ℕ) → 32 ≤ length text → ((k : ℕ) → k 
 hex_decodes text long digits fault wrong =
     let size : length (take 32 text) ≡ 2 * 16 = rw length-take (omega arith) in
     let pass : AllPass is_hex_digit (take 32 text) = λ k d below.
-      let small : k < 32 = omega (arith, size) in
-      rw (get_or-take 32 text k d small, get_or_default text k d 0 (omega arith)) (digits k small) in
+    let small : k < 32 = omega (arith, size) in
+    rw (get_or-take 32 text k d small, get_or_default text k d 0 (omega arith)) (digits k small) in
     let ok = (IsOk-decode_sized (take 32 text) 16).1 (size, pass) in
     ok_not_err (decode_sized (take 32 text) 16) fault ok wrong
   where
-  ok_not_err : (r : Result (List ℕ) FromHexError) (e : FromHexError) → IsOk r → r ≡ Err e → ⊥
-  ok_not_err r e ok wrong = grind arith
+    ok_not_err : (r : Result (List ℕ) FromHexError) (e : FromHexError) → IsOk r → r ≡ Err e → ⊥
+    ok_not_err r e ok wrong = grind arith
 
 -- an ETag without quotes
 pub awaiting_hex : (holder : Holder) (text : List ℕ) → NoBlank text → 1 ≤ length text → is_hex_digit (get_or text 0 0) ≡ true

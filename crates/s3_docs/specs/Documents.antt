@@ -19,4 +19,4 @@ GoesOn root bytes = (more : List ℕ) × (value : Value) × IsDocument root (byt
 pub record IsPlace (root : Root) (bytes : List ℕ) (place : ℕ) : Type 0 where
   pub before : GoesOn root (take place bytes)
   pub after : (place < length bytes) × (GoesOn root (take (suc place) bytes) → ⊥)
-    ⊎ (place ≡ length bytes) × ((value : Value) → IsDocument root bytes value → ⊥)
+      ⊎ (place ≡ length bytes) × ((value : Value) → IsDocument root bytes value → ⊥)

@@ -222,7 +222,7 @@ abbrev pub IsAttribute : Option Attribute → Type 0
 IsAttribute None = Unit {0}
 IsAttribute (Some attribute) =
     (is_blank attribute.first ≡ true) × IsGap attribute.gap × (is_quote attribute.quote ≡ true)
-      × Every (λ b. not (b == attribute.quote)) attribute.value
+    × Every (λ b. not (b == attribute.quote)) attribute.value
 
 pub record IsPrologue (prologue : Prologue) : Type 0 where
   pub declaration : IsDeclaration prologue.declaration

@@ -185,7 +185,7 @@ ends field holder b = if b == 60 then Some (end_tag (field_name field) (Inside h
 abbrev pub behind_number : Holder → ℕ → ℕ → Option State
 behind_number holder value b =
     if nat_lt 0 value then
-      (if is_blank b then Some (Ending (with_number holder value) PartNumber) else ends PartNumber (with_number holder value) b)
+    (if is_blank b then Some (Ending (with_number holder value) PartNumber) else ends PartNumber (with_number holder value) b)
     else None
 
 -- behind these hex digits: 32 are the whole

@@ -1,7 +1,11 @@
-//! The two documents of the S3 API that the store reads, as the bodies of CompleteMultipartUpload and
-//! PutBucketVersioning.
+//! The two documents of the S3 API that the store reads: the bodies of CompleteMultipartUpload and PutBucketVersioning.
 //!
-//! The crate stands on `call_types` for parts and modes and on `hex` for the digits of an ETag.
+//! The crate stands on `call_types` for parts and modes and on `hex` for the digits of an ETag. Its grammar is one of
+//! trees with their bytes, after the S3 API reference: an optional declaration and the root, whose start tag may name a
+//! name space; white space beside the tags; elements of other names are passed over where they hold text alone.
+//! It promises that both readers answer what a document says exactly where the bytes are one, and else MalformedXML with
+//! the first byte at which no document goes on, or the length where a document ends early. Each byte is read once, but
+//! for the names and the digits of ETags, which are read twice. Only `read_complete` takes memory, for its parts.
 #![tactic(auto)]
 
 ghost use Rattle.std.specs.Prelude.{◌≡◌, ◌⊎◌, ℕ, List, IfOk, IfErr, Ok, Err};
@@ -26,12 +30,11 @@ mod versioning;
 
 use call_types::{Mode, PartRef, PartRefs};
 use complete::{PartsFault, parts};
+pub use fault::DocFault;
 use pieces::skip_blanks;
 use prologue::{Root, start};
 use std::alloc::Global;
 use versioning::configuration;
-
-pub use fault::DocFault;
 
 /// Checks that nothing but white space is left.
 fn end(text: &[u8]) -> Result<(), usize>

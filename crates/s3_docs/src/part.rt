@@ -25,7 +25,7 @@ fn number_field(text: &[u8], fields: Fields) -> Result<Found<'_, Fields>, usize>
     ensures shorter { IfOk result (λ found. length found.rest.now ≤ length text.now) }
     ensures reads { IfOk result (λ found. (parts : List PartRef)
         → Reads (Name (Part parts fields.number fields.md5) (codes "PartNumber")) text.now
-            (Inside (Part parts found.value.number found.value.md5)) found.rest.now) }
+        (Inside (Part parts found.value.number found.value.md5)) found.rest.now) }
     ensures stops { IfErr result (λ left. (parts : List PartRef)
         → Stops (Name (Part parts fields.number fields.md5) (codes "PartNumber")) text.now left) }
 {
@@ -48,7 +48,7 @@ fn etag_field(text: &[u8], fields: Fields) -> Result<Found<'_, Fields>, usize>
     ensures shorter { IfOk result (λ found. length found.rest.now ≤ length text.now) }
     ensures reads { IfOk result (λ found. (parts : List PartRef)
         → Reads (Name (Part parts fields.number fields.md5) (codes "ETag")) text.now
-            (Inside (Part parts found.value.number found.value.md5)) found.rest.now) }
+        (Inside (Part parts found.value.number found.value.md5)) found.rest.now) }
     ensures stops { IfErr result (λ left. (parts : List PartRef)
         → Stops (Name (Part parts fields.number fields.md5) (codes "ETag")) text.now left) }
 {
@@ -71,7 +71,7 @@ fn part_field(text: &[u8], fields: Fields) -> Result<Found<'_, Fields>, usize>
     ensures shorter { IfOk result (λ found. length found.rest.now < length text.now) }
     ensures reads { IfOk result (λ found. (parts : List PartRef)
         → Reads (Inner (Part parts fields.number fields.md5)) text.now
-            (Inside (Part parts found.value.number found.value.md5)) found.rest.now) }
+        (Inside (Part parts found.value.number found.value.md5)) found.rest.now) }
     ensures stops { IfErr result (λ left. (parts : List PartRef)
         → Stops (Inner (Part parts fields.number fields.md5)) text.now left) }
 {

@@ -2,27 +2,84 @@ use super::*;
 
 /// The white space, the declaration and the attribute that a document may have, and what ends it.
 const VERSIONING: &[(&[u8], Result<Mode, DocFault>)] = &[
-    (b"<VersioningConfiguration><Status>Enabled</Status></VersioningConfiguration>", Ok(Mode::Enabled)),
-    (b"<?xml version=\"1.0\"?>\n<VersioningConfiguration xmlns=\"http://s3.amazonaws.com/doc/2006-03-01/\">\n  <MfaDelete>Disabled</MfaDelete>\n  <Status>\tSuspended\n</Status>\n</VersioningConfiguration>\r\n", Ok(Mode::Suspended)),
-    (b"<VersioningConfiguration xmlns=''><A/><Part></Part><Status>Enabled</Status></VersioningConfiguration>", Ok(Mode::Enabled)),
-    (b"<VersioningConfiguration \t\r\nxmlns='a>\"<'><Status>Enabled</Status></VersioningConfiguration>", Ok(Mode::Enabled)),
-    (b"<?xml??><VersioningConfiguration><Status>Enabled</Status></VersioningConfiguration>", Ok(Mode::Enabled)),
+    (
+        b"<VersioningConfiguration><Status>Enabled</Status></VersioningConfiguration>",
+        Ok(Mode::Enabled),
+    ),
+    (
+        b"<?xml version=\"1.0\"?>\n<VersioningConfiguration xmlns=\"http://s3.amazonaws.com/doc/2006-03-01/\">\n  <MfaDelete>Disabled</MfaDelete>\n  <Status>\tSuspended\n</Status>\n</VersioningConfiguration>\r\n",
+        Ok(Mode::Suspended),
+    ),
+    (
+        b"<VersioningConfiguration xmlns=''><A/><Part></Part><Status>Enabled</Status></VersioningConfiguration>",
+        Ok(Mode::Enabled),
+    ),
+    (
+        b"<VersioningConfiguration \t\r\nxmlns='a>\"<'><Status>Enabled</Status></VersioningConfiguration>",
+        Ok(Mode::Enabled),
+    ),
+    (
+        b"<?xml??><VersioningConfiguration><Status>Enabled</Status></VersioningConfiguration>",
+        Ok(Mode::Enabled),
+    ),
     (b"", Err(DocFault::MalformedXML(0))),
-    (b"\xef\xbb\xbf<VersioningConfiguration>", Err(DocFault::MalformedXML(0))),
+    (
+        b"\xef\xbb\xbf<VersioningConfiguration>",
+        Err(DocFault::MalformedXML(0)),
+    ),
     (b" <?xml", Err(DocFault::MalformedXML(2))),
-    (b"<VersioningConfiguration/>", Err(DocFault::MalformedXML(24))),
-    (b"<VersioningConfiguration ><Status>", Err(DocFault::MalformedXML(25))),
-    (b"<VersioningConfiguration xmlns ='a'>", Err(DocFault::MalformedXML(30))),
-    (b"<VersioningConfiguration xmlns='a' >", Err(DocFault::MalformedXML(34))),
-    (b"<VersioningConfiguration></VersioningConfiguration>", Err(DocFault::MalformedXML(26))),
-    (b"<VersioningConfiguration><Status >", Err(DocFault::MalformedXML(32))),
-    (b"<VersioningConfiguration><Status>Off</Status>", Err(DocFault::MalformedXML(33))),
-    (b"<VersioningConfiguration><Status>Enabled</Status ></VersioningConfiguration>", Err(DocFault::MalformedXML(48))),
-    (b"<VersioningConfiguration><Status>Enabled</Status><Status>", Err(DocFault::MalformedXML(56))),
-    (b"<VersioningConfiguration><Status>Enabled</Status><StatusX/></VersioningConfiguration>", Ok(Mode::Enabled)),
-    (b"<VersioningConfiguration><Status>Enabled</Status></VersioningConfiguration>x", Err(DocFault::MalformedXML(75))),
-    (b"<VersioningConfiguration><!-- a --><Status>", Err(DocFault::MalformedXML(26))),
-    (b"<VersioningConfiguration><A><B/></A>", Err(DocFault::MalformedXML(29))),
+    (
+        b"<VersioningConfiguration/>",
+        Err(DocFault::MalformedXML(24)),
+    ),
+    (
+        b"<VersioningConfiguration ><Status>",
+        Err(DocFault::MalformedXML(25)),
+    ),
+    (
+        b"<VersioningConfiguration xmlns ='a'>",
+        Err(DocFault::MalformedXML(30)),
+    ),
+    (
+        b"<VersioningConfiguration xmlns='a' >",
+        Err(DocFault::MalformedXML(34)),
+    ),
+    (
+        b"<VersioningConfiguration></VersioningConfiguration>",
+        Err(DocFault::MalformedXML(26)),
+    ),
+    (
+        b"<VersioningConfiguration><Status >",
+        Err(DocFault::MalformedXML(32)),
+    ),
+    (
+        b"<VersioningConfiguration><Status>Off</Status>",
+        Err(DocFault::MalformedXML(33)),
+    ),
+    (
+        b"<VersioningConfiguration><Status>Enabled</Status ></VersioningConfiguration>",
+        Err(DocFault::MalformedXML(48)),
+    ),
+    (
+        b"<VersioningConfiguration><Status>Enabled</Status><Status>",
+        Err(DocFault::MalformedXML(56)),
+    ),
+    (
+        b"<VersioningConfiguration><Status>Enabled</Status><StatusX/></VersioningConfiguration>",
+        Ok(Mode::Enabled),
+    ),
+    (
+        b"<VersioningConfiguration><Status>Enabled</Status></VersioningConfiguration>x",
+        Err(DocFault::MalformedXML(75)),
+    ),
+    (
+        b"<VersioningConfiguration><!-- a --><Status>",
+        Err(DocFault::MalformedXML(26)),
+    ),
+    (
+        b"<VersioningConfiguration><A><B/></A>",
+        Err(DocFault::MalformedXML(29)),
+    ),
 ];
 
 #[test]
@@ -49,11 +106,23 @@ const CLIENTS: &[&[u8]] = &[
 #[test]
 fn reads_clients(rt: HostRuntime) {
     for text in CLIENTS {
-        let parts = read_complete(rt.alloc(), text).unwrap();
+        let parts = read_complete(rt.alloc(), text).expect(&rt, "the document is read");
         let parts = parts.as_slice();
         assert_eq!(rt; parts.len(), 2);
-        assert_eq!(rt; parts[0], PartRef { number: 1, md5: MD5 });
-        assert_eq!(rt; parts[1], PartRef { number: 2, md5: MD5 });
+        assert_eq!(rt;
+            parts[0],
+            PartRef {
+                number: 1,
+                md5: MD5
+            }
+        );
+        assert_eq!(rt;
+            parts[1],
+            PartRef {
+                number: 2,
+                md5: MD5
+            }
+        );
     }
 }
 
@@ -84,14 +153,22 @@ const STOPS: &[(&[u8], u64)] = &[
     (b"<Part><A>\xff&</B>", 13),
     (b"<Part><1/>", 7),
     (b"<Part><A b='c'/>", 8),
-    (b"<Part><PartNumberX/><ETagX>a</ETagX><Part/><Status></Status>", 60),
+    (
+        b"<Part><PartNumberX/><ETagX>a</ETagX><Part/><Status></Status>",
+        60,
+    ),
 ];
 
 #[test]
 fn stops_at_the_first_byte(rt: HostRuntime) {
     for (text, place) in STOPS {
-        let mut document = Vec::from_slice(rt.alloc(), b"<CompleteMultipartUpload>".as_slice()).unwrap();
-        document.extend_from_slice(text).unwrap();
+        let mut document = Vec::from_slice(
+            rt.alloc(),
+            b"<CompleteMultipartUpload>".as_slice(),
+        ).expect(&rt, "the document is read");
+        document
+            .extend_from_slice(text)
+            .expect(&rt, "the document is read");
         let answer = read_complete(rt.alloc(), document.as_slice());
         assert_eq!(rt; answer.err(), Some(DocFault::MalformedXML(25 + *place)));
     }
@@ -107,6 +184,9 @@ fn stops_where_a_document_is_cut(rt: HostRuntime) {
     }
     let (text, _) = VERSIONING[0];
     for length in 0..text.len() {
-        assert_eq!(rt; read_versioning(&text[..length]), Err(DocFault::MalformedXML(length as u64)));
+        assert_eq!(rt;
+            read_versioning(&text[..length]),
+            Err(DocFault::MalformedXML(length as u64))
+        );
     }
 }

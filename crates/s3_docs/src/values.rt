@@ -94,11 +94,17 @@ fn mode_name(text: &[u8]) -> Result<Found<'_, Mode>, usize>
     match value {
         [b'E', after @ ..] => {
             let rest = expect(after, b"nabled")?;
-            Ok(Found { value: Mode::Enabled, rest })
+            Ok(Found {
+                value: Mode::Enabled,
+                rest,
+            })
         }
         [b'S', after @ ..] => {
             let rest = expect(after, b"uspended")?;
-            Ok(Found { value: Mode::Suspended, rest })
+            Ok(Found {
+                value: Mode::Suspended,
+                rest,
+            })
         }
         _ => Err(value.len()),
     }
@@ -109,7 +115,7 @@ fn digest(text: &[u8]) -> Result<Found<'_, [u8; 16]>, usize>
     ensures shorter { IfOk result (λ found. length found.rest.now ≤ length text.now) }
     ensures reads { IfOk result (λ found. (holder : Holder) (quotation : Quotation)
         → Reads (Hex holder quotation []) text.now
-            (due (quote_text quotation) (Ending (with_md5 holder found.value) ETag)) found.rest.now) }
+        (due (quote_text quotation) (Ending (with_md5 holder found.value) ETag)) found.rest.now) }
     ensures stops { IfErr result (λ left. (holder : Holder) (quotation : Quotation) → Stops (Hex holder quotation []) text.now left) }
 {
     for i in 0..DIGEST_DIGITS {

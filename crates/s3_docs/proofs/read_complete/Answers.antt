@@ -10,9 +10,9 @@ use Rattle.s3_docs.proofs.read_complete.Goals as goal
 same_parts : (a b : List PartRef) → Parts a ≡ Parts b → a ≡ b
 same_parts a b e = ap parts_in e
   where
-  parts_in : Value → List PartRef
-  parts_in (Parts parts) = parts
-  parts_in (Versioning mode) = a
+    parts_in : Value → List PartRef
+    parts_in (Parts parts) = parts
+    parts_in (Versioning mode) = a
 
 pub overflow_sub-result : goal.overflow_sub-result
 overflow_sub-result c = (place_of CompleteMultipartUpload c.args.bytes.now c.in-Err-Left.left (rw c.in-Err-Left.field-0-is at c.in-Err-Left.ensures.stops)).0
@@ -20,12 +20,12 @@ overflow_sub-result c = (place_of CompleteMultipartUpload c.args.bytes.now c.in-
 pub returns-in-Ok-clause-reads : goal.returns-in-Ok-clause-reads
 returns-in-Ok-clause-reads c =
     subst (λ (parts : List PartRef). IsDocument CompleteMultipartUpload c.args.bytes.now (Parts parts)) (sym c.from_vec.ensures)
-      (accepted_document CompleteMultipartUpload c.args.bytes.now (Parts c.in-Ok.parts.items) c.in-Ok.ensures.reads)
+    (accepted_document CompleteMultipartUpload c.args.bytes.now (Parts c.in-Ok.parts.items) c.in-Ok.ensures.reads)
 
 pub returns-in-Ok-clause-only : goal.returns-in-Ok-clause-only
 returns-in-Ok-clause-only c = λ parts document.
     c.from_vec.ensures ∙ same_parts c.in-Ok.parts.items parts
-      (one_value CompleteMultipartUpload c.args.bytes.now (Parts c.in-Ok.parts.items) (Parts parts) c.in-Ok.ensures.reads document)
+    (one_value CompleteMultipartUpload c.args.bytes.now (Parts c.in-Ok.parts.items) (Parts parts) c.in-Ok.ensures.reads document)
 
 pub returns-in-Ok-clause-refused : goal.returns-in-Ok-clause-refused
 returns-in-Ok-clause-refused c = λ place is. absurd (no_place CompleteMultipartUpload c.args.bytes.now place (Parts c.in-Ok.parts.items) c.in-Ok.ensures.reads is)

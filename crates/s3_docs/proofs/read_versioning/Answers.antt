@@ -10,9 +10,9 @@ use Rattle.s3_docs.proofs.read_versioning.Goals as goal
 same_mode : (a b : Mode) → Versioning a ≡ Versioning b → a ≡ b
 same_mode a b e = ap mode_in e
   where
-  mode_in : Value → Mode
-  mode_in (Versioning mode) = mode
-  mode_in (Parts parts) = a
+    mode_in : Value → Mode
+    mode_in (Versioning mode) = mode
+    mode_in (Parts parts) = a
 
 pub overflow_sub-result : goal.overflow_sub-result
 overflow_sub-result c = (place_of VersioningConfiguration c.args.bytes.now c.in-Err.left c.in-Err.ensures.stops).0

@@ -8,6 +8,6 @@ use Rattle.s3_docs.proofs.complete.part_tag.Goals as goal
 pub returns-clause-stops : goal.returns-clause-stops
 returns-clause-stops c =
     IfErr-weaker c.open_tag.result
-      (λ (left : ℕ). (gap next : State) → Opens gap next → Stops gap c.args.text.now left)
-      (λ (left : ℕ). (parts : List PartRef) → Stops (Between parts) c.args.text.now left)
-      (λ left stop parts. stop (Between parts) (Tag parts) (refl, refl, λ b. refl)) c.open_tag.ensures.stops
+    (λ (left : ℕ). (gap next : State) → Opens gap next → Stops gap c.args.text.now left)
+    (λ (left : ℕ). (parts : List PartRef) → Stops (Between parts) c.args.text.now left)
+    (λ left stop parts. stop (Between parts) (Tag parts) (refl, refl, λ b. refl)) c.open_tag.ensures.stops

@@ -13,5 +13,5 @@ returns-in_err-rest-clause-stops c =
 pub returns-clause-stops : goal.returns-clause-stops
 returns-clause-stops c =
     IfErr-weaker c.end_tag.result (λ (left : ℕ). (next : State) → Stops (end_tag c.args.name.now next) c.in_ok-rest.rest.now left)
-      (λ (left : ℕ). (gap next : State) → Opens gap (end_tag c.args.name.now next) → Stops gap c.args.text.now left)
-      (λ left stop gap next opens. c.in_ok-rest.ensures.reads gap (end_tag c.args.name.now next) opens ∙ stop next) c.end_tag.ensures.stops
+    (λ (left : ℕ). (gap next : State) → Opens gap (end_tag c.args.name.now next) → Stops gap c.args.text.now left)
+    (λ left stop gap next opens. c.in_ok-rest.ensures.reads gap (end_tag c.args.name.now next) opens ∙ stop next) c.end_tag.ensures.stops

@@ -17,5 +17,5 @@ returns-clause-stops c =
     let h = c.in_ok-rest.ensures.reads (Rooted c.args.root) in
     let read = subst (λ (name : List ℕ). Reads (due name (Rooted c.args.root)) c.args.text.now (Rooted c.args.root) c.in_ok-rest.rest.now) c.root_name.ensures h in
     IfErr-weaker c.rooted.result (λ (left : ℕ). (root : Root) → Stops (Rooted root) c.in_ok-rest.rest.now left)
-      (λ (left : ℕ). Stops (due (root_name c.args.root) (Rooted c.args.root)) c.args.text.now left)
-      (λ left stop. read ∙ stop c.args.root) c.rooted.ensures.stops
+    (λ (left : ℕ). Stops (due (root_name c.args.root) (Rooted c.args.root)) c.args.text.now left)
+    (λ left stop. read ∙ stop c.args.root) c.rooted.ensures.stops

@@ -9,5 +9,5 @@ invariant-loop-i l = record {
   within : l.i ≤ length l.text;
   digits : (k : ℕ) → k < l.i → is_hex_digit (get_or l.text k 0) ≡ true;
   reads : (holder : Holder) (quotation : Quotation)
-    → Reads (Hex holder quotation []) l.text (behind_hex holder quotation (take l.i l.text)) (drop l.i l.text);
+      → Reads (Hex holder quotation []) l.text (behind_hex holder quotation (take l.i l.text)) (drop l.i l.text);
 }
