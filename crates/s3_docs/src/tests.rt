@@ -165,7 +165,7 @@ fn stops_at_the_first_byte(rt: HostRuntime) {
         let mut document = Vec::from_slice(
             rt.alloc(),
             b"<CompleteMultipartUpload>".as_slice(),
-        ).expect(&rt, "the document is read");
+        ).expect(&rt, "there is memory");
         document
             .extend_from_slice(text)
             .expect(&rt, "the document is read");
