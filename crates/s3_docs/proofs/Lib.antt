@@ -1,0 +1,11 @@
+pub mod ValueLemmas
+pub mod Live
+pub mod Places
+pub mod Forward
+pub mod ForwardParts
+pub mod Back
+pub mod BackValues
+pub mod BackParts
+pub mod Prologues
+pub mod Settings
+pub mod Law

@@ -1,0 +1,12 @@
+use Rattle.std.proofs.Common.{◌≡◌, ◌∙◌, refl}
+use Rattle.std.proofs.lemmas.Result.{err_from_is_err_and}
+use Rattle.s3_docs.specs.Machine.{ETag, Ending, Inside, with_md5}
+use Rattle.s3_docs.proofs.values.etag.Goals as goal
+
+pub returns-in_err-rest-clause-stops : goal.returns-in_err-rest-clause-stops
+returns-in_err-rest-clause-stops c =
+    let p = err_from_is_err_and c.from_residual-in_err-rest.result c.from_residual-in_err-rest.ensures.1 in
+    let value = c.in_ok-found.found.value in
+    rw (p.1, p.2) (λ holder.
+    c.in_ok-found.ensures.reads holder
+    ∙ c.in_err-rest.ensures.stops (Ending (with_md5 holder value) ETag) (Inside (with_md5 holder value)) (refl, refl, λ b. refl))
