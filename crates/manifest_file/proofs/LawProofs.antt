@@ -1,71 +1,20 @@
--- The laws of reading and writing.
-use Rattle.std.proofs.Common.{◌≡◌, ℕ, List, ◌++◌, None, Result, Ok, Err, refl, sym, ap, subst, ◌∙◌}
-use Rattle.field_reader.specs.Format.{value_of, place_of}
-use Rattle.field_reader.specs.Spelling.{IsBytes}
-use Rattle.field_reader.proofs.Whole.{whole_takes, whole_again}
-use Rattle.field_reader.proofs.Series.{Kept}
-use Rattle.field_reader.proofs.Parts.{IsBytes-front, IsBytes-back}
-use Rattle.seal_file.specs.Sealing.{sealed}
-use Rattle.seal_file.proofs.SealedLemmas.{sealed-injective}
-use Rattle.manifest_file.specs.declared.manifest.Manifest.{Manifest}
-use Rattle.manifest_file.specs.Canonical.{IsCanonical}
-use Rattle.manifest_file.specs.Rows.{ManifestRow, row_of}
-use Rattle.manifest_file.specs.Spelling.{row_bytes, spelling, manifest_kind}
-use Rattle.manifest_file.specs.Layout.{manifest}
-use Rattle.manifest_file.specs.Laws.{SpellingsAreRead, FaultlessIsSpelled, SpellingIsInjective, FileIsInjective}
+-- The laws of manifests.
+use Rattle.sealed_record.specs.Laws.{IsLawful, SpellingsAreRead}
+use Rattle.sealed_record.proofs.LawProofs.{files_injective as table_files_injective}
+use Rattle.sealed_record.proofs.Rows.{lawful_table}
+use Rattle.manifest_file.specs.Spelling.{manifest_kind}
+use Rattle.manifest_file.specs.Table.{manifest_table, FileIsInjective}
+use Rattle.manifest_file.proofs.Matching.{manifest_matches}
 use Rattle.manifest_file.proofs.Texts.{IsManifestRow, manifest_spelled}
-use Rattle.manifest_file.proofs.Canonical.{canonical_from_rows, rows_from_canonical}
-use Rattle.manifest_file.proofs.Injective.{row_of-injective}
-use Rattle.manifest_file.proofs.Made.{manifest_of}
 
-abbrev of_row : ManifestRow → Result ManifestRow ℕ
-of_row r = Ok r
-
-row_is : (a b : ManifestRow) → of_row a ≡ of_row b → a ≡ b
-row_is a b e = cc
+-- the table is lawful
+pub manifest_lawful : IsLawful manifest_table
+manifest_lawful = lawful_table manifest_table IsManifestRow manifest_spelled manifest_matches
 
 -- a canonical manifest is found in its spelling
-pub spelling_found : SpellingsAreRead
-spelling_found file canonical = whole_again manifest (Kept IsManifestRow row_bytes) manifest_spelled (spelling file) (row_of file) (record { keeps = rows_from_canonical file canonical; is = refl })
+pub spelling_found : SpellingsAreRead manifest_table
+spelling_found = manifest_lawful.read
 
-row_found : (body : List ℕ) (r : ManifestRow) → IsBytes body → value_of manifest body ≡ Ok r → Kept IsManifestRow row_bytes r body
-row_found body r bytes found = whole_takes manifest (Kept IsManifestRow row_bytes) manifest_spelled body r bytes found
-
--- a manifest that is found is canonical, and the body is its spelling
-pub found_spelling : (body : List ℕ) (file : Manifest) → IsBytes body → value_of manifest body ≡ Ok (row_of file) → IsCanonical file × (body ≡ spelling file)
-found_spelling body file bytes found =
-    let k = row_found body (row_of file) bytes found in
-    (canonical_from_rows file k.keeps, k.is)
-
--- a body is read as one manifest alone
-pub found_same : (body : List ℕ) (read file : Manifest) → value_of manifest body ≡ Ok (row_of read) → IsCanonical file → body ≡ spelling file → read ≡ file
-found_same body read file found canonical is =
-    let other : value_of manifest body ≡ Ok (row_of file) = ap (value_of manifest) is ∙ spelling_found file canonical in
-    row_of-injective read file (row_is (row_of read) (row_of file) (sym found ∙ other))
-
-found_from : (found : Result ManifestRow ℕ) → place_of found ≡ None → (r : ManifestRow) × (found ≡ Ok r)
-found_from (Ok r) e = (r, refl)
-found_from (Err place) e = absurd cc
-
-pub faultless : FaultlessIsSpelled
-faultless body bytes e =
-    let found = found_from (value_of manifest body) e in
-    let k = row_found body found.0 bytes found.1 in
-    let file = manifest_of found.0 k.keeps in
-    let rows : IsManifestRow (row_of file.0) = subst (λ (r : ManifestRow). IsManifestRow r) (sym file.1) k.keeps in
-    (file.0, canonical_from_rows file.0 rows, k.is ∙ ap row_bytes (sym file.1))
-
-pub injective : SpellingIsInjective
-injective a b canonical_a canonical_b same = found_same (spelling a) a b (spelling_found a canonical_a) canonical_b same
-
+-- canonical manifests with one file are the same
 pub files_injective : FileIsInjective
-files_injective a b canonical_a canonical_b same = injective a b canonical_a canonical_b ((sealed-injective manifest_kind manifest_kind (spelling a) (spelling b) refl same).1)
-
--- a file has one body
-pub body_is : (bytes body other : List ℕ) → bytes ≡ sealed manifest_kind body → bytes ≡ sealed manifest_kind other → body ≡ other
-body_is bytes body other seals seals_other = (sealed-injective manifest_kind manifest_kind body other refl (sym seals ∙ seals_other)).1
-
--- the body of a file of bytes is made of bytes
-pub body_bytes : (bytes body : List ℕ) → bytes ≡ sealed manifest_kind body → IsBytes bytes → IsBytes body
-body_bytes bytes body seals fits =
-    IsBytes-back manifest_kind body (manifest_kind ++ body) refl (IsBytes-front (manifest_kind ++ body) _ bytes seals fits)
+files_injective = table_files_injective manifest_table manifest_lawful manifest_kind

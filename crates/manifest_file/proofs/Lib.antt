@@ -1,7 +1,7 @@
-pub mod Canonical
-pub mod Injective
 pub mod LawProofs
-pub mod Made
+pub mod Longest
+pub mod Matching
 pub mod PrintText
+pub mod RootLemmas
 pub mod Sizes
 pub mod Texts

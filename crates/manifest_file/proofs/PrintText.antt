@@ -5,18 +5,21 @@ use Rattle.std.specs.List.{AllByRecursion, flat_map}
 use Rattle.std.specs.Int.{w8, w16, w64, to_be_bytes}
 use Rattle.std.proofs.lemmas.List.{append-nil, length-map}
 use Rattle.field_reader.specs.Format.{Format, ◌>>=◌, done, number, series, value_of}
-use Rattle.field_reader.specs.Spelling.{number_bytes}
+use Rattle.field_reader.specs.Spelling.{IsBytes, number_bytes}
 use Rattle.field_reader.proofs.Parts.{IsSpelled}
 use Rattle.field_reader.proofs.Series.{Kept}
 use Rattle.field_reader.proofs.Whole.{whole_again}
-use Rattle.field_reader.proofs.Chains.{nothing, retold, u8_kept, u16_kept, u64_kept, done_kept, Both, then_kept}
+use Rattle.field_reader.proofs.Chains.{u8_kept, u16_kept, u64_kept, done_kept}
+use Rattle.sealed_record.proofs.ByteLemmas.{bytes-none, bytes-append, bytes-w8, bytes-w16, bytes-w64, bytes-flat_map}
+use Rattle.sealed_record.proofs.Chains.{then_field, told}
+use Rattle.sealed_record.proofs.FieldProofs.{Items, items_spelled}
 use Rattle.manifest_file.specs.declared.manifest.Manifest.{Manifest}
 use Rattle.manifest_file.specs.declared.manifest.ManifestPart.{ManifestPart}
 use Rattle.manifest_file.specs.Canonical.{IsRoot, IsCanonicalPart, IsCanonical}
 use Rattle.manifest_file.specs.Layout.{roots}
 use Rattle.manifest_file.specs.Spelling.{roots_bytes}
-use Rattle.manifest_file.specs.Print.{Cut, cut_of, cut_bytes, print_text, TextsTellParts}
-use Rattle.manifest_file.proofs.Texts.{Items, items_spelled, roots_spelled}
+use Rattle.manifest_file.specs.Print.{Cut, cut_of, cut_bytes, print_text, TextsTellParts, TextsAreBytes}
+use Rattle.manifest_file.proofs.Texts.{roots_spelled}
 
 -- what a text tells
 record PrintRow : Type 0 where
@@ -42,26 +45,15 @@ cut_with s r = (s, r)
 abbrev cut_format : ℕ → Format Cut
 cut_format drives = number w64 >>= λ s. roots drives >>= λ r. done (cut_with s r)
 
-abbrev Cut2 : ℕ → ℕ → Cut → Type 0
-Cut2 drives s = Both (Items IsRoot drives) (λ r c. c ≡ cut_with s r) (λ c. c.1)
-
-abbrev Cut1 : ℕ → Cut → Type 0
-Cut1 drives = Both (λ s. s < 2 ^ 64) (Cut2 drives) (λ c. c.0)
-
-cut_chain_2 : (drives s : ℕ) → IsSpelled (roots drives >>= λ r. done (cut_with s r)) (Kept (Cut2 drives s) (λ c. roots_bytes c.1 ++ []))
-cut_chain_2 drives s = then_kept (roots drives) (λ r. done (cut_with s r)) (Items IsRoot drives) roots_bytes (λ r c. c ≡ cut_with s r) nothing (λ c. c.1)
-    (roots_spelled drives) (λ r. done_kept (cut_with s r)) (λ r c p q. ap (λ (c : Cut). c.1) (sym q))
-
-cut_chain : (drives : ℕ) → IsSpelled (cut_format drives) (Kept (Cut1 drives) (λ c. number_bytes w64 c.0 ++ (roots_bytes c.1 ++ [])))
-cut_chain drives = then_kept (number w64) (λ s. roots drives >>= λ r. done (cut_with s r)) (λ s. s < 2 ^ 64) (number_bytes w64) (Cut2 drives) (λ c. roots_bytes c.1 ++ []) (λ c. c.0)
-    u64_kept (cut_chain_2 drives) (λ s c p q. ap (λ (c : Cut). c.0) (sym q.rest))
-
 cut_spelled : (drives : ℕ) → IsSpelled (cut_format drives) (Kept (IsCut drives) cut_bytes)
-cut_spelled drives = retold (cut_format drives) (Cut1 drives) (IsCut drives) (λ c. number_bytes w64 c.0 ++ (roots_bytes c.1 ++ [])) cut_bytes
+cut_spelled drives = told (
+    then_field (λ (c : Cut). c.0) u64_kept (λ s.
+    then_field (λ (c : Cut). c.1) (roots_spelled drives) (λ r. done_kept (cut_with s r))
+    (λ r c p q. ap (λ (c : Cut). c.1) (sym q)))
+    (λ s c p q. ap (λ (c : Cut). c.0) (sym q.rest)))
     (λ c k. record { size = k.part; roots = k.rest.part })
     (λ c k. record { part = k.size; rest = record { part = k.roots; rest = refl } })
     (λ c. ap (λ (x : List ℕ). number_bytes w64 c.0 ++ x) (append-nil (roots_bytes c.1)))
-    (cut_chain drives)
 
 -- ---- a text
 
@@ -71,61 +63,27 @@ record IsPrintRow (r : PrintRow) : Type 0 where
   few : length r.cuts < 2 ^ 16
   cuts : AllByRecursion (IsCut r.drives) r.cuts
 
-abbrev print_4 : ℕ → ℕ → ℕ → Format PrintRow
-print_4 d p count = series count (λ before. cut_format d) [] >>= λ cs. done (row_with d p cs)
-
-abbrev print_3 : ℕ → ℕ → Format PrintRow
-print_3 d p = number w16 >>= λ count. print_4 d p count
-
-abbrev print_2 : ℕ → Format PrintRow
-print_2 d = number w8 >>= λ p. print_3 d p
-
 abbrev print_format : Format PrintRow
-print_format = number w8 >>= λ d. print_2 d
-
-abbrev IsByte : ℕ → Type 0
-IsByte n = n < 2 ^ 8
-
-abbrev Print4 : ℕ → ℕ → ℕ → PrintRow → Type 0
-Print4 d p count = Both (Items (IsCut d) count) (λ cs v. v ≡ row_with d p cs) (λ v. v.cuts)
-
-abbrev Print3 : ℕ → ℕ → PrintRow → Type 0
-Print3 d p = Both (λ n. n < 2 ^ 16) (Print4 d p) (λ v. length v.cuts)
-
-abbrev Print2 : ℕ → PrintRow → Type 0
-Print2 d = Both IsByte (Print3 d) (λ v. v.parity)
-
-abbrev Print1 : PrintRow → Type 0
-Print1 = Both IsByte Print2 (λ v. v.drives)
-
-abbrev bytes_4 : PrintRow → List ℕ
-bytes_4 v = flat_map cut_bytes v.cuts ++ []
-
-abbrev bytes_3 : PrintRow → List ℕ
-bytes_3 v = number_bytes w16 (length v.cuts) ++ bytes_4 v
-
-abbrev bytes_2 : PrintRow → List ℕ
-bytes_2 v = number_bytes w8 v.parity ++ bytes_3 v
-
-chain_4 : (d p count : ℕ) → IsSpelled (print_4 d p count) (Kept (Print4 d p count) bytes_4)
-chain_4 d p count = then_kept (series count (λ before. cut_format d) []) (λ cs. done (row_with d p cs)) (Items (IsCut d) count) (flat_map cut_bytes) (λ cs v. v ≡ row_with d p cs) nothing (λ v. v.cuts)
-    (items_spelled (cut_format d) (IsCut d) cut_bytes (cut_spelled d) count) (λ cs. done_kept (row_with d p cs)) (λ cs v k q. ap (λ (v : PrintRow). v.cuts) (sym q))
-
-chain_3 : (d p : ℕ) → IsSpelled (print_3 d p) (Kept (Print3 d p) bytes_3)
-chain_3 d p = then_kept (number w16) (print_4 d p) (λ n. n < 2 ^ 16) (number_bytes w16) (Print4 d p) bytes_4 (λ v. length v.cuts) u16_kept (chain_4 d p) (λ count v k q. sym q.part.0)
-
-chain_2 : (d : ℕ) → IsSpelled (print_2 d) (Kept (Print2 d) bytes_2)
-chain_2 d = then_kept (number w8) (print_3 d) IsByte (number_bytes w8) (Print3 d) bytes_3 (λ v. v.parity) u8_kept (chain_3 d) (λ p v k q. ap (λ (v : PrintRow). v.parity) (sym q.rest.rest))
-
-chain_1 : IsSpelled print_format (Kept Print1 row_text)
-chain_1 = then_kept (number w8) print_2 IsByte (number_bytes w8) Print2 bytes_2 (λ v. v.drives) u8_kept chain_2 (λ d v k q. ap (λ (v : PrintRow). v.drives) (sym q.rest.rest.rest))
+print_format =
+    number w8 >>= λ d.
+    number w8 >>= λ p.
+    number w16 >>= λ count.
+    series count (λ before. cut_format d) [] >>= λ cs.
+    done (row_with d p cs)
 
 text_spelled : IsSpelled print_format (Kept IsPrintRow row_text)
-text_spelled = retold print_format Print1 IsPrintRow row_text row_text
+text_spelled = told (
+    then_field (λ (v : PrintRow). v.drives) u8_kept (λ d.
+    then_field (λ (v : PrintRow). v.parity) u8_kept (λ p.
+    then_field (λ (v : PrintRow). length v.cuts) u16_kept (λ count.
+    then_field (λ (v : PrintRow). v.cuts) (items_spelled (cut_spelled d) count) (λ cs. done_kept (row_with d p cs))
+    (λ cs v k q. ap (λ (v : PrintRow). v.cuts) (sym q)))
+    (λ count v k q. sym q.part.0))
+    (λ p v k q. ap (λ (v : PrintRow). v.parity) (sym q.rest.rest)))
+    (λ d v k q. ap (λ (v : PrintRow). v.drives) (sym q.rest.rest.rest)))
     (λ v k. let c = k.rest.rest in record { drives = k.part; parity = k.rest.part; few = c.part; cuts = c.rest.part.1 })
     (λ v k. record { part = k.drives; rest = record { part = k.parity; rest = record { part = k.few; rest = record { part = (refl, k.cuts); rest = refl } } } })
     (λ v. refl)
-    chain_1
 
 -- ---- the law
 
@@ -168,3 +126,20 @@ fed_text d p parts d_fits p_fits =
     let one : d % 256 ≡ d = omega arith in
     let two : p % 256 ≡ p = omega arith in
     rw (one, two, length-map parts cut_of, append-nil (flat_map cut_bytes (map cut_of parts))) refl
+
+-- ---- the text is made of bytes
+
+roots_are_bytes : (rs : List (List ℕ)) → AllByRecursion IsRoot rs → IsBytes (roots_bytes rs)
+roots_are_bytes rs all = bytes-flat_map IsRoot (λ root. root) (λ root h. h.1) rs all
+
+cut_is_bytes : (drives : ℕ) (c : Cut) → IsCut drives c → IsBytes (cut_bytes c)
+cut_is_bytes drives c h = bytes-append (number_bytes w64 c.0) (roots_bytes c.1) (bytes-w64 c.0) (roots_are_bytes c.1 h.roots.1)
+
+pub texts_are_bytes : TextsAreBytes
+texts_are_bytes m h =
+    let cuts = map cut_of m.parts in
+    let all = bytes-flat_map (IsCut m.drives) cut_bytes (cut_is_bytes m.drives) cuts (row_from m h).cuts in
+    let parts = bytes-append (flat_map cut_bytes cuts) [] all bytes-none in
+    let count = bytes-append (number_bytes w16 (length cuts)) (flat_map cut_bytes cuts ++ []) (bytes-w16 _) parts in
+    let parity = bytes-append (number_bytes w8 m.parity) _ (bytes-w8 _) count in
+    bytes-append (number_bytes w8 m.drives) _ (bytes-w8 _) parity

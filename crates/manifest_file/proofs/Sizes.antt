@@ -1,5 +1,5 @@
 -- How many bytes a manifest's spelling has.
-use Rattle.std.proofs.Common.{◌≡◌, ℕ, suc, ◌+◌, ◌*◌, List, [], ◌∷◌, ◌++◌, length, refl, arith}
+use Rattle.std.proofs.Common.{◌≡◌, ℕ, suc, ◌+◌, ◌*◌, ◌^◌, ◌<◌, ◌≤◌, List, [], ◌∷◌, ◌++◌, length, refl, arith, mul-le-mul}
 use Rattle.std.specs.Prelude.{map}
 use Rattle.std.specs.List.{AllByRecursion, flat_map}
 use Rattle.std.specs.Int.{w8, w16, w64}
@@ -8,16 +8,18 @@ use Rattle.std.proofs.lemmas.List.Concat.{flat_map-cons}
 use Rattle.stamp_id.specs.VersionId.{id_bytes}
 use Rattle.stamp_id.proofs.IdLemmas.{length-id_bytes}
 use Rattle.field_reader.specs.Spelling.{number_bytes}
+use Rattle.seal_file.proofs.SealedLemmas.{length-sealed}
 use Rattle.manifest_file.specs.declared.manifest.Manifest.{Manifest}
 use Rattle.manifest_file.specs.declared.manifest.ManifestPart.{ManifestPart}
 use Rattle.manifest_file.specs.Canonical.{IsRoot, IsCanonicalPart, IsCanonical}
 use Rattle.manifest_file.specs.Rows.{part_row}
-use Rattle.manifest_file.specs.Spelling.{roots_bytes, part_bytes, spelling}
+use Rattle.manifest_file.specs.Spelling.{roots_bytes, part_bytes, manifest_kind, spelling}
+use Rattle.manifest_file.specs.Table.{ManifestsAreNoLonger}
 
 roots_size : (rs : List (List ℕ)) → AllByRecursion IsRoot rs → length (roots_bytes rs) ≡ 32 * length rs
 roots_size [] all = refl
 roots_size (r ∷ rs) all =
-    let here : length r ≡ 32 = all.0 in
+    let here : length r ≡ 32 = all.0.0 in
     let others = roots_size rs all.1 in
     rw (flat_map-cons (λ (root : List ℕ). root) r rs) (omega (arith, length-append r (roots_bytes rs), here, others))
 
@@ -48,3 +50,16 @@ manifest_size m h =
     let behind = number_bytes w8 m.drives ++ (number_bytes w8 m.parity ++ (number_bytes w16 (length (map part_row m.parts)) ++ flat_map part_bytes (map part_row m.parts))) in
     let whole = length-append m.name behind in
     rw (append-nil (flat_map part_bytes (map part_row m.parts))) (omega (arith, whole, parts))
+
+-- as many roots as one byte counts
+part_short : (drives : ℕ) → drives < 2 ^ 8 → 24 + 32 * drives ≤ 8184
+part_short drives few = omega arith
+
+-- the longest file
+pub no_longer : ManifestsAreNoLonger 81905578
+no_longer m h =
+    let sealed = length-sealed manifest_kind (spelling m) in
+    let size = manifest_size m h in
+    let name = h.name in
+    let parts : (24 + 32 * m.drives) * length m.parts ≤ 8184 * 10000 = mul-le-mul (part_short m.drives h.drives) h.few in
+    omega arith

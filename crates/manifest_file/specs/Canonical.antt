@@ -1,6 +1,7 @@
 -- Which manifests are canonical.
 use Rattle.std.specs.Prelude.{◌≡◌, ℕ, ◌<◌, ◌≤◌, ◌^◌, List, length}
 use Rattle.std.specs.List.{AllByRecursion}
+use Rattle.field_reader.specs.Spelling.{IsBytes}
 use Rattle.manifest_file.specs.declared.manifest.Manifest.{Manifest}
 use Rattle.manifest_file.specs.declared.manifest.ManifestPart.{ManifestPart}
 
@@ -8,9 +9,9 @@ use Rattle.manifest_file.specs.declared.manifest.ManifestPart.{ManifestPart}
 abbrev pub IsName : List ℕ → Type 0
 IsName name = length name < 2 ^ 16
 
--- A root is a SHA-256.
+-- A root is a SHA-256: 32 bytes.
 abbrev pub IsRoot : List ℕ → Type 0
-IsRoot root = length root ≡ 32
+IsRoot root = (length root ≡ 32) × IsBytes root
 
 -- a part on so many drives: at most as long as S3 lets a PUT be, with a root for each drive
 pub record IsCanonicalPart (drives : ℕ) (part : ManifestPart) : Type 0 where

@@ -1,13 +1,10 @@
 -- The format of a manifest within its seal: the fields in their order, each with its rule.
-use Rattle.std.specs.Prelude.{ℕ, List, [], Bool, ◌&&◌, ◌==◌, nat_lt, nat_le}
+use Rattle.std.specs.Prelude.{ℕ, List, [], Bool, ◌&&◌, nat_lt, nat_le}
 use Rattle.std.specs.Int.{w8, w16, w64}
 use Rattle.field_reader.specs.Format.{Format, ◌>>=◌, done, field, number, with_rule, series}
+use Rattle.sealed_record.specs.Fields.{format_number, counted}
 use Rattle.stamp_id.specs.IdField.{id_field}
 use Rattle.manifest_file.specs.Rows.{PartRow, ManifestRow}
-
--- the one format number
-abbrev pub is_format : ℕ → Bool
-is_format format = format == 1
 
 -- 1 to 10,000 parts
 abbrev pub is_count : ℕ → Bool
@@ -18,8 +15,8 @@ abbrev pub is_length : ℕ → Bool
 is_length size = nat_le size 5368709120
 
 -- the name of a register: a length of two bytes, and so many bytes
-unfoldable pub name : Format (List ℕ)
-name = number w16 >>= λ size. field size
+abbrev pub name : Format (List ℕ)
+name = counted w16
 
 -- a root for each of so many drives
 unfoldable pub roots : ℕ → Format (List (List ℕ))
@@ -40,7 +37,7 @@ parts drives count = series count (λ before. part drives) []
 -- the format of manifests
 unfoldable pub manifest : Format ManifestRow
 manifest =
-    with_rule is_format (number w8) >>= λ format.
+    format_number >>= λ format.
     name >>= λ name.
     number w8 >>= λ drives.
     number w8 >>= λ parity.

@@ -1,7 +1,6 @@
-pub mod Answers
 pub mod Canonical
 pub mod Layout
-pub mod Laws
 pub mod Print
 pub mod Rows
 pub mod Spelling
+pub mod Table

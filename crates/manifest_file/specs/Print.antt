@@ -2,7 +2,7 @@
 use Rattle.std.specs.Prelude.{◌≡◌, ℕ, List, [], ◌∷◌, ◌++◌, length, map}
 use Rattle.std.specs.List.{flat_map}
 use Rattle.std.specs.Int.{w8, w16, w64}
-use Rattle.field_reader.specs.Spelling.{number_bytes, joined}
+use Rattle.field_reader.specs.Spelling.{IsBytes, number_bytes, joined}
 use Rattle.sha2.specs.Sha256.{sha256}
 use Rattle.manifest_file.specs.declared.manifest.Manifest.{Manifest}
 use Rattle.manifest_file.specs.declared.manifest.ManifestPart.{ManifestPart}
@@ -37,3 +37,7 @@ text_under m = print_text m.drives m.parity (map cut_of m.parts)
 abbrev pub TextsTellParts : Type 0
 TextsTellParts = (a b : Manifest) → IsCanonical a → IsCanonical b → text_under a ≡ text_under b
     → (a.drives ≡ b.drives) × (a.parity ≡ b.parity) × (map cut_of a.parts ≡ map cut_of b.parts)
+
+-- The text under the print of a canonical manifest is made of bytes.
+abbrev pub TextsAreBytes : Type 0
+TextsAreBytes = (m : Manifest) → IsCanonical m → IsBytes (text_under m)

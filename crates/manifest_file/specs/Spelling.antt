@@ -1,15 +1,16 @@
 -- The one spelling of each manifest. Numbers are big-endian.
-use Rattle.std.specs.Prelude.{ℕ, List, [], ◌∷◌, ◌++◌, length, codes}
+use Rattle.std.specs.Prelude.{ℕ, List, [], ◌∷◌, length, codes}
 use Rattle.std.specs.List.{flat_map}
 use Rattle.std.specs.Int.{w8, w16, w64}
 use Rattle.field_reader.specs.Spelling.{number_bytes, joined}
 use Rattle.seal_file.specs.Sealing.{sealed}
+use Rattle.sealed_record.specs.Fields.{counted_bytes}
 use Rattle.manifest_file.specs.declared.manifest.Manifest.{Manifest}
 use Rattle.manifest_file.specs.Rows.{PartRow, ManifestRow, row_of}
 
 -- a name: its length, and its bytes
 abbrev pub name_bytes : List ℕ → List ℕ
-name_bytes name = number_bytes w16 (length name) ++ name
+name_bytes name = counted_bytes w16 name
 
 -- roots, one after the other
 abbrev pub roots_bytes : List (List ℕ) → List ℕ

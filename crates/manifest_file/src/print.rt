@@ -3,7 +3,7 @@
 ghost use Rattle.std.specs.Prelude.{◌≡◌, ◌≤◌, ◌++◌, List, ℕ, length, map};
 ghost use Rattle.std.specs.List.{flat_map};
 ghost use Rattle.sha2.specs.Hashers.{Holds256};
-ghost use Rattle.manifest_file.specs.Print.{cut_of, cut_bytes, print_of_parts, TextsTellParts};
+ghost use Rattle.manifest_file.specs.Print.{cut_of, cut_bytes, print_of_parts, TextsTellParts, TextsAreBytes};
 ghost use Rattle.manifest_file.specs.Spelling.{roots_bytes};
 ghost use Rattle.manifest_file.specs.Canonical.{IsCanonical};
 
@@ -50,8 +50,9 @@ pub fn print_of(manifest: &Manifest) -> [u8; 32]
     hasher.finalize()
 }
 
-/// The law of prints, for a caller's proof: canonical manifests whose prints have one text under SHA-256 agree on the
-/// drives, the parity, and the lengths and the roots of their parts. It does nothing.
+/// The laws of prints, for a caller's proof: canonical manifests whose prints have one text under SHA-256 agree on the
+/// drives, the parity, and the lengths and the roots of their parts, and each such text is made of bytes. It does nothing.
 pub fn print_laws()
-    ensures { TextsTellParts }
+    ensures tell { TextsTellParts }
+    ensures bytes { TextsAreBytes }
 {}

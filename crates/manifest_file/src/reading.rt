@@ -1,39 +1,22 @@
-//! Manifests from files.
+//! Taking the fields of a manifest.
 
-ghost use Rattle.std.specs.Prelude.{◌≡◌, List, ℕ, map, Err};
-ghost use Rattle.std.specs.Int.{w8, w16, w64};
-ghost use Rattle.field_reader.specs.Format.{number, with_rule, value_of, fault_at};
-ghost use Rattle.field_reader.specs.Reading.{Gives, GivesWhole};
-ghost use Rattle.seal_file.specs.Sealing.{sealed, IsDamage};
-ghost use Rattle.seal_file.specs.declared.damage.Damage.{Damage};
-ghost use Rattle.seal_file.specs.declared.damage.FileRead.TheVariants.{Unsealed};
+ghost use Rattle.std.specs.Prelude.{map};
+ghost use Rattle.std.specs.Int.{w16, w64};
+ghost use Rattle.field_reader.specs.Format.{number, with_rule};
+ghost use Rattle.field_reader.specs.Reading.{Gives, Takes};
 ghost use Rattle.manifest_file.specs.Rows.{part_row, row_of};
-ghost use Rattle.manifest_file.specs.Layout.{is_format, is_count, is_length, name, roots, part, parts, manifest};
-ghost use Rattle.manifest_file.specs.Canonical.{IsCanonical};
-ghost use Rattle.manifest_file.specs.Spelling.{manifest_kind, file_of};
-ghost use Rattle.manifest_file.specs.Answers.{Reads, IsReadAs, TellsFault};
-ghost use Rattle.manifest_file.specs.Laws.{SpellingsAreRead, FaultlessIsSpelled, SpellingIsInjective, FileIsInjective};
-ghost use Rattle.manifest_file.specs.declared.manifest.Manifest.{Manifest};
+ghost use Rattle.manifest_file.specs.Layout.{is_count, is_length, name, roots, part, parts, manifest};
 
 use crate::lists::{Parts, Roots};
-use crate::manifest::{KIND, MOST_PART_BYTES, MOST_PARTS, Manifest, ManifestPart};
-use field_reader::{Fields, ReadFault, refuse_unless};
+use crate::manifest::{MOST_PART_BYTES, MOST_PARTS, Manifest, ManifestPart};
+use field_reader::{Fields, Misspelled, ReadFault, refuse_unless};
+use seal_file::Text;
+use sealed_record::take_format;
 use stamp_id::take_id;
-use seal_file::{FileRead, Text, unseal};
 use std::alloc::Global;
 
-/// Takes the format number, which must be 1.
-fn take_format(fields: &mut Fields) -> Result<u8, ReadFault>
-    ensures { Gives (λ format. format) result fields.new (with_rule is_format (number w8) fields.old) }
-{
-    let start = fields.at();
-    let format = fields.take_u8()?;
-    refuse_unless(format == 1, start)?;
-    Ok(format)
-}
-
 /// Takes the name of the register: its length, and its bytes.
-#[tactic(auto, unfolding(crate::specs::Layout::name))]
+#[tactic(auto, unfolding(sealed_record::specs::Fields::counted))]
 fn take_name(alloc: Global, fields: &mut Fields) -> Result<Text, ReadFault>
     ensures { Gives (λ name. name) result fields.new (name fields.old) }
 {
@@ -43,8 +26,8 @@ fn take_name(alloc: Global, fields: &mut Fields) -> Result<Text, ReadFault>
 }
 
 /// Takes the number of parts.
-fn take_count(fields: &mut Fields) -> Result<u16, ReadFault>
-    ensures { Gives (λ count. count) result fields.new (with_rule is_count (number w16) fields.old) }
+fn take_count(fields: &mut Fields) -> Result<u16, Misspelled>
+    ensures { Takes (λ count. count) result fields.new (with_rule is_count (number w16) fields.old) }
 {
     let start = fields.at();
     let count = fields.take_u16()?;
@@ -53,8 +36,8 @@ fn take_count(fields: &mut Fields) -> Result<u16, ReadFault>
 }
 
 /// Takes the length of a part.
-fn take_length(fields: &mut Fields) -> Result<u64, ReadFault>
-    ensures { Gives (λ length. length) result fields.new (with_rule is_length (number w64) fields.old) }
+fn take_length(fields: &mut Fields) -> Result<u64, Misspelled>
+    ensures { Takes (λ length. length) result fields.new (with_rule is_length (number w64) fields.old) }
 {
     let start = fields.at();
     let length = fields.take_u64()?;
@@ -108,7 +91,7 @@ fn take_parts(
 
 /// Takes a manifest.
 #[tactic(auto, unfolding(crate::specs::Layout::manifest))]
-fn take_manifest(alloc: Global, fields: &mut Fields) -> Result<Manifest, ReadFault>
+pub(crate) fn take_manifest(alloc: Global, fields: &mut Fields) -> Result<Manifest, ReadFault>
     ensures { Gives row_of result fields.new (manifest fields.old) }
 {
     take_format(fields)?;
@@ -124,48 +107,3 @@ fn take_manifest(alloc: Global, fields: &mut Fields) -> Result<Manifest, ReadFau
         parts: Parts::from_vec(parts),
     })
 }
-
-/// The manifest that a body spells, or its first fault.
-#[tactic(auto, unfolding(field_reader::specs::Format::value_of))]
-fn whole_manifest(alloc: Global, body: &[u8]) -> Result<Manifest, ReadFault>
-    ensures { GivesWhole row_of result (value_of manifest body.now) }
-{
-    let mut fields = Fields::new(body);
-    let manifest = take_manifest(alloc, &mut fields)?;
-    fields.finish()?;
-    Ok(manifest)
-}
-
-/// The manifest of a manifest's file.
-///
-/// Bytes that are no sealed file of the kind `OMAN` are `Unsealed`, with their first damage. A body that spells no
-/// manifest is `NotCanonical`, at the place of its first fault, counted from 0 in the body, which is what stands between
-/// the kind and the digest: the start of the first field that breaks its rule, the number of the body's bytes where
-/// bytes are missing, or the first byte too many. The numbers of drives and of parity have no rule.
-pub fn read(alloc: Global, bytes: &[u8]) -> Result<Manifest, FileRead>
-    // What is read is canonical and this is its file; what is refused is damaged, or its body has a fault there.
-    ensures outcome { Reads bytes.now result }
-    // The file of a canonical manifest is read as that manifest.
-    ensures only { (m : Manifest) → IsCanonical m → bytes.now ≡ file_of m → IsReadAs m result }
-    // A damage is named, always.
-    ensures damaged { (damage : Damage) → IsDamage manifest_kind bytes.now damage → result ≡ Err (Unsealed damage) }
-    // A sealed body with no fault is read, and a fault is named.
-    ensures fault { (body : List ℕ) → bytes.now ≡ sealed manifest_kind body → TellsFault (fault_at manifest body) result }
-{
-    let body = unseal(KIND, bytes)?;
-    match whole_manifest(alloc, body) {
-        Ok(manifest) => Ok(manifest),
-        Err(ReadFault::At(place)) => Err(FileRead::NotCanonical(place)),
-        Err(ReadFault::NoMemory) => Err(FileRead::NoMemory),
-    }
-}
-
-/// The laws of spellings, for a caller's proof: a canonical manifest is found in its spelling, a body with no fault
-/// spells a canonical manifest, and two canonical manifests with one spelling, or with one file, are the same. It does
-/// nothing.
-pub fn manifest_laws()
-    ensures read { SpellingsAreRead }
-    ensures faultless { FaultlessIsSpelled }
-    ensures injective { SpellingIsInjective }
-    ensures files { FileIsInjective }
-{}

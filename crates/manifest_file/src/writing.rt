@@ -1,16 +1,15 @@
-//! Manifests as files.
+//! Putting the fields of a manifest.
 
-ghost use Rattle.std.specs.Prelude.{◌≡◌, ◌+◌, ◌*◌, ◌≤◌, ◌++◌, All, length, map, OnOk, IfOk};
-ghost use Rattle.std.specs.List.{AllByRecursion, flat_map};
+ghost use Rattle.std.specs.Prelude.{◌≡◌, ◌++◌, length, map, OnOk};
+ghost use Rattle.std.specs.List.{flat_map};
 ghost use Rattle.manifest_file.specs.Rows.{part_row};
-ghost use Rattle.manifest_file.specs.Spelling.{name_bytes, roots_bytes, part_bytes, spelling, file_of};
-ghost use Rattle.manifest_file.specs.Canonical.{IsName, IsCanonicalPart, IsCanonical};
+ghost use Rattle.manifest_file.specs.Spelling.{name_bytes, roots_bytes, part_bytes, spelling};
+ghost use Rattle.manifest_file.specs.Canonical.{IsName, IsCanonical};
 
-use crate::manifest::{KIND, Manifest, ManifestPart};
+use crate::manifest::{Manifest, ManifestPart};
 use field_reader::{put_bytes, put_u8, put_u16, put_u64};
-use seal_file::{Text, seal};
-use fault_base::NoMemory;
-use std::alloc::{AllocError, Global};
+use seal_file::Text;
+use std::alloc::AllocError;
 
 /// Appends the name of a register: its length, and its bytes.
 fn put_name(out: &mut Vec<u8>, name: &Text) -> Result<(), AllocError>
@@ -60,7 +59,7 @@ const PART_BYTES: usize = 24;
 const ROOT_BYTES: usize = 32;
 
 /// The bytes of the spelling of a manifest.
-fn spelling_size(manifest: &Manifest) -> usize
+pub(crate) fn spelling_size(manifest: &Manifest) -> usize
     requires { IsCanonical manifest.now }
     ensures { result ≡ length (spelling manifest.now) }
 {
@@ -68,27 +67,15 @@ fn spelling_size(manifest: &Manifest) -> usize
     HEAD_BYTES + manifest.name.len() + part * manifest.parts.len()
 }
 
-/// The spelling of a manifest.
-fn spell(alloc: Global, manifest: &Manifest) -> Result<Vec<u8>, AllocError>
+/// Appends the spelling of a manifest.
+pub(crate) fn put_manifest(out: &mut Vec<u8>, manifest: &Manifest) -> Result<(), AllocError>
     requires { IsCanonical manifest.now }
-    ensures { IfOk result (λ body. body.items ≡ spelling manifest.now) }
+    ensures { OnOk result (out.new.items ≡ out.old.items ++ spelling manifest.now) }
 {
-    let mut out = Vec::with_capacity(alloc, spelling_size(manifest))?;
-    put_u8(&mut out, 1)?;
-    put_name(&mut out, &manifest.name)?;
-    put_u8(&mut out, manifest.drives)?;
-    put_u8(&mut out, manifest.parity)?;
-    put_u16(&mut out, manifest.parts.len() as u16)?;
-    put_parts(&mut out, manifest.parts.as_slice())?;
-    Ok(out)
-}
-
-/// The file of a manifest: its spelling, sealed with the kind `OMAN`. Want of memory is the only error.
-pub fn write(alloc: Global, manifest: &Manifest) -> Result<Vec<u8>, NoMemory>
-    // The name, the number of parts and their lengths keep their limits, and each part has a root for each drive.
-    requires { IsCanonical manifest.now }
-    ensures { IfOk result (λ bytes. bytes.items ≡ file_of manifest.now) }
-{
-    let body = spell(alloc, manifest)?;
-    seal(alloc, KIND, body.as_slice())
+    put_u8(out, 1)?;
+    put_name(out, &manifest.name)?;
+    put_u8(out, manifest.drives)?;
+    put_u8(out, manifest.parity)?;
+    put_u16(out, manifest.parts.len() as u16)?;
+    put_parts(out, manifest.parts.as_slice())
 }

@@ -7,7 +7,8 @@ use Rattle.call_types.specs.declared.why.Why.{Why}
 use Rattle.drive_base.specs.Files.{Files}
 use Rattle.drive_base.specs.Plan.{data_drives, write_drives}
 use Rattle.drive_base.specs.declared.plan.SetPlan.{SetPlan}
-use Rattle.register_file.specs.Record.{IsCanonical, MayFollow}
+use Rattle.sealed_record.specs.Fields.{IfThere}
+use Rattle.register_file.specs.Record.{IsCanonical, IsCanonicalNext}
 use Rattle.register_file.specs.declared.record.RegFile.{RegFile}
 use Rattle.register_file.specs.declared.record.Base.{Base}
 use Rattle.register_file.specs.declared.record.Next.{Next}
@@ -18,7 +19,8 @@ use Rattle.register_core.specs.Looking.{LaneIsRead, LanesAreRead, Looks, MayForw
 use Rattle.register_core.specs.LookSteps.{Accepts, IsConcluded}
 use Rattle.register_core.specs.Loops.{letter_at}
 use Rattle.register_core.specs.OnLanes.{AreLanes}
-use Rattle.register_core.specs.Records.{longest_file, row_of, settled_file}
+use Rattle.register_file.specs.Lengths.{longest_file}
+use Rattle.register_core.specs.Records.{row_of, settled_file}
 use Rattle.register_core.specs.Seen.{LookedSeen}
 use Rattle.register_core.specs.declared.faults.QuorumFault.{QuorumFault}
 use Rattle.register_core.specs.declared.faults.QuorumFault.TheVariants.{ReadQuorum, WriteQuorum, Undecided, NoMemory}
@@ -57,7 +59,7 @@ module _ {D : Type 0} (tells : D → Bool) (files : D → Files) (count : D → 
   -- a next that was found is lawful
   next_lawful : (file : RegFile) (next : Next) → IsCanonical file → file.next ≡ Some next → IsLawfulPending (Some next)
   next_lawful file next canonical is =
-      let follows : MayFollow file.base.change (Some next) = subst (λ (n : Option Next). MayFollow file.base.change n) is canonical.next in
+      let follows : IsCanonicalNext file.base.change next = subst (λ (n : Option Next). IfThere (IsCanonicalNext file.base.change) n) is canonical.next in
       (follows.adds, follows.content)
 
   -- what is pending is lawful

@@ -10,7 +10,7 @@ use Rattle.call_types.specs.Good.{is_good}
 use Rattle.call_types.specs.declared.why.Why.{Why}
 use Rattle.call_types.specs.declared.why.Why.TheVariants.{Good, Failed, Damaged, Behind, Lacks}
 use Rattle.drive_base.specs.Files.{Files}
-use Rattle.register_file.specs.Laws.{FileIsInjective}
+use Rattle.register_file.specs.Table.{FileIsInjective}
 use Rattle.register_file.specs.Record.{IsCanonical}
 use Rattle.register_file.specs.Spelling.{file_of, register_kind, spelling}
 use Rattle.register_file.specs.declared.record.RegFile.{RegFile}

@@ -3,6 +3,7 @@ use Rattle.std.specs.Prelude.{◌≡◌, ◌⊎◌, ⊤, ℕ, List, Option, Some
 use Rattle.seal_file.specs.declared.damage.Damage.TheVariants.{Spelling}
 use Rattle.call_types.specs.declared.why.Why.{Why}
 use Rattle.call_types.specs.declared.why.Why.TheVariants.{Damaged}
+use Rattle.sealed_record.specs.Fields.{IfThere}
 use Rattle.register_file.specs.Record.{IsContent, AddsPrint}
 use Rattle.register_file.specs.declared.record.RegFile.{RegFile}
 use Rattle.register_file.specs.declared.record.Base.{Base}
@@ -32,7 +33,7 @@ Concludes w d found base (Some next) = (base_lane : ℕ) × (lane : ℕ) × (k :
 -- what is pending can be written again: its print is a SHA-256, and its content's length fits its field
 abbrev pub IsLawfulPending : Option Next → Type 0
 IsLawfulPending None = ⊤
-IsLawfulPending (Some next) = AddsPrint next.adds × IsContent next.content
+IsLawfulPending (Some next) = IfThere AddsPrint next.adds × IsContent next.content
 
 -- the content that is looked at: the settled one, or the one that a forward would complete
 abbrev pub content_of : Base → Option Next → List ℕ

@@ -22,7 +22,8 @@ use Rattle.register_core.specs.Found.{Concludes, FindsNext, IsLawfulPending, Ref
 use Rattle.register_core.specs.Loops.{letter_at}
 use Rattle.register_core.specs.Manifests.{AreManifestLetters}
 use Rattle.register_core.specs.OnLanes.{AllTell, AreHonest, AreLanes}
-use Rattle.register_core.specs.Records.{ShowsFile, IsRegisterDamage, longest_file, row_of, settled_file}
+use Rattle.register_file.specs.Lengths.{longest_file}
+use Rattle.register_core.specs.Records.{ShowsFile, IsRegisterDamage, row_of, settled_file}
 use Rattle.register_core.specs.Seen.{AreSeen, LookedSeen, RefusedSeen, UndecidedSeen}
 use Rattle.register_core.specs.declared.faults.QuorumFault.{QuorumFault}
 use Rattle.register_core.specs.declared.faults.QuorumFault.TheVariants.{ReadQuorum, WriteQuorum, Undecided, NoMemory}

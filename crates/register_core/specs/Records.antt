@@ -1,5 +1,5 @@
 -- The record of a lane, by what a drive has under a register's name.
-use Rattle.std.specs.Prelude.{◌≡◌, ◌⊎◌, ◌+◌, ◌*◌, ◌≤◌, ℕ, List, Option, Some, None, length, min}
+use Rattle.std.specs.Prelude.{◌≡◌, ◌⊎◌, ◌≤◌, ℕ, List, Option, Some, None, length}
 use Rattle.std.specs.Option.{is_some, option_map}
 use Rattle.stamp_id.specs.VersionId.{id_bytes}
 use Rattle.seal_file.specs.Sealing.{IsDamage}
@@ -7,7 +7,7 @@ use Rattle.seal_file.specs.declared.damage.Damage.{Damage}
 use Rattle.seal_file.specs.declared.damage.Damage.TheVariants.{Spelling}
 use Rattle.drive_base.specs.HonestDamage.{HonestDamage}
 use Rattle.file_access.specs.Reading.{IsTooLong}
-use Rattle.register_file.specs.Answers.{HasFault}
+use Rattle.register_file.specs.Table.{HasFault}
 use Rattle.register_file.specs.Record.{IsCanonical}
 use Rattle.register_file.specs.Spelling.{register_kind, file_of}
 use Rattle.register_file.specs.declared.record.RegFile.{RegFile}
@@ -51,10 +51,6 @@ StandsFor (Some bytes) file = bytes ≡ file_of file
 -- the same of a record
 abbrev pub HasLane : Option (List ℕ) → Lane → Type 0
 HasLane bytes lane = (file : RegFile) × IsCanonical file × StandsFor bytes file × (lane ≡ lane_of file)
-
--- the greatest length of a register's file whose contents have at most so many bytes, as far as a `u64` tells it
-abbrev pub longest_file : ℕ → ℕ
-longest_file longest = min (175 + 2 * longest) 18446744073709551615
 
 -- what is shown under a register's name is this file, of at most so many bytes; where nothing is shown, it is the record of a lane without a file
 abbrev pub ShowsFile : ℕ → Option (List ℕ) → RegFile → Type 0

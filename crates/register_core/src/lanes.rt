@@ -5,7 +5,7 @@ ghost use Rattle.std.specs.Int.{IsBitSet};
 ghost use Rattle.vote_core.specs.Lane.{blank_lane};
 ghost use Rattle.register_file.specs.Record.{IsCanonical};
 ghost use Rattle.register_core.specs.Looking.{LanesAreRead};
-ghost use Rattle.register_core.specs.Records.{lane_of, longest_file, row_of};
+ghost use Rattle.register_core.specs.Records.{lane_of, row_of};
 ghost use Rattle.register_core.specs.Reads.{ReadsLane, OpensFile};
 ghost use Rattle.register_core.specs.declared.faults.QuorumFault.TheVariants.{NoMemory};
 
@@ -57,13 +57,6 @@ pub fn read_lanes<D: Drive>(
         }
     }
     Ok(Found { files, whys })
-}
-
-/// The length of the longest file of a register whose contents have at most `longest` bytes.
-pub fn longest_file(longest: u64) -> u64
-    ensures { result ≡ longest_file longest }
-{
-    longest.saturating_mul(2).saturating_add(175)
 }
 
 /// Whether a set has a lane.

@@ -10,12 +10,12 @@ ghost use Rattle.register_core.specs.Records.{row_of};
 use crate::content::ContentRule;
 use crate::faults::QuorumFault;
 use crate::found::{accept, base_on, clean_of, content_of, next_on};
-use crate::lanes::{Found, longest_file, read_lanes, rows_of};
+use crate::lanes::{Found, read_lanes, rows_of};
 use crate::looked::Looked;
 use crate::manifests::look_for_data;
 use call_types::Whys;
 use drive_base::{Drive, DriveSet, SetPlan};
-use register_file::{Base, Next, RegFile, file_laws};
+use register_file::{Base, Next, RegFile, file_laws, longest_file};
 use std::alloc::Global;
 use vote_core::{Onward, Row, Verdict, calm_laws, decide, judge, place_laws, verdict_laws};
 

@@ -5,6 +5,7 @@ ghost use Rattle.std.specs.Int.{IsBitSet};
 ghost use Rattle.body_print.specs.Names.{manifest_name};
 ghost use Rattle.manifest_file.specs.Canonical.{IsCanonical};
 ghost use Rattle.manifest_file.specs.Spelling.{file_of};
+ghost use Rattle.manifest_file.specs.declared.manifest.TheConstants.{LONGEST_FILE};
 ghost use Rattle.register_core.specs.Manifests.{AreManifestLetters, ManifestLetter};
 ghost use Rattle.register_core.specs.ManifestSteps.{LettersOf, ReadsManifest, TellsOf};
 ghost use Rattle.register_core.specs.declared.faults.QuorumFault.TheVariants.{NoMemory};
@@ -14,13 +15,10 @@ use body_print::name_of_manifest;
 use call_types::{FileKind, Why, Whys};
 use drive_base::{Drive, SetPlan};
 use file_access::{NotGiven, file_on};
-use manifest_file::{Manifest, print_of, read};
+use manifest_file::{LONGEST_FILE, Manifest, print_of, read};
 use register_file::Adds;
 use seal_file::{Damage, FileRead};
 use std::alloc::Global;
-
-/// The greatest length of a manifest's file, in bytes.
-const LONGEST_MANIFEST: u64 = 81_905_578;
 
 /// Looks on every data drive for the manifest of the data that a change adds, and tells of each drive whether its manifest
 /// verifies.
@@ -70,13 +68,13 @@ fn manifest_on<D: Drive>(
     if set.is_out(index) {
         return Err(NotGiven::Because(Why::Lacks(FileKind::Format)));
     }
-    let file = file_on(alloc, disk, FileKind::Manifest, name, LONGEST_MANIFEST)?;
+    let file = file_on(alloc, disk, FileKind::Manifest, name, LONGEST_FILE)?;
     verified(alloc, set, adds.print, file.as_slice())
 }
 
 /// Whether a file is a manifest that verifies.
 fn verified(alloc: Global, set: &SetPlan, print: [u8; 32], file: &[u8]) -> Result<(), NotGiven>
-    requires { length file.now ≤ LONGEST_MANIFEST }
+    requires { length file.now ≤ LONGEST_FILE }
     ensures { LettersOf set.now print file.now result }
 {
     match read(alloc, file) {
@@ -93,7 +91,7 @@ fn verified(alloc: Global, set: &SetPlan, print: [u8; 32], file: &[u8]) -> Resul
 fn checked(set: &SetPlan, print: [u8; 32], manifest: &Manifest, long: u64) -> Result<(), NotGiven>
     requires canonical { IsCanonical manifest.now }
     requires long { long ≡ length (file_of manifest.now) }
-    requires within { long ≤ LONGEST_MANIFEST }
+    requires within { long ≤ LONGEST_FILE }
     ensures { LettersOf set.now print (file_of manifest.now) result }
 {
     let computed = print_of(manifest);

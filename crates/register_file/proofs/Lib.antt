@@ -1,5 +1,5 @@
-pub mod Canonical
-pub mod Injective
-pub mod LawProofs
-pub mod Made
+pub mod Lawful
+pub mod Longest
+pub mod Matching
+pub mod Sizes
 pub mod Texts

@@ -1,13 +1,10 @@
 -- The format of a register's file within its seal: the fields in their order, each with its rule.
-use Rattle.std.specs.Prelude.{ℕ, ◌^◌, List, Option, Some, None, Bool, ◌&&◌, ◌==◌, nat_lt, if◌then◌else◌}
-use Rattle.std.specs.Int.{w8, w32, w64}
+use Rattle.std.specs.Prelude.{ℕ, ◌^◌, List, Bool, ◌&&◌, ◌==◌, nat_lt}
+use Rattle.std.specs.Int.{w32, w64}
 use Rattle.field_reader.specs.Format.{Format, ◌>>=◌, done, field, number, with_rule}
+use Rattle.sealed_record.specs.Fields.{format_number, counted, optional}
 use Rattle.stamp_id.specs.IdField.{id_field}
 use Rattle.register_file.specs.Rows.{StampRow, BaseRow, AddsRow, NextRow, FileRow}
-
--- the one format number
-abbrev pub is_format : ℕ → Bool
-is_format format = format == 1
 
 -- a term is below 2^48
 abbrev pub is_term : ℕ → Bool
@@ -16,10 +13,6 @@ is_term term = nat_lt term (2 ^ 48)
 -- a sequence number is below 2^62
 abbrev pub is_seq : ℕ → Bool
 is_seq seq = nat_lt seq (2 ^ 62)
-
--- 0 where nothing follows, and 1 where a part follows
-abbrev pub is_flag : ℕ → Bool
-is_flag flag = nat_lt flag 2
 
 -- whether the numbers are the same
 abbrev pub is_same_stamp : StampRow → StampRow → Bool
@@ -33,16 +26,8 @@ stamp =
     done (record { term = term; seq = seq })
 
 -- a length of four bytes, and so many bytes
-unfoldable pub content : Format (List ℕ)
-content = number w32 >>= λ size. field size
-
--- a part where the flag is not 0
-abbrev pub part_if : {A : Type 0} → Format A → ℕ → Format (Option A)
-part_if part flag = if flag == 0 then done None else (part >>= λ value. done (Some value))
-
--- a flag, and the part where it is 1
-unfoldable pub optional : {A : Type 0} → Format A → Format (Option A)
-optional part = with_rule is_flag (number w8) >>= λ flag. part_if part flag
+abbrev pub content : Format (List ℕ)
+content = counted w32
 
 -- the ballot, the change and the content of a base
 unfoldable pub base : Format BaseRow
@@ -72,7 +57,7 @@ next parent =
 -- the format of register files
 unfoldable pub register : Format FileRow
 register =
-    with_rule is_format (number w8) >>= λ format.
+    format_number >>= λ format.
     base >>= λ base.
     optional (next base.change) >>= λ next.
     done (record { base = base; next = next })

@@ -1,6 +1,6 @@
-pub mod Answers
 pub mod Layout
-pub mod Laws
+pub mod Lengths
 pub mod Record
 pub mod Rows
 pub mod Spelling
+pub mod Table

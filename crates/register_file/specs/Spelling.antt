@@ -1,8 +1,9 @@
 -- The one spelling of each record. Numbers are big-endian.
-use Rattle.std.specs.Prelude.{ℕ, List, [], ◌∷◌, ◌++◌, length, Option, Some, None, codes}
+use Rattle.std.specs.Prelude.{ℕ, List, [], ◌∷◌, codes}
 use Rattle.std.specs.Int.{w8, w32, w64}
 use Rattle.field_reader.specs.Spelling.{number_bytes, joined}
 use Rattle.seal_file.specs.Sealing.{sealed}
+use Rattle.sealed_record.specs.Fields.{counted_bytes, optional_bytes}
 use Rattle.register_file.specs.declared.record.RegFile.{RegFile}
 use Rattle.register_file.specs.Rows.{StampRow, BaseRow, AddsRow, NextRow, FileRow, row_of}
 
@@ -12,12 +13,7 @@ stamp_bytes stamp = joined (number_bytes w64 stamp.term ∷ number_bytes w64 sta
 
 -- a content: its length, and its bytes
 abbrev pub content_bytes : List ℕ → List ℕ
-content_bytes content = number_bytes w32 (length content) ++ content
-
--- a part that may be missing: a flag, and the part where there is one
-abbrev pub optional_bytes : {A : Type 0} → (A → List ℕ) → Option A → List ℕ
-optional_bytes part None = number_bytes w8 0
-optional_bytes part (Some value) = number_bytes w8 1 ++ part value
+content_bytes content = counted_bytes w32 content
 
 -- the fields of a base
 abbrev pub base_bytes : BaseRow → List ℕ

@@ -1,19 +1,19 @@
-//! Records as files.
+//! Putting the fields of a record.
 
-ghost use Rattle.std.specs.Prelude.{◌≡◌, ◌+◌, ◌^◌, ◌<◌, ◌++◌, length, OnOk, IfOk};
+ghost use Rattle.std.specs.Prelude.{◌≡◌, ◌+◌, ◌^◌, ◌<◌, ◌++◌, length, OnOk};
 ghost use Rattle.std.specs.Option.{option_map};
+ghost use Rattle.sealed_record.specs.Fields.{optional_bytes};
 ghost use Rattle.register_file.specs.Rows.{ballot_row, change_row, base_row, adds_row, next_row};
-ghost use Rattle.register_file.specs.Spelling.{stamp_bytes, content_bytes, optional_bytes, base_bytes, adds_bytes, next_bytes, spelling, file_of};
-ghost use Rattle.register_file.specs.Record.{IsContent, MayFollow, IsCanonicalNext, IsCanonical};
+ghost use Rattle.register_file.specs.Spelling.{stamp_bytes, content_bytes, base_bytes, adds_bytes, next_bytes, spelling};
+ghost use Rattle.register_file.specs.Record.{IsContent, IsCanonical};
 ghost use Rattle.register_file.specs.declared.record.Adds.{Adds};
 ghost use Rattle.register_file.specs.declared.record.Next.{Next};
 
-use crate::record::{Adds, Base, KIND, Next, RegFile};
+use crate::record::{Adds, Base, Next, RegFile};
 use field_reader::{put_bytes, put_u8, put_u32, put_u64};
-use seal_file::{Bytes, seal};
-use fault_base::NoMemory;
+use seal_file::Bytes;
 use stamp_id::Ballot;
-use std::alloc::{AllocError, Global};
+use std::alloc::AllocError;
 
 /// Appends a ballot, or that of a change.
 fn put_ballot(out: &mut Vec<u8>, ballot: Ballot) -> Result<(), AllocError>
@@ -95,37 +95,25 @@ fn next_size(file: &RegFile) -> usize
 
 /// The bytes of the spelling of a record.
 #[tactic(auto, unfolding(field_reader::specs::Spelling::number_bytes))]
-fn spelling_size(file: &RegFile) -> usize
+pub(crate) fn spelling_size(file: &RegFile) -> usize
     requires { IsCanonical file.now }
     ensures { result ≡ length (spelling file.now) }
 {
     BASE_BYTES + file.base.content.len() + next_size(file)
 }
 
-/// The spelling of a record.
-fn spell(alloc: Global, file: &RegFile) -> Result<Vec<u8>, AllocError>
+/// Appends the spelling of a record.
+pub(crate) fn put_record(out: &mut Vec<u8>, file: &RegFile) -> Result<(), AllocError>
     requires { IsCanonical file.now }
-    ensures { IfOk result (λ body. body.items ≡ spelling file.now) }
+    ensures { OnOk result (out.new.items ≡ out.old.items ++ spelling file.now) }
 {
-    let mut out = Vec::with_capacity(alloc, spelling_size(file))?;
-    put_u8(&mut out, 1)?;
-    put_base(&mut out, &file.base)?;
+    put_u8(out, 1)?;
+    put_base(out, &file.base)?;
     match &file.next {
-        None => put_u8(&mut out, 0)?,
+        None => put_u8(out, 0),
         Some(next) => {
-            put_u8(&mut out, 1)?;
-            put_next(&mut out, next)?;
+            put_u8(out, 1)?;
+            put_next(out, next)
         }
     }
-    Ok(out)
-}
-
-/// The file of a record: its spelling, sealed with the kind `OREG`. Want of memory is the only error.
-pub fn write(alloc: Global, file: &RegFile) -> Result<Vec<u8>, NoMemory>
-    // The next's parent is the base's change, and each content has fewer than 2^32 bytes.
-    requires { IsCanonical file.now }
-    ensures { IfOk result (λ bytes. bytes.items ≡ file_of file.now) }
-{
-    let body = spell(alloc, file)?;
-    seal(alloc, KIND, body.as_slice())
 }

@@ -1,6 +1,7 @@
 use Rattle.std.proofs.Common.{ℕ, List}
 use Rattle.std.specs.Global.{Vec}
 use Rattle.std.proofs.lemmas.Result.{err_from_is_err_and}
+use Rattle.field_reader.specs.declared.fault.ReadFault.TheVariants.{At}
 use Rattle.field_reader.specs.Format.{Format, field}
 use Rattle.field_reader.proofs.Series.{begins, goes_on, stops, is_done}
 use Rattle.manifest_file.specs.Layout.{roots}
@@ -17,7 +18,7 @@ pub returns-in_err-root : goal.returns-in_err-root
 returns-in_err-root c =
     let p = err_from_is_err_and c.from_residual.result c.from_residual.ensures.1 in
     let after = c.take_bytes.new.self in
-    rw (p.1, p.2) (stops (λ (bytes : List ℕ). bytes) (λ (rs : Vec (List ℕ)). rs.items) c.in_err-root.field-0.0 after after root c.loop.roots.items
+    rw (p.1, p.2) (stops (λ (bytes : List ℕ). bytes) (λ (rs : Vec (List ℕ)). rs.items) (At c.in_err-root.field-0.0.0) after after root c.loop.roots.items
     c.args.drives c.loop.counter c.loop.fields (roots c.args.drives c.args.fields.now) c.loop-test.true c.in_err-root.ensures.taken c.loop.invariant)
 
 pub loop-preserved : goal.loop-preserved

@@ -5,7 +5,8 @@ use Rattle.drive_base.specs.Plan.{data_drives, write_drives}
 use Rattle.register_file.specs.declared.record.RegFile.{RegFile}
 use Rattle.register_core.specs.Found.{Concludes, content_of, found_at}
 use Rattle.register_core.specs.Looking.{LanesAreRead, Looks, MayForward}
-use Rattle.register_core.specs.Records.{longest_file, settled_file}
+use Rattle.register_file.specs.Lengths.{longest_file}
+use Rattle.register_core.specs.Records.{settled_file}
 use Rattle.register_core.specs.declared.faults.QuorumFault.{QuorumFault}
 use Rattle.register_core.specs.declared.looked.Looked.{Looked}
 use Rattle.register_core.proofs.ConcludingLemmas.{err_is}

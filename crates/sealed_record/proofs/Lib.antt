@@ -1,0 +1,5 @@
+pub mod ByteLemmas
+pub mod Chains
+pub mod FieldProofs
+pub mod LawProofs
+pub mod Rows
