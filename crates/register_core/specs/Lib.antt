@@ -13,3 +13,4 @@ pub mod Proposing
 pub mod Reads
 pub mod Records
 pub mod Seen
+pub mod Serving

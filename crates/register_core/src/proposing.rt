@@ -2,6 +2,9 @@
 
 ghost use Rattle.std.specs.Prelude.{◌≡◌, ◌+◌, ◌<◌, ◌≤◌, ◌^◌, ℕ, List, length, string_bytes, string_len};
 ghost use Rattle.std.specs.Int.{IsBitSet};
+ghost use Rattle.std.specs.Result.{IsOk};
+ghost use Rattle.drive_base.specs.DriveSet.{count_in};
+ghost use Rattle.drive_base.specs.Plan.{write_drives};
 ghost use Rattle.register_file.specs.declared.record.Base.{Base};
 ghost use Rattle.register_file.specs.declared.record.Next.{Next};
 ghost use Rattle.vote_core.specs.Lane.{Lane};
@@ -10,6 +13,7 @@ ghost use Rattle.register_core.specs.Loops.{KeepsDrives, TellsStay, CountsRise};
 ghost use Rattle.register_core.specs.Records.{marked_base};
 ghost use Rattle.register_core.specs.OnLanes.{AllTell, AreLanes, AreUnused};
 ghost use Rattle.register_core.specs.Proposing.{Proposes, ProposeKeeps, Marks, MarkKeeps};
+ghost use Rattle.register_core.specs.Serving.{AllServe};
 
 use crate::drafts::Draft;
 use crate::faults::QuorumFault;
@@ -42,6 +46,8 @@ pub fn propose<D: Drive>(
     requires named { string_len draft.now.name ≤ 1129 }
     requires room { count.old + draft.now.set.drives < 2 ^ 64 }
     ensures outcome { Proposes D.tells D.files D.count draft.now out term count.old count.new result lanes.old lanes.new }
+    ensures enough { (serving : ℕ) → AllServe D.tells D.count out serving draft.now.letters lanes.old lanes.new
+        → write_drives draft.now.set.drives draft.now.set.parity ≤ count_in serving draft.now.set.drives → IsOk result }
     ensures keeps { (base : Base) (next : Next) (recorded : List Lane) → IsDraftOf draft.now base next
         → AllTell D.tells out lanes.old → AreUnused D.files out term count.old lanes.old → AreLanes D.files out (string_bytes draft.now.name) lanes.old recorded
         → ProposeKeeps D.tells D.files D.count draft.now out base next result lanes.new recorded }
@@ -84,6 +90,8 @@ pub fn mark<D: Drive>(
     requires named { string_len draft.old.name ≤ 1129 }
     requires room { count.old + draft.old.set.drives < 2 ^ 64 }
     ensures outcome { Marks D.tells D.files D.count draft.old prepared term count.old count.new result draft.new lanes.old lanes.new }
+    ensures enough { (serving : ℕ) → AllServe D.tells D.count prepared.out serving prepared.whys lanes.old lanes.new
+        → write_drives draft.old.set.drives draft.old.set.parity ≤ count_in serving draft.old.set.drives → IsOk result }
     ensures keeps { (next : Next) (recorded : List Lane) → EndsAt draft.old (marked_base next)
         → AllTell D.tells prepared.out lanes.old → AreUnused D.files prepared.out term count.old lanes.old
         → AreLanes D.files prepared.out (string_bytes draft.old.name) lanes.old recorded
