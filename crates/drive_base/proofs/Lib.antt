@@ -1,3 +1,4 @@
 pub mod HonestLemmas
+pub mod PageLemmas
 pub mod SetLemmas
 pub mod ViewLemmas

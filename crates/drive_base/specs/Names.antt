@@ -26,7 +26,7 @@ pub record IsPage (from : List ℕ) (most longest : ℕ) (names : List (List ℕ
   pub short : All (λ name. length name ≤ longest) names
 
 -- the page shows files that are shown, and leaves out a shown name only where it is full and ends before that name
-pub record ListsShown (shown : Named (List ℕ)) (from : List ℕ) (most longest : ℕ) (names : List (List ℕ)) : Type 0 where
+pub record ListsShown {T : Type 0} (shown : Named T) (from : List ℕ) (most longest : ℕ) (names : List (List ℕ)) : Type 0 where
   pub shows : All (λ name. IsSome (shown name)) names
   pub complete : (name : List ℕ) → IsSome (shown name) → byte_order name from ≢ Less → length name ≤ longest
       → Contains names name ⊎ ((length names ≡ most) × All (λ given. IsBefore given name) names)

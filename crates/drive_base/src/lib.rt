@@ -15,6 +15,7 @@
 mod drive;
 mod drive_set;
 mod fault;
+mod listing;
 mod plan;
 #[cfg(test)]
 mod tests;
@@ -24,6 +25,7 @@ mod views;
 pub use drive::{Drive, LONGEST_NAME};
 pub use drive_set::{DriveSet, drive_set_laws};
 pub use fault::DriveFault;
+pub use listing::page;
 pub use plan::{MOST_DRIVES, SetPlan, usual_parity};
 pub use trouble::Trouble;
 pub use views::view_laws;

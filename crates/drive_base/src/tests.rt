@@ -5,6 +5,7 @@ ghost use Rattle.drive_base.specs.Files.{no_files};
 
 use super::*;
 use std::alloc::Global;
+use std::collections::BTreeMap;
 use std::test::Fail;
 
 /// A drive that tells nothing and answers what it likes.
@@ -176,5 +177,18 @@ fn a_mask_names_the_drives_that_are_out(rt: HostRuntime) -> Result<(), Fail> {
         ],
         [false, true, false, true]
     );
+    Ok(())
+}
+
+#[test]
+fn a_page_has_the_keys_from_some_bytes_on(rt: HostRuntime) -> Result<(), Fail> {
+    let mut files = BTreeMap::new(rt.alloc());
+    for name in ["b", "a", "ab"] {
+        files.insert(String::from_str(rt.alloc(), name)?, 0u8)?;
+    }
+    let names = page(rt.alloc(), &files, "aa", 9)?;
+    assert_eq!(rt; names.len(), 2);
+    assert!(rt; names[0].as_str() == "ab" && names[1].as_str() == "b");
+    assert_eq!(rt; page(rt.alloc(), &files, "", 1)?.len(), 1);
     Ok(())
 }

@@ -6,5 +6,6 @@ pub mod Fuses
 pub mod Gates
 pub mod Maps
 pub mod MemDrive
-pub mod Page
 pub mod Reads
+pub mod Scripted
+pub mod Troubles

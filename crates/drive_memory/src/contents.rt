@@ -11,9 +11,9 @@ ghost use Rattle.drive_memory.specs.Does.{AppendDoes, SyncDoes, RenameDoes, Disc
 ghost use Rattle.drive_memory.specs.Reads.{ReadShows};
 
 use crate::loose::{self, Loose};
+use crate::maps;
 use crate::placed::PlacedFile;
-use crate::{maps, page};
-use drive_base::{DriveFault, LONGEST_NAME};
+use drive_base::{DriveFault, LONGEST_NAME, page};
 use std::alloc::{AllocError, Global};
 use std::collections::BTreeMap;
 
@@ -133,7 +133,8 @@ impl Contents {
         ensures page { IfOk result (λ names. IsPage from.now most LONGEST_NAME (map string_bytes names.items)) }
         ensures shown { IfOk result (λ names. ListsShown (held_files self.now).shown from.now most LONGEST_NAME (map string_bytes names.items)) }
     {
-        page::page(alloc, &self.placed, from, most)
+        let names = page(alloc, &self.placed, from, most)?;
+        Ok(names)
     }
 
     /// Turns each bit of one shown byte round, and answers whether that byte is there.

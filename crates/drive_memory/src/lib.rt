@@ -21,12 +21,13 @@ mod faults;
 mod fuse;
 mod loose;
 mod maps;
-mod page;
 mod placed;
+mod scripted;
 #[cfg(test)]
 mod tests;
 mod troubles;
 
 pub use drive::MemDrive;
 pub use fuse::Fuse;
+pub use scripted::{Calls, Script, ScriptedDrive, Voice};
 pub use troubles::{Back, Hurt, Lose};

@@ -8,6 +8,7 @@ use drive_base::{Drive, DriveFault, LONGEST_NAME};
 use std::alloc::{AllocError, Global};
 use std::test::Fail;
 
+mod scripted;
 mod troubles;
 
 /// A drive as a caller at this very type sees it.
@@ -151,5 +152,17 @@ fn a_file_that_was_not_synced_is_zeros(rt: HostRuntime) -> Result<(), Fail> {
     drive.append("w1", b"c")?;
     drive.rename("w1", "a")?;
     assert_eq!(rt; read_four(&mut drive, "a", 0), Some((3, [0, 0, 0, b'-'])));
+    Ok(())
+}
+
+/// A value that another thread may have.
+fn sent<T: Send>(value: T) -> T {
+    value
+}
+
+#[test]
+fn a_drive_may_go_to_another_thread(rt: HostRuntime) -> Result<(), Fail> {
+    let mut drive = sent(MemDrive::new(rt.alloc()));
+    assert_eq!(rt; drive.size("a").err(), Some(DriveFault::Absent));
     Ok(())
 }

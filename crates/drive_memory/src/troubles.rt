@@ -1,9 +1,6 @@
 //! What befalls a memory drive, for holders of any drive.
 
-ghost use Rattle.std.specs.Prelude.{◌≡◌, true, false, None, Some};
-ghost use Rattle.std.specs.String.{string_bytes};
-ghost use Rattle.drive_memory.specs.Damage.{HurtLeaves};
-ghost use Rattle.drive_memory.specs.MemDrive.{files_of, starved_count, fault_count, is_lost, fuse_of};
+ghost use Rattle.drive_memory.specs.Troubles.{LoseDoes, BackDoes, HurtDoes, FuseDoes};
 
 use crate::{Fuse, MemDrive};
 use drive_base::Trouble;
@@ -26,14 +23,11 @@ pub struct Hurt {
 }
 
 impl Trouble<MemDrive> for Lose {
+    ghost befalls = { λ _. LoseDoes };
+
     /// It always strikes.
     fn strike(&mut self, drive: &mut MemDrive) -> bool
-        ensures strikes { result ≡ true }
-        ensures lost { is_lost drive.new ≡ true }
-        ensures files { files_of drive.new ≡ files_of drive.old }
-        ensures fuse { fuse_of drive.new ≡ fuse_of drive.old }
-        ensures faults { fault_count drive.new ≡ fault_count drive.old }
-        ensures starved { starved_count drive.new ≡ starved_count drive.old }
+        ensures { LoseDoes drive.old result drive.new }
     {
         drive.lose();
         true
@@ -41,14 +35,11 @@ impl Trouble<MemDrive> for Lose {
 }
 
 impl Trouble<MemDrive> for Back {
+    ghost befalls = { λ _. BackDoes };
+
     /// It always strikes.
     fn strike(&mut self, drive: &mut MemDrive) -> bool
-        ensures strikes { result ≡ true }
-        ensures present { is_lost drive.new ≡ false }
-        ensures files { files_of drive.new ≡ files_of drive.old }
-        ensures fuse { fuse_of drive.new ≡ None }
-        ensures faults { fault_count drive.new ≡ fault_count drive.old }
-        ensures starved { starved_count drive.new ≡ starved_count drive.old }
+        ensures { BackDoes drive.old result drive.new }
     {
         drive.back();
         true
@@ -56,27 +47,22 @@ impl Trouble<MemDrive> for Back {
 }
 
 impl Trouble<MemDrive> for Hurt {
+    ghost befalls = { HurtDoes };
+
     /// It strikes where that byte is there.
     fn strike(&mut self, drive: &mut MemDrive) -> bool
-        ensures files { HurtLeaves (files_of drive.old) (string_bytes self.old.name) self.old.place result (files_of drive.new) }
-        ensures loss { is_lost drive.new ≡ is_lost drive.old }
-        ensures fuse { fuse_of drive.new ≡ fuse_of drive.old }
-        ensures faults { fault_count drive.new ≡ fault_count drive.old }
-        ensures starved { starved_count drive.new ≡ starved_count drive.old }
+        ensures { HurtDoes self.old drive.old result drive.new }
     {
         drive.hurt(self.name.as_str(), self.place)
     }
 }
 
 impl Trouble<MemDrive> for Fuse {
+    ghost befalls = { FuseDoes };
+
     /// It always strikes.
     fn strike(&mut self, drive: &mut MemDrive) -> bool
-        ensures strikes { result ≡ true }
-        ensures fuse { fuse_of drive.new ≡ Some self.old }
-        ensures loss { is_lost drive.new ≡ is_lost drive.old }
-        ensures files { files_of drive.new ≡ files_of drive.old }
-        ensures faults { fault_count drive.new ≡ fault_count drive.old }
-        ensures starved { starved_count drive.new ≡ starved_count drive.old }
+        ensures { FuseDoes self.old drive.old result drive.new }
     {
         drive.fuse(self.calls, self.late);
         true

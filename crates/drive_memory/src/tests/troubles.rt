@@ -1,16 +1,26 @@
 //! What fuses, damage and stops leave, as later calls show it.
 
+ghost use Rattle.std.specs.Prelude.{◌≡◌, true};
+ghost use Rattle.drive_memory.specs.MemDrive.{files_of, is_lost};
+
 use super::{place, read_four};
 use crate::{Back, Fuse, Hurt, Lose, MemDrive};
 use drive_base::{Drive, DriveFault, Trouble};
 use std::test::Fail;
 
-/// Whether a trouble strikes, as a holder of some drive finds it.
-fn strikes<D: Drive, T: Trouble<D>>(drive: &mut D, mut trouble: T) -> bool
-where
-    T: Drop,
+/// Strikes a drive, as a holder of some drive does, and hands on what that did.
+fn hold<D: Drive, T: Trouble<D>>(drive: &mut D, trouble: &mut T) -> bool
+    ensures { T.befalls trouble.old drive.old result drive.new }
 {
     trouble.strike(drive)
+}
+
+/// Loses a drive through its holder, which says that it is lost and shows what it showed.
+fn lose_held(drive: &mut MemDrive) -> bool
+    ensures lost { is_lost drive.new ≡ true }
+    ensures shown { (files_of drive.new).shown ≡ (files_of drive.old).shown }
+{
+    hold(drive, &mut Lose)
 }
 
 /// Which calls of a change of `a` to `new` succeed; each is tried.
@@ -156,9 +166,9 @@ fn damage_shows_until_the_name_is_written(rt: HostRuntime) -> Result<(), Fail> {
 fn troubles_reach_a_drive_through_the_trait(rt: HostRuntime) -> Result<(), Fail> {
     let mut drive = MemDrive::new(rt.alloc());
     place(&mut drive, "a", b"abc")?;
-    assert!(rt; strikes(&mut drive, Lose));
+    assert!(rt; lose_held(&mut drive));
     assert!(rt; drive.is_lost());
-    assert!(rt; strikes(&mut drive, Back));
+    assert!(rt; hold(&mut drive, &mut Back));
     assert_eq!(rt; drive.size("a").ok(), Some(3));
     let at = |place| -> Result<Hurt, Fail> {
         Ok(Hurt {
@@ -166,20 +176,16 @@ fn troubles_reach_a_drive_through_the_trait(rt: HostRuntime) -> Result<(), Fail>
             place,
         })
     };
-    assert!(rt; strikes(&mut drive, at(0)?));
-    assert!(rt; !strikes(&mut drive, at(3)?));
+    assert!(rt; hold(&mut drive, &mut at(0)?));
+    assert!(rt; !hold(&mut drive, &mut at(3)?));
     assert_eq!(rt; read_four(&mut drive, "a", 0), Some((3, *b"\x9ebc-")));
-    assert!(rt;
-        strikes(
-            &mut drive,
-            Fuse {
-                calls: 0,
-                late: true
-            }
-        )
-    );
+    let mut fuse = Fuse {
+        calls: 0,
+        late: true,
+    };
+    assert!(rt; hold(&mut drive, &mut fuse));
     assert_eq!(rt; drive.remove("a").err(), Some(DriveFault::Failed));
-    assert!(rt; strikes(&mut drive, Back));
+    assert!(rt; hold(&mut drive, &mut Back));
     assert_eq!(rt; drive.remove("a").err(), Some(DriveFault::Absent));
     Ok(())
 }
