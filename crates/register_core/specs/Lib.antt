@@ -1,3 +1,4 @@
+pub mod Calling
 pub mod Contents
 pub mod Drafts
 pub mod Found

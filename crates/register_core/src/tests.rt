@@ -1,5 +1,6 @@
 //! Registers over memory drives: worked stories of a set, and a change under every fuse.
 
+mod caller;
 mod fuses;
 mod mends;
 mod rows;
@@ -8,12 +9,16 @@ ghost use Rattle.std.specs.Prelude.{◌<◌, ◌≤◌, None, IfOk, length};
 ghost use Rattle.register_file.specs.Record.{IsContent, IsCanonicalNext};
 
 use super::*;
+use caller::{Place, settle};
+use body_print::name_of_manifest;
 use call_types::{FileKind, Why, Whys};
 use drive_base::{DriveSet, SetPlan};
 use drive_memory::MemDrive;
-use put_stage::stage_whole;
+use fault_base::NoMemory;
+use file_access::write_file;
+use manifest_file::{KIND, print_of, read};
 use register_file::{Adds, Base, Next};
-use seal_file::{Bytes, Damage};
+use seal_file::{Bytes, Damage, seal};
 use stamp_id::{Ballot, ChangeId, VersionId};
 use std::alloc::{AllocError, Global};
 use std::process::Abort;
@@ -75,6 +80,18 @@ fn fresh_world(alloc: Global, parity: u8) -> Result<World, AllocError>
     })
 }
 
+/// The file of the manifest of data of one byte on four drives, whose shards have some root.
+fn manifest_of(alloc: Global, id: VersionId, parity: u8) -> Result<Vec<u8>, NoMemory> {
+    let mut body = Vec::new(alloc);
+    body.extend_from_slice(&[1, 0, 7])?;
+    body.extend_from_slice(NAME.as_bytes())?;
+    body.extend_from_slice(&[4, parity, 0, 1])?;
+    body.extend_from_slice(&id.bytes())?;
+    body.extend_from_slice(&[0, 0, 0, 0, 0, 0, 0, 1])?;
+    body.extend_from_slice(&[7; 128])?;
+    seal(alloc, KIND, body.as_slice())
+}
+
 impl World {
     /// Draws a number of term 1.
     fn draw(&mut self, rt: &impl Abort) -> Result<Ballot, Fail> {
@@ -86,19 +103,24 @@ impl World {
         })
     }
 
-    /// Begins a put: draws its change, and stages a body on the data drives.
-    fn begin(&mut self, rt: &impl Abort, body: &[u8]) -> Result<Adds, Fail> {
+    /// Begins a put: draws its change, and writes the manifest of its data on the data drives.
+    fn begin(&mut self, rt: &impl Abort) -> Result<Adds, Fail> {
         let change = self.draw(rt)?;
         assert!(rt; change.term >= 1);
         assert!(rt; change.seq >= 1);
         let id = VersionId::from_parts(ChangeId(change), 38);
-        assert!(rt; self.disks.len() == self.set.drives as usize);
-        assert!(rt; body.len() <= 100);
-        let disks = self.disks.as_mut_slice();
-        let staged = stage_whole(self.alloc, self.set, id, NAME, body, None, disks);
+        let file = manifest_of(self.alloc, id, self.set.parity)?;
+        let Ok(manifest) = read(self.alloc, file.as_slice()) else {
+            return Err(Fail::new("it is no manifest"));
+        };
+        let name = name_of_manifest(self.alloc, id)?;
+        assert!(rt; name.len() <= 1129);
+        for disk in self.disks.iter_mut() {
+            let _ = write_file(disk, FileKind::Manifest, "t", name.as_str(), file.as_slice());
+        }
         Ok(Adds {
             id,
-            print: staged?.print,
+            print: print_of(&manifest),
         })
     }
 
@@ -184,17 +206,20 @@ impl World {
 
     /// Reads the register's value, and completes first what is pending.
     fn get(&mut self, rt: &impl Abort) -> Result<Result<Base, QuorumFault>, Fail> {
-        let looked = match self.look(rt)? {
-            Ok(looked) => looked,
-            Err(fault) => return Ok(Err(fault)),
+        let ballot = self.draw(rt)?;
+        assert!(rt; self.lanes.len() == self.set.drives as usize);
+        assert!(rt; self.disks.len() == self.set.drives as usize);
+        assert!(rt; self.count <= 1_000_000);
+        let at = Place {
+            name: NAME,
+            set: self.set,
+            out: DriveSet::none(),
+            term: 1,
         };
-        match &looked.pending {
-            None => Ok(Ok(looked.base)),
-            Some(_) => match self.forward(rt, &looked)? {
-                Ok(draft) => Ok(Ok(draft.value)),
-                Err(fault) => Ok(Err(fault)),
-            },
-        }
+        let lanes = self.lanes.as_mut_slice();
+        let disks = self.disks.as_mut_slice();
+        let count = &mut self.count;
+        Ok(settle(self.alloc, lanes, disks, &at, &mut Anything, ballot, count))
     }
 
     /// Commits a put, and completes first what is pending. Answers the letters of the mark.
@@ -229,7 +254,7 @@ impl World {
 
     /// Puts a body, from its staging to its commit, and answers the refusal, if any.
     fn put_all(&mut self, rt: &impl Abort, body: &[u8]) -> Result<Option<QuorumFault>, Fail> {
-        let adds = self.begin(rt, body)?;
+        let adds = self.begin(rt)?;
         Ok(self.put(rt, adds, body)?.err())
     }
 

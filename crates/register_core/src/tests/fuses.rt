@@ -13,7 +13,7 @@ fn keeps_its_word(
 ) -> Result<bool, Fail> {
     let mut world = fresh_world(alloc, 2)?;
     assert_eq!(rt; world.put_all(rt, b"old")?, None);
-    let adds = world.begin(rt, b"new")?;
+    let adds = world.begin(rt)?;
     for index in 0..4usize {
         if lanes[index] {
             world.fuse(rt, index, calls, late);
@@ -68,7 +68,7 @@ fn a_write_makes_three_calls(rt: HostRuntime) -> Result<(), Fail> {
     // One call of the look, three of the prepare and three of the mark.
     for (calls, good) in [(6u64, false), (7, true)] {
         let mut world = fresh_world(rt.alloc(), 2)?;
-        let adds = world.begin(&rt, b"new")?;
+        let adds = world.begin(&rt)?;
         world.fuse(&rt, 0, calls, false);
         let whys = world.put(&rt, adds, b"new")??;
         assert!(rt; whys.len() == 4);

@@ -52,7 +52,7 @@ fn a_mend_leaves_a_lane_that_fails_and_one_that_is_out(rt: HostRuntime) -> Resul
 #[test]
 fn a_change_that_was_completed_is_mended_by_its_own_draft(rt: HostRuntime) -> Result<(), Fail> {
     let mut world = fresh_world(rt.alloc(), 2)?;
-    let adds = world.begin(&rt, b"hello")?;
+    let adds = world.begin(&rt)?;
     // Lanes 0 to 2 are prepared, and no lane is marked.
     for (index, calls) in [(0usize, 4u64), (1, 4), (2, 4), (3, 1)] {
         world.fuse(&rt, index, calls, false);
