@@ -1,5 +1,5 @@
 -- Lanes that serve have good letters, and these are counted.
-use Rattle.std.proofs.Common.{◌≡◌, ◌≢◌, ◌⊎◌, ◌<◌, ◌≤◌, ◌+◌, ℕ, suc, zero, ◌^◌, ◌∙◌, List, [], ◌∷◌, Option, None, Some, length, sym, ap, subst, inl, inr, arith, refl, cond, nat_lt, bit_and, lit<}
+use Rattle.std.proofs.Common.{◌≡◌, ◌≢◌, ◌⊎◌, ◌<◌, ◌≤◌, ◌+◌, ℕ, suc, zero, ◌^◌, ◌∙◌, List, [], ◌∷◌, Option, None, Some, length, sym, ap, subst, inl, inr, arith, refl, cond, nat_lt, bit_and}
 use Rattle.std.specs.Prelude.{Bool, true, false, IsTrue, ◌↔◌, count_by, slice_index_or}
 use Rattle.std.specs.Int.{IsBitSet}
 use Rattle.std.specs.List.{range_with_len}
@@ -141,16 +141,16 @@ pub good_letters_count : (set : ℕ) (whys : List Why) → ((k : ℕ) → k < le
 good_letters_count set whys good = good_from set whys 0 (λ k low bit. let same : 0 + k ≡ k = omega arith in good k low (subst (IsBitSet set) same bit))
 
 -- the record of a lane that keeps no file
-zero_ballot : Ballot
-zero_ballot = record { term = 0; seq = 0; term_fits = lit<; seq_fits = lit< }
+abbrev zero_ballot : Ballot
+zero_ballot = record { term = 0; seq = 0; term_fits = omega arith; seq_fits = omega arith }
 
-blank_record : RegFile
+abbrev blank_record : RegFile
 blank_record = record { base = record { ballot = zero_ballot; change = record { 0 = zero_ballot }; content = [] }; next = None }
 
 pub no_file_is_blank : (lane : Lane) → HasLane None lane ↔ (lane ≡ blank_lane)
 no_file_is_blank lane = (
   λ has. has.3 ∙ has.2,
-  λ same. (blank_record, record { base = lit<; next = tt }, refl, same),
+  λ same. (blank_record, record { base = omega arith; next = tt }, refl, same),
 )
 
 -- why a write to a lane that serves didn't fail

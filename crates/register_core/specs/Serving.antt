@@ -21,9 +21,9 @@ pub record IsWithin (longest : ℕ) (lane : Lane) : Type 0 where
 
 -- a lane that is in use, tells what it holds, had no fault, and shows what it keeps, a record whose contents are not too long, has a good letter
 abbrev pub ServingLaneIsRead : Type 0
-ServingLaneIsRead = (longest : ℕ) (name : List ℕ) (read : Option RegFile) (why : Why) (out : Type 0) (tells : Bool) (files : Files) (old new : ℕ) (lane : Lane)
-    → LaneIsRead (longest_file longest) name read why out tells files old new
-    → ¬ out → IsTrue tells → ¬ Rose old new → files.shown name ≡ files.kept name → HasLane (files.kept name) lane → IsWithin longest lane
+ServingLaneIsRead = (longest out k : ℕ) (name : List ℕ) (read : Option RegFile) (why : Why) (tells : Bool) (files : Files) (old new : ℕ) (lane : Lane)
+    → LaneIsRead (longest_file longest) name read why (IsBitSet out k) tells files old new
+    → ¬ IsBitSet out k → IsTrue tells → ¬ Rose old new → files.shown name ≡ files.kept name → HasLane (files.kept name) lane → IsWithin longest lane
     → why ≡ Good
 
 -- lanes of a set that all have a good letter are no more than the good letters
