@@ -13,6 +13,7 @@ use Rattle.field_reader.proofs.Parts.{IsSpelled, told_spelled}
 use Rattle.field_reader.proofs.Series.{Kept}
 use Rattle.field_reader.proofs.Chains.{itself, bytes_kept}
 
+-- none, bytes that each fit, and bytes after bytes
 pub bytes-none : IsBytes []
 bytes-none i = omega arith
 

@@ -16,6 +16,7 @@ format_number = with_rule is_format (number w8)
 unfoldable pub counted : Width → Format (List ℕ)
 counted w = number w >>= λ size. field size
 
+-- bytes behind their length
 abbrev pub counted_bytes : Width → List ℕ → List ℕ
 counted_bytes w bytes = number_bytes w (length bytes) ++ bytes
 
@@ -35,6 +36,7 @@ part_if part flag = if flag == 0 then done None else (part >>= λ value. done (S
 unfoldable pub optional : {A : Type 0} → Format A → Format (Option A)
 optional part = flag_number >>= λ flag. part_if part flag
 
+-- the flag 0, or the flag 1 and the part
 abbrev pub optional_bytes : {A : Type 0} → (A → List ℕ) → Option A → List ℕ
 optional_bytes part None = number_bytes w8 0
 optional_bytes part (Some value) = number_bytes w8 1 ++ part value
