@@ -1,3 +1,4 @@
+pub mod CallingLemmas
 pub mod ConcludingLemmas
 pub mod EachLemmas
 pub mod FindsLemmas

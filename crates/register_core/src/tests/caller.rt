@@ -43,6 +43,7 @@ pub fn write_both<D: Drive>(
     ensures wrote { (base : Base) (next : Next) (recorded : List Lane) → IsDraftOf draft.old base next → AllTell D.tells out lanes.old
         → AreUnused D.files out term count.old lanes.old → AreLanes D.files out (string_bytes draft.old.name) lanes.old recorded
         → WroteBoth D.tells D.files draft.old out term count.new base next result lanes.new recorded }
+    ensures value { draft.new.value ≡ draft.old.value }
 {
     let prepared = match propose(lanes, out, draft, term, count) {
         Ok(prepared) => prepared,
