@@ -1,4 +1,3 @@
-pub mod CallingLemmas
 pub mod ConcludingLemmas
 pub mod EachLemmas
 pub mod FindsLemmas

@@ -1,4 +1,3 @@
-pub mod Calling
 pub mod Contents
 pub mod Drafts
 pub mod Found

@@ -1,6 +1,5 @@
 //! Registers over memory drives: worked stories of a set, and a change under every fuse.
 
-mod caller;
 mod fuses;
 mod mends;
 mod rows;
@@ -9,7 +8,6 @@ ghost use Rattle.std.specs.Prelude.{◌<◌, ◌≤◌, None, IfOk, length};
 ghost use Rattle.register_file.specs.Record.{IsContent, IsCanonicalNext};
 
 use super::*;
-use caller::{Place, settle};
 use body_print::name_of_manifest;
 use call_types::{FileKind, Why, Whys};
 use drive_base::{DriveSet, SetPlan};
@@ -206,20 +204,17 @@ impl World {
 
     /// Reads the register's value, and completes first what is pending.
     fn get(&mut self, rt: &impl Abort) -> Result<Result<Base, QuorumFault>, Fail> {
-        let ballot = self.draw(rt)?;
-        assert!(rt; self.lanes.len() == self.set.drives as usize);
-        assert!(rt; self.disks.len() == self.set.drives as usize);
-        assert!(rt; self.count <= 1_000_000);
-        let at = Place {
-            name: NAME,
-            set: self.set,
-            out: DriveSet::none(),
-            term: 1,
+        let looked = match self.look(rt)? {
+            Ok(looked) => looked,
+            Err(fault) => return Ok(Err(fault)),
         };
-        let lanes = self.lanes.as_mut_slice();
-        let disks = self.disks.as_mut_slice();
-        let count = &mut self.count;
-        Ok(settle(self.alloc, lanes, disks, &at, &mut Anything, ballot, count))
+        match &looked.pending {
+            None => Ok(Ok(looked.base)),
+            Some(_) => match self.forward(rt, &looked)? {
+                Ok(draft) => Ok(Ok(draft.value)),
+                Err(fault) => Ok(Err(fault)),
+            },
+        }
     }
 
     /// Commits a put, and completes first what is pending. Answers the letters of the mark.

@@ -19,7 +19,7 @@ use Rattle.vote_core.specs.Laws.{AboveLastIsFresh, DrawingKeeps}
 use Rattle.vote_core.specs.Loops.{IsAgain}
 use Rattle.vote_core.specs.Shown.{FindsPending}
 use Rattle.vote_core.specs.Sound.{HoldsValue}
-use Rattle.register_core.specs.Calling.{IsLateStep, IsSettled, IsValueIfOk, StaysOrSteps, WroteBoth}
+use Rattle.register_caller.specs.Calling.{IsLateStep, IsSettled, IsValueIfOk, StaysOrSteps, WroteBoth}
 use Rattle.register_core.specs.Keeping.{MarkMoves, MayPropose, MayProposeAgain}
 use Rattle.register_core.specs.Loose.{loose_name}
 use Rattle.register_core.specs.OnLanes.{AllTell, AreLanes, AreUnused}

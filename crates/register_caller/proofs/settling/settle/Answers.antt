@@ -5,13 +5,13 @@ use Rattle.drive_base.specs.Plan.{write_drives}
 use Rattle.register_file.specs.declared.record.Next.{Next}
 use Rattle.stamp_id.specs.Rank.{rank_of}
 use Rattle.vote_core.specs.Row.{is_good as is_good_row}
-use Rattle.register_core.specs.Calling.{WroteBoth}
+use Rattle.register_caller.specs.Calling.{WroteBoth}
 use Rattle.register_core.specs.Drafts.{letters_for}
 use Rattle.register_core.specs.OnLanes.{AreLanes}
 use Rattle.register_core.specs.Records.{again_of, marked_base}
 use Rattle.register_core.specs.declared.faults.QuorumFault.{QuorumFault}
-use Rattle.register_core.proofs.CallingLemmas.{forward_moves, lanes_after_look, left_settled, marked_settled, pending_found, refused_settled, settled_value, tell_after, unused_after_look}
-use Rattle.register_core.proofs.tests.caller.settle.Goals as goal
+use Rattle.register_caller.proofs.CallingLemmas.{forward_moves, lanes_after_look, left_settled, marked_settled, pending_found, refused_settled, settled_value, tell_after, unused_after_look}
+use Rattle.register_caller.proofs.settling.settle.Goals as goal
 
 pub returns-in-Err : goal.returns-in-Err
 returns-in-Err g c = record {

@@ -4,8 +4,8 @@ use Rattle.vote_core.specs.Lane.{Lane}
 use Rattle.register_core.specs.OnLanes.{AllTell, AreLanes, AreUnused}
 use Rattle.register_core.specs.Records.{base_of}
 use Rattle.register_core.specs.declared.drafts.Draft.{Draft}
-use Rattle.register_core.proofs.CallingLemmas.{tell_after}
-use Rattle.register_core.proofs.tests.caller.write_both.Goals as goal
+use Rattle.register_caller.proofs.CallingLemmas.{tell_after}
+use Rattle.register_caller.proofs.writing.write_both.Goals as goal
 
 pub returns-in-Err : goal.returns-in-Err
 returns-in-Err g c = record {
