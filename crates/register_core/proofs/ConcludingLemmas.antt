@@ -21,7 +21,7 @@ use Rattle.drive_base.specs.declared.plan.SetPlan.{SetPlan}
 use Rattle.register_core.specs.LookSteps.{Forwards, IsConcluded, IsStopped}
 use Rattle.register_core.specs.declared.faults.QuorumFault.{QuorumFault}
 use Rattle.register_core.specs.declared.faults.QuorumFault.TheVariants.{ReadQuorum, WriteQuorum, Undecided, NoMemory}
-use Rattle.register_core.specs.Looking.{FindsBase, FindsNext, found_at}
+use Rattle.register_core.specs.Found.{FindsBase, FindsNext, found_at}
 use Rattle.register_core.specs.Records.{row_of, row_of_next}
 
 -- the row of a lane is that of what was found there

@@ -15,7 +15,7 @@ use Rattle.stamp_id.specs.declared.stamp.Ballot.{Ballot}
 use Rattle.stamp_id.specs.declared.stamp.ChangeId.{ChangeId}
 use Rattle.register_file.specs.declared.record.RegFile.{RegFile}
 use Rattle.register_file.specs.declared.record.Base.{Base}
-use Rattle.register_core.specs.Looking.{HasContent, found_at}
+use Rattle.register_core.specs.Found.{HasContent, found_at}
 
 -- a file that was found is on a lane
 pub found_below : (files : List (Option RegFile)) (k : ℕ) (file : RegFile) → found_at files k ≡ Some file → k < length files

@@ -11,4 +11,5 @@ pub mod ManifestLemmas
 pub mod ReadLemmas
 pub mod RefusalLemmas
 pub mod SeenLemmas
+pub mod ServingLemmas
 pub mod WrittenLemmas

@@ -114,7 +114,7 @@ module _ {D : Type 0} (tells : D → Bool) (files : D → Files) (count : D → 
       → length new ≡ length old
       → ((k : ℕ) (d : D) → k < length old
       → OnLane tells files count out passed name bytes term from to letters k (letter_at whys k) (slice_index_or old k d) (slice_index_or new k d))
-      → AllTell tells out old → AreUnused files out term from old → KeepsDrives tells files count out name term to old new
+      → AllTell tells out old → AreUnused files out term from old → KeepsDrives tells files count out name term from to old new
   keeps_drives out passed name bytes term from to letters whys old new few rises long each tell unused =
       record {
         unused = λ k d later below in_use at fits.
@@ -126,6 +126,11 @@ module _ {D : Type 0} (tells : D → Bool) (files : D → Files) (count : D → 
                   (loose_names_differ term writes.number later (omega (arith, writes.high)) fits (λ e. omega (arith, e, writes.high)))
                   (touched_or_placed _ _ _ _ _ _ writes.leaves) ∙ was
             ];
+        loose = λ k d other below in_use differs. elim (known k d below in_use) [
+          | inl passed_by ↦ ap (λ (x : D). (files x).loose other) passed_by.stays
+          | inr writes ↦ loose_stays (loose_name term writes.number) name bytes other _ _ (differs writes.number writes.low writes.high)
+              (touched_or_placed _ _ _ _ _ _ writes.leaves)
+        ];
         others = λ k d other below in_use differ. elim (known k d below in_use) [
           | inl passed_by ↦ (ap (λ (x : D). (files x).kept other) passed_by.stays, ap (λ (x : D). (files x).shown other) passed_by.stays)
           | inr writes ↦ kept_stays (loose_name term writes.number) name bytes other _ _ differ (touched_or_placed _ _ _ _ _ _ writes.leaves)

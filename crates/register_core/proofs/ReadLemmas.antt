@@ -11,7 +11,8 @@ use Rattle.drive_base.specs.Files.{Files}
 use Rattle.file_access.specs.declared.cause.NotGiven.{NotGiven}
 use Rattle.file_access.specs.declared.cause.NotGiven.TheVariants.{Because}
 use Rattle.register_file.specs.declared.record.RegFile.{RegFile}
-use Rattle.register_core.specs.Looking.{LaneIsRead, found_at}
+use Rattle.register_core.specs.Found.{found_at}
+use Rattle.register_core.specs.Looking.{LaneIsRead}
 use Rattle.register_core.specs.Loops.{letter_at}
 use Rattle.register_core.specs.Reads.{ReadsLane}
 
@@ -40,26 +41,26 @@ found_more D P files before whys old now i file why x long inside here apart one
     ]
 
 -- two ways to say that a lane is out
-pub out_same : (name : List ℕ) (file : Option RegFile) (why : Why) (out mask : Type 0) (tells : Bool) (files : Files) (old new : ℕ) → out ↔ mask
-    → LaneIsRead name file why out tells files old new → LaneIsRead name file why mask tells files old new
-out_same name (Some file) why out mask tells files old new same is = (is.0, (λ m. is.1 (same.1 m)), is.2, is.3, is.4)
-out_same name None Good out mask tells files old new same is = is
-out_same name None (Failed before after) out mask tells files old new same is = ((λ m. is.0 (same.1 m)), is.1)
-out_same name None (Damaged damage) out mask tells files old new same is = ((λ m. is.0 (same.1 m)), is.1, is.2)
-out_same name None (Behind ballot) out mask tells files old new same is = is
-out_same name None (Lacks Format) out mask tells files old new same is = (same.0 is.0, is.1)
-out_same name None (Lacks Register) out mask tells files old new same is = is
-out_same name None (Lacks Manifest) out mask tells files old new same is = is
-out_same name None (Lacks Shard) out mask tells files old new same is = is
+pub out_same : (most : ℕ) (name : List ℕ) (file : Option RegFile) (why : Why) (out mask : Type 0) (tells : Bool) (files : Files) (old new : ℕ) → out ↔ mask
+    → LaneIsRead most name file why out tells files old new → LaneIsRead most name file why mask tells files old new
+out_same most name (Some file) why out mask tells files old new same is = (is.0, (λ m. is.1 (same.1 m)), is.2, is.3, is.4)
+out_same most name None Good out mask tells files old new same is = is
+out_same most name None (Failed before after) out mask tells files old new same is = ((λ m. is.0 (same.1 m)), is.1)
+out_same most name None (Damaged damage) out mask tells files old new same is = ((λ m. is.0 (same.1 m)), is.1, is.2)
+out_same most name None (Behind ballot) out mask tells files old new same is = is
+out_same most name None (Lacks Format) out mask tells files old new same is = (same.0 is.0, is.1)
+out_same most name None (Lacks Register) out mask tells files old new same is = is
+out_same most name None (Lacks Manifest) out mask tells files old new same is = is
+out_same most name None (Lacks Shard) out mask tells files old new same is = is
 
 -- a lane whose record was read
-pub read_ok : (name : List ℕ) (result : Result RegFile NotGiven) (file : RegFile) (out : Type 0) (tells : Bool) (files : Files) (old new : ℕ)
-    → result ≡ Ok file → ReadsLane name result out tells files old new → LaneIsRead name (Some file) Good out tells files old new
-read_ok name result file out tells files old new is reads =
-    subst (λ (r : Result RegFile NotGiven). ReadsLane name r out tells files old new) is reads
+pub read_ok : (most : ℕ) (name : List ℕ) (result : Result RegFile NotGiven) (file : RegFile) (out : Type 0) (tells : Bool) (files : Files) (old new : ℕ)
+    → result ≡ Ok file → ReadsLane most name result out tells files old new → LaneIsRead most name (Some file) Good out tells files old new
+read_ok most name result file out tells files old new is reads =
+    subst (λ (r : Result RegFile NotGiven). ReadsLane most name r out tells files old new) is reads
 
 -- a lane of which no record was read
-pub read_err : (name : List ℕ) (result : Result RegFile NotGiven) (fault : NotGiven) (why : Why) (out : Type 0) (tells : Bool) (files : Files) (old new : ℕ)
-    → result ≡ Err fault → fault ≡ Because why → ReadsLane name result out tells files old new → LaneIsRead name None why out tells files old new
-read_err name result fault why out tells files old new is because reads =
-    subst (λ (r : Result RegFile NotGiven). ReadsLane name r out tells files old new) (is ∙ ap (λ (f : NotGiven). Err f) because) reads
+pub read_err : (most : ℕ) (name : List ℕ) (result : Result RegFile NotGiven) (fault : NotGiven) (why : Why) (out : Type 0) (tells : Bool) (files : Files) (old new : ℕ)
+    → result ≡ Err fault → fault ≡ Because why → ReadsLane most name result out tells files old new → LaneIsRead most name None why out tells files old new
+read_err most name result fault why out tells files old new is because reads =
+    subst (λ (r : Result RegFile NotGiven). ReadsLane most name r out tells files old new) (is ∙ ap (λ (f : NotGiven). Err f) because) reads

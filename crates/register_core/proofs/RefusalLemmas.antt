@@ -7,7 +7,7 @@ use Rattle.call_types.specs.declared.why.Why.{Why}
 use Rattle.call_types.specs.declared.why.Why.TheVariants.{Damaged, Lacks}
 use Rattle.seal_file.specs.declared.damage.Damage.TheVariants.{Spelling}
 use Rattle.register_file.specs.declared.record.RegFile.{RegFile}
-use Rattle.register_core.specs.Looking.{HasContent, RefusedLetter, found_at}
+use Rattle.register_core.specs.Found.{HasContent, RefusedLetter, found_at}
 use Rattle.register_core.specs.Loops.{letter_at}
 
 -- the letters of the first lanes are refused where they have the content, and the others are as they were

@@ -32,6 +32,7 @@ pub record IsDraftAfterLook (looked : Looked) (change : Next) (draft : Draft) : 
   pub «of» : IsDraftOf draft looked.base change
   pub name : string_bytes draft.name ≡ string_bytes looked.name
   pub set : draft.set ≡ looked.set
+  pub longest : draft.longest ≡ looked.longest
   pub letters : draft.letters ≡ letters_for looked.pending looked.whys looked.set.drives
   pub passed : draft.passed ≡ 0
 
@@ -40,6 +41,7 @@ pub record IsDraftAfterDraft (first : Draft) (change : Next) (draft : Draft) : T
   pub «of» : IsDraftOf draft first.value change
   pub name : string_bytes draft.name ≡ string_bytes first.name
   pub set : draft.set ≡ first.set
+  pub longest : draft.longest ≡ first.longest
   pub letters : draft.letters ≡ replicate first.set.drives Good
   pub passed : draft.passed ≡ 0
 
@@ -48,6 +50,7 @@ pub record IsMendOfLook (looked : Looked) (draft : Draft) : Type 0 where
   pub ends : EndsAt draft looked.base
   pub name : string_bytes draft.name ≡ string_bytes looked.name
   pub set : draft.set ≡ looked.set
+  pub longest : draft.longest ≡ looked.longest
   pub none_first : draft.first.items ≡ []
   pub letters : draft.letters ≡ replicate looked.set.drives Good
   pub passed : draft.passed ≡ looked.clean

@@ -1,5 +1,6 @@
 pub mod Contents
 pub mod Drafts
+pub mod Found
 pub mod Keeping
 pub mod LookSteps
 pub mod Looking
@@ -11,3 +12,5 @@ pub mod OnLanes
 pub mod Proposing
 pub mod Reads
 pub mod Records
+pub mod Seen
+pub mod Serving

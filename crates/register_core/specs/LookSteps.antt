@@ -8,7 +8,8 @@ use Rattle.drive_base.specs.declared.plan.SetPlan.{SetPlan}
 use Rattle.register_file.specs.declared.record.RegFile.{RegFile}
 use Rattle.register_file.specs.declared.record.Next.{Next}
 use Rattle.register_file.specs.declared.record.Adds.{Adds}
-use Rattle.register_core.specs.Looking.{Concludes, DataIsThere, FindsNext, MayForward, RefusedLetter, found_at}
+use Rattle.register_core.specs.Found.{Concludes, FindsNext, RefusedLetter, found_at}
+use Rattle.register_core.specs.Looking.{DataIsThere, MayForward}
 use Rattle.register_core.specs.Loops.{letter_at}
 use Rattle.register_core.specs.Manifests.{AreManifestLetters}
 use Rattle.register_core.specs.Records.{row_of}

@@ -57,10 +57,13 @@ module _ {D : Type 0} (tells : D → Bool) (files : D → Files) (count : D → 
     pub each : (k : ℕ) (default : D) → k < length old
         → OnLane out passed name bytes term from to letters k (letter_at whys k) (slice_index_or old k default) (slice_index_or new k default)
 
-  -- what a loop keeps of the drives besides the register's records: the loose names of later writes are not in use, the files of other names stay, and
-  -- damage is as honest as it was
-  pub record KeepsDrives (out : ℕ) (name : List ℕ) (term to : ℕ) (old new : List D) : Type 0 where
+  -- what a loop keeps of the drives besides the register's records: the loose names of later writes are not in use, what is under a loose name that the
+  -- loop didn't use stays, the files of other names stay, and damage is as honest as it was
+  pub record KeepsDrives (out : ℕ) (name : List ℕ) (term from to : ℕ) (old new : List D) : Type 0 where
     pub unused : AreUnused files out term to new
+    pub loose : (k : ℕ) (default : D) (other : List ℕ) → k < length old → (IsBitSet out k → ⊥)
+        → ((number : ℕ) → from ≤ number → number < to → bytes_eq (loose_name term number) other ≡ false)
+        → (files (slice_index_or new k default)).loose other ≡ (files (slice_index_or old k default)).loose other
     pub others : (k : ℕ) (default : D) (other : List ℕ) → k < length old → (IsBitSet out k → ⊥) → bytes_eq name other ≡ false
         → ((files (slice_index_or new k default)).kept other ≡ (files (slice_index_or old k default)).kept other)
         × ((files (slice_index_or new k default)).shown other ≡ (files (slice_index_or old k default)).shown other)

@@ -30,8 +30,8 @@ LettersOf set print file (Ok _) = (m : Manifest) × (file ≡ file_of m) × Veri
 LettersOf set print file (Err (Because why)) = IsDamagedSo set print file why
 LettersOf set print file (Err NoMemory) = Unit {0}
 
--- the letter of a data drive, or there was not enough memory
+-- the letter of a data drive, or there was not enough memory, and no count rose
 abbrev pub ReadsManifest : {T : Type 0} → SetPlan → Adds → Type 0 → Result T NotGiven → Bool → Files → ℕ → ℕ → Type 0
 ReadsManifest set adds out (Ok _) tells files old new = ManifestLetter set adds Good out tells files old new
 ReadsManifest set adds out (Err (Because why)) tells files old new = ManifestLetter set adds why out tells files old new
-ReadsManifest set adds out (Err NoMemory) tells files old new = Unit {0}
+ReadsManifest set adds out (Err NoMemory) tells files old new = (out → ⊥) × (new ≡ old)

@@ -11,12 +11,13 @@ use Rattle.call_types.specs.declared.why.Why.{Why}
 use Rattle.call_types.specs.declared.why.Why.TheVariants.{Good, Failed, Damaged, Behind, Lacks}
 use Rattle.drive_base.specs.Files.{Files}
 use Rattle.drive_base.specs.declared.plan.SetPlan.{SetPlan}
-use Rattle.file_access.specs.Reading.{FailedWhile}
+use Rattle.file_access.specs.Reading.{FailedWhile, IsTooLong}
 use Rattle.manifest_file.specs.Canonical.{IsCanonical}
 use Rattle.manifest_file.specs.Layout.{manifest}
 use Rattle.manifest_file.specs.Print.{text_under}
 use Rattle.manifest_file.specs.Spelling.{manifest_kind, spelling, file_of}
 use Rattle.manifest_file.specs.declared.manifest.Manifest.{Manifest}
+use Rattle.manifest_file.specs.declared.manifest.TheConstants.{LONGEST_FILE}
 use Rattle.body_print.specs.Names.{manifest_name}
 use Rattle.register_file.specs.declared.record.Adds.{Adds}
 use Rattle.register_core.specs.Loops.{letter_at}
@@ -33,14 +34,19 @@ pub record Verifies (set : SetPlan) (print : List ℕ) (m : Manifest) : Type 0 w
   pub printed : print ≡ sha256 (text_under m)
   pub names : NamesSet set m
 
--- the damage of a file that should be a manifest that verifies: it isn't sealed, its body is no manifest's, or it is a manifest with another print, or
--- one of other numbers, which is told at its end
-abbrev pub IsManifestDamage : SetPlan → List ℕ → List ℕ → Damage → Type 0
-IsManifestDamage set print file damage =
+-- the damage of a file, of a length that a manifest can have, that should be a manifest that verifies: it isn't sealed, its body is no manifest's, or it
+-- is a manifest with another print, or one of other numbers, which is told at its end
+abbrev pub IsDamageWithin : SetPlan → List ℕ → List ℕ → Damage → Type 0
+IsDamageWithin set print file damage =
     IsDamage manifest_kind file damage
     ⊎ ((body : List ℕ) × (place : ℕ) × (file ≡ sealed manifest_kind body) × (fault_at manifest body ≡ Some place) × (damage ≡ Spelling place))
     ⊎ ((m : Manifest) × IsCanonical m × (file ≡ file_of m) × (print ≢ sha256 (text_under m)) × (damage ≡ Digest print (sha256 (text_under m))))
     ⊎ ((m : Manifest) × IsCanonical m × (file ≡ file_of m) × (NamesSet set m → ⊥) × (damage ≡ Spelling (length (spelling m))))
+
+-- the same of a file of any length
+abbrev pub IsManifestDamage : SetPlan → List ℕ → List ℕ → Damage → Type 0
+IsManifestDamage set print file damage = IsTooLong LONGEST_FILE file damage
+    ⊎ ((length file ≤ LONGEST_FILE) × IsDamageWithin set print file damage)
 
 -- the letter of a data drive: its manifest of this id verifies, or why none does
 abbrev pub ManifestLetter : SetPlan → Adds → Why → Type 0 → Bool → Files → ℕ → ℕ → Type 0

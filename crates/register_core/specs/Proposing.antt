@@ -82,10 +82,11 @@ module _ {D : Type 0} (tells : D → Bool) (files : D → Files) (count : D → 
   WritesLast draft took term from to whys old new =
       WritesEach tells files count took.out 0 (string_bytes draft.name) draft.last.items term from to took.whys whys old new
 
-  -- what marking answers: enough lanes took the last file, and the draft passes over exactly these, or why too few did, and it passes over those it did
-  abbrev pub Marks : Draft → Prepared → ℕ → ℕ → ℕ → {T : Type 0} → Result T QuorumFault → Draft → List D → List D → Type 0
-  Marks draft took term from to (Ok _) later old new =
-      (whys : List Why) × (quorum_of draft ≤ good_count whys) × IsGoodMask whys later.passed × WritesLast draft took term from to whys old new
+  -- what marking answers: the letters of enough lanes that took the last file, and the draft passes over exactly these, or why too few did, and it passes
+  -- over those it did
+  abbrev pub Marks : Draft → Prepared → ℕ → ℕ → ℕ → Result (List Why) QuorumFault → Draft → List D → List D → Type 0
+  Marks draft took term from to (Ok whys) later old new =
+      (quorum_of draft ≤ good_count whys) × IsGoodMask whys later.passed × WritesLast draft took term from to whys old new
   Marks draft took term from to (Err (ReadQuorum _)) later old new = ⊥
   Marks draft took term from to (Err (WriteQuorum whys)) later old new =
       (good_count whys < quorum_of draft) × (later.passed ≡ draft.passed) × WritesLast draft took term from to whys old new

@@ -1,6 +1,6 @@
 //! The rule that a register's content must meet, which its caller knows.
 
-ghost use Rattle.std.specs.Prelude.{◌≡◌, ℕ, List, Option};
+ghost use Rattle.std.specs.Prelude.{◌≡◌, ◌≤◌, ℕ, List, Option, IfOk, length};
 
 use std::alloc::Global;
 
@@ -20,8 +20,18 @@ pub trait ContentRule {
     /// The place where a content first breaks the rule, if it does.
     ghost fault_in: { Self → List ℕ → Option ℕ };
 
+    /// The greatest number of bytes of a content that meets the rule.
+    ghost most_bytes: { Self → ℕ };
+
+    /// The greatest number of bytes of a content that meets the rule: a lane's file that is too long for two such
+    /// contents is damaged, and isn't read.
+    fn longest(&self) -> u64
+        ensures { result ≡ most_bytes self.now };
+
     /// Checks a content. The rule stays, and may keep what it read.
     fn check(&mut self, alloc: Global, content: &[u8]) -> Result<(), ContentFault>
         ensures answer { IsChecked (fault_in self.old content.now) result }
-        ensures same { fault_in self.new ≡ fault_in self.old };
+        ensures within { IfOk result (λ _. length content.now ≤ most_bytes self.old) }
+        ensures same { fault_in self.new ≡ fault_in self.old }
+        ensures same_most { most_bytes self.new ≡ most_bytes self.old };
 }

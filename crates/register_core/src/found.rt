@@ -3,7 +3,7 @@
 ghost use Rattle.std.specs.Prelude.{◌≡◌, ◌<◌, ◌≤◌, ◌^◌, ◌↔◌, ℕ, IsTrue, IfOk, IfErr, None, Some, length, slice_index_or};
 ghost use Rattle.std.specs.Int.{IsBitSet};
 ghost use Rattle.register_core.specs.LookSteps.{Accepts, LettersAreRefused};
-ghost use Rattle.register_core.specs.Looking.{FindsBase, FindsNext, HasContent, content_of, found_at};
+ghost use Rattle.register_core.specs.Found.{FindsBase, FindsNext, HasContent, content_of, found_at};
 ghost use Rattle.register_core.specs.Records.{settled_file};
 ghost use Rattle.register_file.specs.declared.record.RegFile.{RegFile};
 ghost use Rattle.register_file.specs.declared.record.Base.{Base};
@@ -14,6 +14,7 @@ use crate::content::{ContentFault, ContentRule};
 use crate::copies::{copy_base, copy_next};
 use crate::faults::QuorumFault;
 use call_types::{Why, Whys};
+use drive_base::DriveSet;
 use register_file::{Base, Next, RegFile};
 use seal_file::Damage;
 use std::alloc::Global;
@@ -55,19 +56,19 @@ pub fn content_of<'a>(base: &'a Base, pending: &'a Option<Next>) -> &'a [u8]
     }
 }
 
-/// A mask of the lanes that were shown to have exactly a base, without a next.
-pub fn clean_of(files: &[Option<RegFile>], base: &Base) -> u16
+/// The lanes that were shown to have exactly a base, without a next.
+pub fn clean_of(files: &[Option<RegFile>], base: &Base) -> DriveSet
     requires { length files.now ≤ 16 }
     ensures bits { (k : ℕ) → k < length files.now → IsBitSet result k ↔ (found_at files.now k ≡ Some (settled_file base.now)) }
     ensures none_else { result < 2 ^ length files.now }
 {
-    let mut mask = 0;
+    let mut mask = 0u16;
     for k in 0..files.len() {
         if is_settled(&files[k], base) {
             mask |= 1 << k;
         }
     }
-    mask
+    DriveSet::from_mask(mask)
 }
 
 /// Whether a lane was read to have exactly a base, without a next.
@@ -91,7 +92,9 @@ pub fn accept<R: ContentRule>(
 ) -> Result<(), QuorumFault>
     requires { length whys.now ≡ length files.now }
     ensures answer { Accepts (R.fault_in rule.old content.now) files.now content.now whys.now result }
+    ensures within { IfOk result (λ _. length content.now ≤ R.most_bytes rule.old) }
     ensures rule { R.fault_in rule.new ≡ R.fault_in rule.old }
+    ensures most { R.most_bytes rule.new ≡ R.most_bytes rule.old }
 {
     match rule.check(alloc, content) {
         Ok(()) => Ok(()),

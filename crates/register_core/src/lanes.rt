@@ -11,7 +11,7 @@ ghost use Rattle.register_core.specs.declared.faults.QuorumFault.TheVariants.{No
 
 use crate::faults::QuorumFault;
 use call_types::{FileKind, Why, Whys};
-use drive_base::Drive;
+use drive_base::{Drive, DriveSet};
 use file_access::{NotGiven, file_on};
 use register_file::{Base, RegFile, read};
 use seal_file::{Bytes, Damage, FileRead};
@@ -28,16 +28,17 @@ pub struct Found {
     pub whys: Whys,
 }
 
-/// Reads the register's file on every lane that isn't out.
+/// Reads the register's file, of at most `most` bytes, on every lane that isn't out.
 pub fn read_lanes<D: Drive>(
     alloc: Global,
     lanes: &mut [D],
-    out: u16,
+    out: DriveSet,
     name: &str,
+    most: u64,
 ) -> Result<Found, QuorumFault>
     requires some { 1 ≤ length lanes.old }
     requires few { length lanes.old ≤ 16 }
-    ensures read { IfOk result (λ found. LanesAreRead D.tells D.files D.count out name.now found.files.items found.whys lanes.old lanes.new) }
+    ensures read { IfOk result (λ found. LanesAreRead D.tells D.files D.count out most name.now found.files.items found.whys lanes.old lanes.new) }
     ensures refused { IfErr result (λ fault. fault ≡ NoMemory) }
     ensures files { (k : ℕ) (d : D) → k < length lanes.old → IsTrue (D.tells (slice_index_or lanes.old k d)) → D.files (slice_index_or lanes.new k d) ≡ D.files (slice_index_or lanes.old k d) }
     ensures tells { (k : ℕ) (d : D) → k < length lanes.old → D.tells (slice_index_or lanes.new k d) ≡ D.tells (slice_index_or lanes.old k d) }
@@ -46,7 +47,7 @@ pub fn read_lanes<D: Drive>(
     let mut files = Vec::with_capacity(alloc, lanes.len())?;
     let mut whys = Whys::all_good(lanes.len() as u8);
     for (index, lane) in lanes.iter_mut().enumerate() {
-        match read_lane(alloc, lane, is_out(out, index), name) {
+        match read_lane(alloc, lane, is_out(out, index), name, most) {
             Ok(file) => files.push(Some(file))?,
             Err(NotGiven::Because(why)) => {
                 files.push(None)?;
@@ -58,12 +59,12 @@ pub fn read_lanes<D: Drive>(
     Ok(Found { files, whys })
 }
 
-/// Whether a mask has a lane.
-pub fn is_out(mask: u16, index: usize) -> bool
+/// Whether a set has a lane.
+pub fn is_out(set: DriveSet, index: usize) -> bool
     requires { index < 16 }
-    ensures { IsTrue result ↔ IsBitSet mask index }
+    ensures { IsTrue result ↔ IsBitSet set index }
 {
-    mask & (1 << index) != 0
+    set.has(index as u8)
 }
 
 /// The record of a lane that isn't out: that of its file, or that of a lane without a file.
@@ -72,8 +73,9 @@ fn read_lane<D: Drive>(
     lane: &mut D,
     is_out: bool,
     name: &str,
+    most: u64,
 ) -> Result<RegFile, NotGiven>
-    ensures outcome { ReadsLane name.now result (IsTrue is_out) (D.tells lane.old) (D.files lane.old) (D.count lane.old) (D.count lane.new) }
+    ensures outcome { ReadsLane most name.now result (IsTrue is_out) (D.tells lane.old) (D.files lane.old) (D.count lane.old) (D.count lane.new) }
     ensures alone { IsTrue is_out → lane.new ≡ lane.old }
     ensures files { IsTrue (D.tells lane.old) → D.files lane.new ≡ D.files lane.old }
     ensures tells { D.tells lane.new ≡ D.tells lane.old }
@@ -82,16 +84,17 @@ fn read_lane<D: Drive>(
     if is_out {
         return Err(NotGiven::Because(Why::Lacks(FileKind::Format)));
     }
-    match file_on(alloc, lane, FileKind::Register, name) {
-        Ok(bytes) => open_file(alloc, bytes.as_slice()),
+    match file_on(alloc, lane, FileKind::Register, name, most) {
+        Ok(bytes) => open_file(alloc, bytes.as_slice(), most),
         Err(NotGiven::Because(Why::Lacks(_))) => Ok(blank_file(alloc)),
         Err(refused) => Err(refused),
     }
 }
 
-/// The record whose file these bytes are.
-fn open_file(alloc: Global, bytes: &[u8]) -> Result<RegFile, NotGiven>
-    ensures { OpensFile bytes.now result }
+/// The record whose file these bytes are, of which there are at most `most`.
+fn open_file(alloc: Global, bytes: &[u8], most: u64) -> Result<RegFile, NotGiven>
+    requires { length bytes.now ≤ most }
+    ensures { OpensFile most bytes.now result }
 {
     match read(alloc, bytes) {
         Ok(file) => Ok(file),
@@ -141,6 +144,7 @@ fn row_of(file: &Option<RegFile>) -> Row
         Some(next) => Some(NextRow {
             ballot: next.ballot,
             change: next.change,
+            adds: next.adds.is_some(),
         }),
         None => None,
     };

@@ -3,12 +3,9 @@
 ghost use Rattle.std.specs.Prelude.{◌≡◌, ◌<◌, ◌≤◌, ℕ, List, IsTrue, IfOk, IfErr, length, map, slice_index_or, string_bytes};
 ghost use Rattle.std.specs.Int.{IsBitSet};
 ghost use Rattle.drive_base.specs.Plan.{data_drives, write_drives};
-ghost use Rattle.vote_core.specs.Lane.{Lane};
-ghost use Rattle.vote_core.specs.Sound.{HoldsValue};
-ghost use Rattle.register_core.specs.Looking.{Looks, LookFinds};
+ghost use Rattle.register_core.specs.Looking.{Looks};
 ghost use Rattle.register_core.specs.LookSteps.{Forwards, IsConcluded};
 ghost use Rattle.register_core.specs.Records.{row_of};
-ghost use Rattle.register_core.specs.OnLanes.{AllTell, AreHonest, AreLanes};
 
 use crate::content::ContentRule;
 use crate::faults::QuorumFault;
@@ -17,8 +14,8 @@ use crate::lanes::{Found, read_lanes, rows_of};
 use crate::looked::Looked;
 use crate::manifests::look_for_data;
 use call_types::Whys;
-use drive_base::{Drive, SetPlan};
-use register_file::{Base, Next, RegFile, file_laws};
+use drive_base::{Drive, DriveSet, SetPlan};
+use register_file::{Base, Next, RegFile, file_laws, longest_file};
 use std::alloc::Global;
 use vote_core::{Onward, Row, Verdict, calm_laws, decide, judge, place_laws, verdict_laws};
 
@@ -33,7 +30,8 @@ pub struct Concluded {
 
 /// Looks at a register: reads its file on every lane that isn't out, and concludes.
 ///
-/// `ReadQuorum` comes where fewer lanes have a good file than a read needs, and where the content that is settled, or that a
+/// A lane whose file is longer than one of two lawful contents can be is damaged, and isn't read: `rule` says how long a
+/// lawful content is at most. `ReadQuorum` comes where fewer lanes have a good file than a read needs, and where the content that is settled, or that a
 /// forward would complete, breaks the rule: each lane that has it is then `Damaged` with the spelling's place. `Undecided`
 /// comes where a change that adds data may have taken effect and its manifest verifies on fewer data drives than that: the
 /// letters are those of the data drives. No lane is written, and a lane or a data drive that is out isn't called.
@@ -41,18 +39,16 @@ pub fn look<D: Drive, R: ContentRule>(
     alloc: Global,
     lanes: &mut [D],
     disks: &mut [D],
-    out: u16,
+    out: DriveSet,
     set: SetPlan,
     name: &str,
     rule: &mut R,
 ) -> Result<Looked, QuorumFault>
     requires lanes { length lanes.old ≡ set.drives }
     requires disks { length disks.old ≡ set.drives }
-    ensures outcome { Looks D.tells D.files D.count set out name.now (R.fault_in rule.old) result lanes.old lanes.new disks.old disks.new }
-    ensures finds { (recorded : List Lane) (last c : ℕ) (content : List ℕ) → AllTell D.tells out lanes.old → AreHonest D.files out name.now lanes.old
-        → AreLanes D.files out name.now lanes.old recorded → HoldsValue (write_drives set.drives set.parity) last recorded c content
-        → IfOk result (λ looked. LookFinds (write_drives set.drives set.parity) looked recorded c content) }
+    ensures outcome { Looks D.tells D.files D.count set out name.now (R.fault_in rule.old) (R.most_bytes rule.old) result lanes.old lanes.new disks.old disks.new }
     ensures rule { R.fault_in rule.new ≡ R.fault_in rule.old }
+    ensures most { R.most_bytes rule.new ≡ R.most_bytes rule.old }
     ensures files { (k : ℕ) (d : D) → k < length lanes.old → IsTrue (D.tells (slice_index_or lanes.old k d)) → D.files (slice_index_or lanes.new k d) ≡ D.files (slice_index_or lanes.old k d) }
     ensures disk_files { (k : ℕ) (d : D) → k < length disks.old → IsTrue (D.tells (slice_index_or disks.old k d)) → D.files (slice_index_or disks.new k d) ≡ D.files (slice_index_or disks.old k d) }
     ensures tells { (k : ℕ) (d : D) → k < length lanes.old → D.tells (slice_index_or lanes.new k d) ≡ D.tells (slice_index_or lanes.old k d) }
@@ -65,7 +61,9 @@ pub fn look<D: Drive, R: ContentRule>(
     calm_laws();
     place_laws();
     file_laws();
-    let Found { files, whys } = read_lanes(alloc, lanes, out, name)?;
+    let longest = rule.longest();
+    let most = longest_file(longest);
+    let Found { files, whys } = read_lanes(alloc, lanes, out, name, most)?;
     let files = files.as_slice();
     let rows = rows_of(alloc, files)?;
     let said = conclude(alloc, set, files, rows.as_slice(), whys, disks)?;
@@ -74,6 +72,7 @@ pub fn look<D: Drive, R: ContentRule>(
     Ok(Looked {
         name: String::from_str(alloc, name)?,
         set,
+        longest,
         clean: clean_of(files, &said.base),
         rows,
         whys,

@@ -5,6 +5,7 @@ ghost use Rattle.std.specs.Int.{IsBitSet};
 ghost use Rattle.body_print.specs.Names.{manifest_name};
 ghost use Rattle.manifest_file.specs.Canonical.{IsCanonical};
 ghost use Rattle.manifest_file.specs.Spelling.{file_of};
+ghost use Rattle.manifest_file.specs.declared.manifest.TheConstants.{LONGEST_FILE};
 ghost use Rattle.register_core.specs.Manifests.{AreManifestLetters, ManifestLetter};
 ghost use Rattle.register_core.specs.ManifestSteps.{LettersOf, ReadsManifest, TellsOf};
 ghost use Rattle.register_core.specs.declared.faults.QuorumFault.TheVariants.{NoMemory};
@@ -14,7 +15,7 @@ use body_print::name_of_manifest;
 use call_types::{FileKind, Why, Whys};
 use drive_base::{Drive, SetPlan};
 use file_access::{NotGiven, file_on};
-use manifest_file::{Manifest, print_of, read};
+use manifest_file::{LONGEST_FILE, Manifest, print_of, read};
 use register_file::Adds;
 use seal_file::{Damage, FileRead};
 use std::alloc::Global;
@@ -38,7 +39,7 @@ pub fn look_for_data<D: Drive>(
     let mut whys = Whys::all_good(set.drives);
     let mut index = 0;
     for disk in disks.iter_mut() {
-        match manifest_on(alloc, set, index, disk, adds, name.as_str()) {
+        match manifest_on(alloc, &set, index, disk, adds, name.as_str()) {
             Ok(()) => {}
             Err(NotGiven::Because(why)) => whys.set(index as usize, why),
             Err(NotGiven::NoMemory) => return Err(QuorumFault::NoMemory),
@@ -51,15 +52,15 @@ pub fn look_for_data<D: Drive>(
 /// Whether the manifest of this name on a data drive that isn't out verifies.
 fn manifest_on<D: Drive>(
     alloc: Global,
-    set: SetPlan,
+    set: &SetPlan,
     index: u8,
     disk: &mut D,
     adds: &Adds,
     name: &str,
 ) -> Result<(), NotGiven>
-    requires { index < set.drives }
-    ensures outcome { name.now ≡ manifest_name adds.now.id → ReadsManifest set adds.now (IsBitSet set.out index) result (D.tells disk.old) (D.files disk.old) (D.count disk.old) (D.count disk.new) }
-    ensures alone { IsBitSet set.out index → disk.new ≡ disk.old }
+    requires { index < set.now.drives }
+    ensures outcome { name.now ≡ manifest_name adds.now.id → ReadsManifest set.now adds.now (IsBitSet set.now.out index) result (D.tells disk.old) (D.files disk.old) (D.count disk.old) (D.count disk.new) }
+    ensures alone { IsBitSet set.now.out index → disk.new ≡ disk.old }
     ensures files { IsTrue (D.tells disk.old) → D.files disk.new ≡ D.files disk.old }
     ensures tells { D.tells disk.new ≡ D.tells disk.old }
     ensures count { D.count disk.old ≤ D.count disk.new }
@@ -67,13 +68,14 @@ fn manifest_on<D: Drive>(
     if set.is_out(index) {
         return Err(NotGiven::Because(Why::Lacks(FileKind::Format)));
     }
-    let file = file_on(alloc, disk, FileKind::Manifest, name)?;
+    let file = file_on(alloc, disk, FileKind::Manifest, name, LONGEST_FILE)?;
     verified(alloc, set, adds.print, file.as_slice())
 }
 
 /// Whether a file is a manifest that verifies.
-fn verified(alloc: Global, set: SetPlan, print: [u8; 32], file: &[u8]) -> Result<(), NotGiven>
-    ensures { LettersOf set print file.now result }
+fn verified(alloc: Global, set: &SetPlan, print: [u8; 32], file: &[u8]) -> Result<(), NotGiven>
+    requires { length file.now ≤ LONGEST_FILE }
+    ensures { LettersOf set.now print file.now result }
 {
     match read(alloc, file) {
         Ok(manifest) => checked(set, print, &manifest, file.len() as u64),
@@ -86,10 +88,11 @@ fn verified(alloc: Global, set: SetPlan, print: [u8; 32], file: &[u8]) -> Result
 }
 
 /// Whether a manifest verifies. Its file has so many bytes.
-fn checked(set: SetPlan, print: [u8; 32], manifest: &Manifest, long: u64) -> Result<(), NotGiven>
+fn checked(set: &SetPlan, print: [u8; 32], manifest: &Manifest, long: u64) -> Result<(), NotGiven>
     requires canonical { IsCanonical manifest.now }
     requires long { long ≡ length (file_of manifest.now) }
-    ensures { LettersOf set print (file_of manifest.now) result }
+    requires within { long ≤ LONGEST_FILE }
+    ensures { LettersOf set.now print (file_of manifest.now) result }
 {
     let computed = print_of(manifest);
     if computed != print {
@@ -103,8 +106,8 @@ fn checked(set: SetPlan, print: [u8; 32], manifest: &Manifest, long: u64) -> Res
 }
 
 /// Whether a manifest names a set's number of drives, and a parity that such a set can have.
-fn names_set(set: SetPlan, manifest: &Manifest) -> bool
-    ensures { TellsOf set manifest.now result }
+fn names_set(set: &SetPlan, manifest: &Manifest) -> bool
+    ensures { TellsOf set.now manifest.now result }
 {
     if manifest.drives != set.drives {
         return false;

@@ -14,7 +14,7 @@ use crate::drafts::Draft;
 use crate::lanes::is_out;
 use crate::writes::{Writing, write_each};
 use call_types::Whys;
-use drive_base::Drive;
+use drive_base::{Drive, DriveSet};
 use vote_core::{calm_laws, mend_law, number_laws, place_laws};
 
 /// What a mend did.
@@ -31,7 +31,7 @@ pub struct Mended {
 /// mark.
 pub fn mend<D: Drive>(
     lanes: &mut [D],
-    out: u16,
+    out: DriveSet,
     draft: &Draft,
     term: u64,
     count: &mut u64,
@@ -45,7 +45,7 @@ pub fn mend<D: Drive>(
         → AreLanes D.files unknown (string_bytes draft.now.name) lanes.old recorded
         → MendKeeps D.tells D.files D.count draft.now out unknown base result lanes.new recorded }
     ensures drives { AllTell D.tells out lanes.old → AreUnused D.files out term count.old lanes.old
-        → KeepsDrives D.tells D.files D.count out (string_bytes draft.now.name) term count.new lanes.old lanes.new }
+        → KeepsDrives D.tells D.files D.count out (string_bytes draft.now.name) term count.old count.new lanes.old lanes.new }
     ensures tells { TellsStay D.tells D.files D.count lanes.old lanes.new }
     ensures counts { CountsRise D.tells D.files D.count lanes.old lanes.new }
 {
@@ -67,7 +67,7 @@ pub fn mend<D: Drive>(
 }
 
 /// How many lanes were written: those whose letter is good and which weren't passed over.
-fn count_written(passed: u16, whys: &Whys) -> u8
+fn count_written(passed: DriveSet, whys: &Whys) -> u8
     requires { length whys.now ≤ 16 }
     ensures { CountsWritten passed whys.now result }
 {
@@ -81,7 +81,7 @@ fn count_written(passed: u16, whys: &Whys) -> u8
 }
 
 /// Whether a lane was written.
-fn is_written(passed: u16, whys: &Whys, lane: usize) -> bool
+fn is_written(passed: DriveSet, whys: &Whys, lane: usize) -> bool
     requires few { length whys.now ≤ 16 }
     requires inside { lane < length whys.now }
     ensures { IsTrue result ↔ ((IsBitSet passed lane → ⊥) × (letter_at whys.now lane ≡ Good)) }

@@ -4,16 +4,19 @@ mod fuses;
 mod mends;
 mod rows;
 
-ghost use Rattle.std.specs.Prelude.{◌≤◌, None, IfOk};
+ghost use Rattle.std.specs.Prelude.{◌<◌, ◌≤◌, None, IfOk, length};
 ghost use Rattle.register_file.specs.Record.{IsContent, IsCanonicalNext};
 
 use super::*;
+use body_print::name_of_manifest;
 use call_types::{FileKind, Why, Whys};
-use drive_base::SetPlan;
+use drive_base::{DriveSet, SetPlan};
 use drive_memory::MemDrive;
-use put_stage::stage_whole;
+use fault_base::NoMemory;
+use file_access::write_file;
+use manifest_file::{KIND, print_of, read};
 use register_file::{Adds, Base, Next};
-use seal_file::{Bytes, Damage};
+use seal_file::{Bytes, Damage, seal};
 use stamp_id::{Ballot, ChangeId, VersionId};
 use std::alloc::{AllocError, Global};
 use std::process::Abort;
@@ -28,6 +31,12 @@ struct Anything;
 
 impl ContentRule for Anything {
     ghost fault_in = { λ _ _. None };
+
+    ghost most_bytes = { λ _. 18446744073709551615 };
+
+    fn longest(&self) -> u64 {
+        u64::MAX
+    }
 
     fn check(&mut self, _alloc: Global, _content: &[u8]) -> Result<(), ContentFault> {
         Ok(())
@@ -69,6 +78,18 @@ fn fresh_world(alloc: Global, parity: u8) -> Result<World, AllocError>
     })
 }
 
+/// The file of the manifest of data of one byte on four drives, whose shards have some root.
+fn manifest_of(alloc: Global, id: VersionId, parity: u8) -> Result<Vec<u8>, NoMemory> {
+    let mut body = Vec::new(alloc);
+    body.extend_from_slice(&[1, 0, 7])?;
+    body.extend_from_slice(NAME.as_bytes())?;
+    body.extend_from_slice(&[4, parity, 0, 1])?;
+    body.extend_from_slice(&id.bytes())?;
+    body.extend_from_slice(&[0, 0, 0, 0, 0, 0, 0, 1])?;
+    body.extend_from_slice(&[7; 128])?;
+    seal(alloc, KIND, body.as_slice())
+}
+
 impl World {
     /// Draws a number of term 1.
     fn draw(&mut self, rt: &impl Abort) -> Result<Ballot, Fail> {
@@ -80,19 +101,24 @@ impl World {
         })
     }
 
-    /// Begins a put: draws its change, and stages a body on the data drives.
-    fn begin(&mut self, rt: &impl Abort, body: &[u8]) -> Result<Adds, Fail> {
+    /// Begins a put: draws its change, and writes the manifest of its data on the data drives.
+    fn begin(&mut self, rt: &impl Abort) -> Result<Adds, Fail> {
         let change = self.draw(rt)?;
         assert!(rt; change.term >= 1);
         assert!(rt; change.seq >= 1);
         let id = VersionId::from_parts(ChangeId(change), 38);
-        assert!(rt; self.disks.len() == self.set.drives as usize);
-        assert!(rt; body.len() <= 100);
-        let disks = self.disks.as_mut_slice();
-        let staged = stage_whole(self.alloc, self.set, id, NAME, body, None, disks);
+        let file = manifest_of(self.alloc, id, self.set.parity)?;
+        let Ok(manifest) = read(self.alloc, file.as_slice()) else {
+            return Err(Fail::new("it is no manifest"));
+        };
+        let name = name_of_manifest(self.alloc, id)?;
+        assert!(rt; name.len() <= 1129);
+        for disk in self.disks.iter_mut() {
+            let _ = write_file(disk, FileKind::Manifest, "t", name.as_str(), file.as_slice());
+        }
         Ok(Adds {
             id,
-            print: staged?.print,
+            print: print_of(&manifest),
         })
     }
 
@@ -102,22 +128,23 @@ impl World {
         assert!(rt; self.disks.len() == self.set.drives as usize);
         let lanes = self.lanes.as_mut_slice();
         let disks = self.disks.as_mut_slice();
-        Ok(look(self.alloc, lanes, disks, 0, self.set, NAME, &mut Anything))
+        let out = DriveSet::none();
+        Ok(look(self.alloc, lanes, disks, out, self.set, NAME, &mut Anything))
     }
 
-    /// Writes both files of a draft.
+    /// Writes both files of a draft, and answers the letters of the mark.
     fn write(
         &mut self,
         rt: &impl Abort,
         draft: &mut Draft,
-    ) -> Result<Result<(), QuorumFault>, Fail> {
+    ) -> Result<Result<Whys, QuorumFault>, Fail> {
         let drives = draft.set.drives as usize;
         assert!(rt; self.lanes.len() == drives);
         assert!(rt; draft.letters.len() == drives);
         assert!(rt; draft.name.len() <= 1129);
         assert!(rt; self.count <= 1_000_000);
         let lanes = self.lanes.as_mut_slice();
-        let prepared = match propose(lanes, 0, draft, 1, &mut self.count) {
+        let prepared = match propose(lanes, DriveSet::none(), draft, 1, &mut self.count) {
             Ok(prepared) => prepared,
             Err(fault) => return Ok(Err(fault)),
         };
@@ -133,28 +160,21 @@ impl World {
         &mut self,
         rt: &impl Abort,
         looked: &Looked,
-        found: &Next,
     ) -> Result<Result<Draft, QuorumFault>, Fail> {
         if !looked.can_forward() {
             return Ok(Err(QuorumFault::WriteQuorum(looked.whys)));
         }
-        let next = self.again(rt, &looked.base, found)?;
+        let Some(found) = &looked.pending else {
+            return Err(Fail::new("nothing was pending"));
+        };
+        assert!(rt; looked.base.content.len() < 100);
+        assert!(rt; found.content.len() < 100);
+        assert!(rt; looked.longest >= 100);
+        let next = looked.again(self.alloc, self.draw(rt)?)?;
         let mut draft = draft(self.alloc, looked, &next)?;
         match self.write(rt, &mut draft)? {
-            Ok(()) => Ok(Ok(draft)),
+            Ok(_) => Ok(Ok(draft)),
             Err(fault) => Ok(Err(fault)),
-        }
-    }
-
-    /// A pending change under a fresh ballot, over a base.
-    fn again(&mut self, rt: &impl Abort, base: &Base, found: &Next) -> Result<Next, Fail>
-        ensures base { IfOk result (λ _. IsContent base.now.content) }
-        ensures next { IfOk result (λ next. IsCanonicalNext base.now.change next) }
-    {
-        let content = found.content.as_slice();
-        match found.adds {
-            Some(adds) => self.next_over(rt, base, found.change, Some(adds), content),
-            None => self.next_over(rt, base, found.change, None, content),
         }
     }
 
@@ -169,6 +189,7 @@ impl World {
     ) -> Result<Next, Fail>
         ensures base { IfOk result (λ _. IsContent base.now.content) }
         ensures next { IfOk result (λ next. IsCanonicalNext base.now.change next) }
+        ensures few { IfOk result (λ next. length next.content < 100) }
     {
         assert!(rt; base.content.len() < 100);
         assert!(rt; content.len() < 100);
@@ -189,38 +210,35 @@ impl World {
         };
         match &looked.pending {
             None => Ok(Ok(looked.base)),
-            Some(found) => match self.forward(rt, &looked, found)? {
+            Some(_) => match self.forward(rt, &looked)? {
                 Ok(draft) => Ok(Ok(draft.value)),
                 Err(fault) => Ok(Err(fault)),
             },
         }
     }
 
-    /// Commits a put, and completes first what is pending.
+    /// Commits a put, and completes first what is pending. Answers the letters of the mark.
     fn put(
         &mut self,
         rt: &impl Abort,
         adds: Adds,
         content: &[u8],
-    ) -> Result<Result<(), QuorumFault>, Fail> {
+    ) -> Result<Result<Whys, QuorumFault>, Fail> {
         let looked = match self.look(rt)? {
             Ok(looked) => looked,
             Err(fault) => return Ok(Err(fault)),
         };
+        assert!(rt; looked.longest >= 100);
+        let change = adds.id.change;
         let mut own = match &looked.pending {
             None => {
-                let next = self.next_over(rt, &looked.base, adds.id.change, Some(adds), content)?;
+                let next = self.next_over(rt, &looked.base, change, Some(adds), content)?;
                 draft(self.alloc, &looked, &next)?
             }
-            Some(found) => match self.forward(rt, &looked, found)? {
+            Some(_) => match self.forward(rt, &looked)? {
                 Ok(first) => {
-                    let next = self.next_over(
-                        rt,
-                        &first.value,
-                        adds.id.change,
-                        Some(adds),
-                        content,
-                    )?;
+                    assert!(rt; first.longest >= 100);
+                    let next = self.next_over(rt, &first.value, change, Some(adds), content)?;
                     draft_after(self.alloc, &first, &next)?
                 }
                 Err(fault) => return Ok(Err(fault)),
@@ -231,7 +249,7 @@ impl World {
 
     /// Puts a body, from its staging to its commit, and answers the refusal, if any.
     fn put_all(&mut self, rt: &impl Abort, body: &[u8]) -> Result<Option<QuorumFault>, Fail> {
-        let adds = self.begin(rt, body)?;
+        let adds = self.begin(rt)?;
         Ok(self.put(rt, adds, body)?.err())
     }
 
@@ -281,8 +299,8 @@ impl World {
         }
     }
 
-    /// Mends the register, with the lanes of a mask out.
-    fn heal(&mut self, rt: &impl Abort, out: u16) -> Result<Mended, Fail> {
+    /// Mends the register, with some lanes out.
+    fn heal(&mut self, rt: &impl Abort, out: DriveSet) -> Result<Mended, Fail> {
         let looked = self.look(rt)??;
         assert!(rt; looked.pending.is_none());
         assert!(rt; looked.base.content.len() < 100);
@@ -291,7 +309,7 @@ impl World {
     }
 
     /// Mends the lanes by a draft.
-    fn mend(&mut self, rt: &impl Abort, out: u16, draft: &Draft) -> Result<Mended, Fail> {
+    fn mend(&mut self, rt: &impl Abort, out: DriveSet, draft: &Draft) -> Result<Mended, Fail> {
         assert!(rt; self.lanes.len() == draft.set.drives as usize);
         assert!(rt; draft.name.len() <= 1129);
         assert!(rt; self.count <= 1_000_000);

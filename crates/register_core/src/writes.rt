@@ -7,7 +7,7 @@ ghost use Rattle.register_core.specs.OnLanes.{AllTell, AreUnused};
 use crate::lanes::is_out;
 use crate::loose::LooseName;
 use call_types::{FileKind, Why, Whys};
-use drive_base::Drive;
+use drive_base::{Drive, DriveSet};
 use file_access::write_file;
 
 /// A file of a register, and the loose names that its writes use.
@@ -26,8 +26,8 @@ pub struct Writing<'a> {
 /// was written is good where all three calls succeeded.
 pub fn write_each<D: Drive>(
     lanes: &mut [D],
-    out: u16,
-    passed: u16,
+    out: DriveSet,
+    passed: DriveSet,
     letters: Whys,
     writing: &Writing,
     count: &mut u64,
@@ -38,7 +38,7 @@ pub fn write_each<D: Drive>(
     requires room { count.old + length lanes.old < 2 ^ 64 }
     ensures wrote { WritesEach D.tells D.files D.count out passed writing.now.name.now writing.now.bytes.now writing.now.term count.old count.new letters result lanes.old lanes.new }
     ensures drives { AllTell D.tells out lanes.old → AreUnused D.files out writing.now.term count.old lanes.old
-        → KeepsDrives D.tells D.files D.count out writing.now.name.now writing.now.term count.new lanes.old lanes.new }
+        → KeepsDrives D.tells D.files D.count out writing.now.name.now writing.now.term count.old count.new lanes.old lanes.new }
     ensures tells { TellsStay D.tells D.files D.count lanes.old lanes.new }
     ensures counts { CountsRise D.tells D.files D.count lanes.old lanes.new }
 {
@@ -56,8 +56,8 @@ pub fn write_each<D: Drive>(
 fn write_lane<D: Drive>(
     lane: &mut D,
     index: usize,
-    out: u16,
-    passed: u16,
+    out: DriveSet,
+    passed: DriveSet,
     letters: &Whys,
     writing: &Writing,
     count: &mut u64,

@@ -4,6 +4,7 @@ mod Forwarding
 mod Judging
 mod Keeping
 mod Marking
+mod Meeting
 mod Members
 mod Places
 mod Preparing

@@ -23,14 +23,14 @@ shown_height : (n : Option NextRow) (m : Option Next) (next : Next) → ShowsNex
 shown_height None None next shown is = cc
 shown_height None (Some other) next shown is = absurd shown
 shown_height (Some row) None next shown is = absurd shown
-shown_height (Some row) (Some other) next shown is = let same : other ≡ next = cc in ap (λ x. 1 + x) (shown.0 ∙ ap (λ (n : Next). n.ballot) same)
+shown_height (Some row) (Some other) next shown is = let same : other ≡ next = cc in ap (λ x. 1 + x) (shown.ballot ∙ ap (λ (n : Next). n.ballot) same)
 
 -- its change
 shown_change : (n : Option NextRow) (m : Option Next) (next : Next) → ShowsNext n m → m ≡ Some next → change_of_next n ≡ next.change
 shown_change None None next shown is = cc
 shown_change None (Some other) next shown is = absurd shown
 shown_change (Some row) None next shown is = absurd shown
-shown_change (Some row) (Some other) next shown is = let same : other ≡ next = cc in shown.1 ∙ ap (λ (n : Next). n.change) same
+shown_change (Some row) (Some other) next shown is = let same : other ≡ next = cc in shown.change ∙ ap (λ (n : Next). n.change) same
 
 -- a next that a row shows is there
 shown_there : (n : Option NextRow) (m : Option Next) → ShowsNext n m → 0 < height_of_next n → (next : Next) × (m ≡ Some next)
@@ -83,7 +83,7 @@ next_carried : (c : ℕ) (n : Option NextRow) (m : Option Next) (next : Next) �
 next_carried c None None next shown is same = cc
 next_carried c None (Some other) next shown is same = absurd shown
 next_carried c (Some row) None next shown is same = absurd shown
-next_carried c (Some row) (Some other) next shown is same = let one : other ≡ next = cc in eq-eqb _ _ (shown.1 ∙ (ap (λ (n : Next). n.change) one ∙ same))
+next_carried c (Some row) (Some other) next shown is same = let one : other ≡ next = cc in eq-eqb _ _ (shown.change ∙ (ap (λ (n : Next). n.change) one ∙ same))
 
 -- so for base and next
 pub carries_backed : (c ballot : ℕ) (row : Row) (lane : Lane) → ShowsLane row lane → is_good row ≡ true → backs c ballot lane ≡ true → carries c row ≡ true

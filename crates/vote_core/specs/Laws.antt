@@ -1,10 +1,12 @@
 -- The laws of the commit protocol, over all lists of lanes, where w lanes must take a write and d must answer a read.
-use Rattle.std.specs.Prelude.{◌≡◌, ◌≢◌, ◌⊎◌, ℕ, ◌<◌, ◌≤◌, Bool, false, IsTrue, List, [], slice_index_or, length, map, replicate, count_by, Contains}
+use Rattle.std.specs.Prelude.{◌≡◌, ◌≢◌, ◌⊎◌, ℕ, ◌+◌, ◌<◌, ◌≤◌, Bool, false, IsTrue, List, [], slice_index_or, length, map, replicate, count_by, Contains}
+use Rattle.std.specs.Int.{IsBitSet}
+use Rattle.drive_base.specs.DriveSet.{count_in}
 use Rattle.stamp_id.specs.declared.stamp.Ballot.{Ballot}
 use Rattle.stamp_id.specs.Rank.{rank_of}
 use Rattle.vote_core.specs.Row.{is_good}
-use Rattle.vote_core.specs.Lane.{Base, Next, Lane, HasNext, lane_at, blank_lane, has_base_of}
-use Rattle.vote_core.specs.Sound.{LanesAreDrawn, HoldsValue}
+use Rattle.vote_core.specs.Lane.{Base, Next, Lane, HasNext, HasRecord, lane_at, blank_lane, has_base_of}
+use Rattle.vote_core.specs.Sound.{LanesAreDrawn, IsLive, HoldsValue}
 use Rattle.vote_core.specs.Calm.{IsCalm}
 use Rattle.vote_core.specs.History.{IsDead}
 use Rattle.vote_core.specs.Section.{Section, SectionLeaves}
@@ -83,6 +85,11 @@ FreshChangeStays = (c : ℕ) (lanes new : List Lane) (x : Lane)
     → IsFreshChange lanes c → x.base.change ≢ c → ((next : Next) → HasNext x next → next.change ≢ c) → Leaves x lanes new
     → IsFreshChange new c
 
+-- a number above the last one drawn is a fresh ballot and a fresh change, for every register
+abbrev pub AboveLastIsFresh : Type 0
+AboveLastIsFresh = (last later number : ℕ) (lanes : List Lane) → LanesAreDrawn last lanes → last < number → number ≤ later
+    → IsFreshBallot later lanes number × IsFreshChange lanes number
+
 -- the numbers of each lane's file stay lawful through a prepare, also where the lanes are not sound
 abbrev pub PrepareStaysDrawn : Type 0
 PrepareStaysDrawn = (last later : ℕ) (lanes new : List Lane) (base : Base) (next : Next)
@@ -143,6 +150,41 @@ SectionKeeps = (w d last later c : ℕ) (content : List ℕ) (lanes new : List L
     → Section w d later lanes c new base next
     → SectionLeaves w later lanes c content new next
 
+-- on sound lanes a next of another change than the value's, over a base that carries the value's change, may become the value
+abbrev pub LiveIs : Type 0
+LiveIs = (w last c : ℕ) (content : List ℕ) (lanes : List Lane) (a : Lane) (next : Next) → HoldsValue w last lanes c content
+    → Contains lanes a → HasNext a next → a.base.change ≡ c → next.change ≢ c
+    → IsLive lanes c a next
+
+-- what may become the value after a loop could so before, or the loop wrote it
+abbrev pub LiveIsOldOrOwn : Type 0
+LiveIsOldOrOwn = (w last c : ℕ) (content : List ℕ) (lanes new : List Lane) (x a : Lane) (next : Next) → HoldsValue w last lanes c content
+    → Leaves x lanes new → Contains new a → HasNext a next → IsLive new c a next
+    → (Contains lanes a × IsLive lanes c a next) ⊎ (a ≡ x)
+
+-- once another change than the value's is marked, nothing may become the value
+abbrev pub MarkLeavesNoneLive : Type 0
+MarkLeavesNoneLive = (c : ℕ) (lanes new : List Lane) (base : Base) (next other : Next) (a : Lane)
+    → IsPrepared lanes c base next → next.change ≢ c → Leaves (marked next) lanes new → Contains new a → HasNext a other
+    → ¬ IsLive new next.change a other
+
+-- lanes that pass a test and lanes of a set have one in common, where together they are more than the lanes
+abbrev pub QuorumsMeet : Type 0
+QuorumsMeet = (test : Lane → Bool) (set : ℕ) (lanes : List Lane) → length lanes < count_by test lanes + count_in set (length lanes)
+    → (k : ℕ) × (k < length lanes) × IsBitSet set k × IsTrue (test (lane_at lanes k))
+
+-- of any d lanes one has a record of the value, in its base or its next
+abbrev pub ValueIsMet : Type 0
+ValueIsMet = (w d last c set : ℕ) (content : List ℕ) (lanes : List Lane) → Overlap (length lanes) w d → HoldsValue w last lanes c content
+    → d ≤ count_in set (length lanes)
+    → (k : ℕ) × (k < length lanes) × IsBitSet set k × HasRecord (lane_at lanes k) c content
+
+-- where any w lanes meet any other w, and w lanes at least keep no file, the value is the empty one, and every lane may be taken for one without a file
+abbrev pub UnlistedIsBlank : Type 0
+UnlistedIsBlank = (w last c set : ℕ) (content : List ℕ) (lanes : List Lane) → length lanes < w + w → HoldsValue w last lanes c content
+    → ((k : ℕ) → k < length lanes → IsBitSet set k → lane_at lanes k ≡ blank_lane) → w ≤ count_in set (length lanes)
+    → (c ≡ 0) × (content ≡ []) × HoldsValue w last (replicate (length lanes) blank_lane) 0 []
+
 -- lanes that keep no file hold the empty content, made by no change, and are calm
 abbrev pub FreshIsCalm : Type 0
 FreshIsCalm = (n w last : ℕ) → 1 ≤ n → w ≤ n
@@ -176,6 +218,10 @@ abbrev pub LeftAtByPlaces : Type 0
 LeftAtByPlaces = (targets : List Bool) (x : Lane) (lanes new : List Lane) → length targets ≡ length lanes → length new ≡ length lanes
     → ((k : ℕ) → k < length lanes → (lane_at new k ≡ lane_at lanes k) ⊎ (IsTrue (slice_index_or targets k false) × (lane_at new k ≡ x)))
     → LeavesAt targets x lanes new
+
+-- a lane after a loop was there before, or has the loop's record
+abbrev pub LeftMembers : Type 0
+LeftMembers = (x : Lane) (lanes new : List Lane) (a : Lane) → Leaves x lanes new → Contains new a → Contains lanes a ⊎ (a ≡ x)
 
 -- which lanes have a record, place by place
 abbrev pub HadByPlaces : Type 0

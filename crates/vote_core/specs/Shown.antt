@@ -1,6 +1,7 @@
 -- Rows that show the records of lanes: a bad row shows nothing, and a good row is its lane's record.
 use Rattle.std.specs.Prelude.{◌≡◌, ◌+◌, ◌≢◌, ◌⊎◌, ⊤, ℕ, ◌<◌, true, List, Option, None, Some, length}
 use Rattle.std.specs.List.{AllZip}
+use Rattle.std.specs.Option.{is_some}
 use Rattle.stamp_id.specs.Rank.{rank_of, change_of}
 use Rattle.vote_core.specs.Row.{is_good}
 use Rattle.vote_core.specs.Lane.{Next, Lane, HasNext, lane_at}
@@ -10,12 +11,18 @@ use Rattle.vote_core.specs.declared.row.Row.{Row}
 use Rattle.vote_core.specs.declared.row.Row.TheVariants.{Bad, Good}
 use Rattle.vote_core.specs.declared.row.NextRow.{NextRow}
 
+-- a row has the ballot and the change of what is on its way, and tells whether it adds data
+pub record IsRowOf (row : NextRow) (next : Next) : Type 0 where
+  pub ballot : rank_of row.ballot ≡ next.ballot
+  pub change : change_of row.change ≡ next.change
+  pub adds : row.adds ≡ is_some next.adds
+
 -- what is on its way on a row is what is on its way on a lane
 abbrev pub ShowsNext : Option NextRow → Option Next → Type 0
 ShowsNext None None = ⊤
 ShowsNext None (Some next) = ⊥
 ShowsNext (Some row) None = ⊥
-ShowsNext (Some row) (Some next) = (rank_of row.ballot ≡ next.ballot) × (change_of row.change ≡ next.change)
+ShowsNext (Some row) (Some next) = IsRowOf row next
 
 -- a good row is its lane's record
 abbrev pub ShowsLane : Row → Lane → Type 0

@@ -4,12 +4,13 @@
 
 ghost use Rattle.vote_core.specs.Laws.{OneVerdict, SettledIsTheValue, PendingIsFound};
 ghost use Rattle.vote_core.specs.Laws.{PrepareKeeps, ForwardKeeps, MarkKeeps, MarkSettles, MendKeeps};
-ghost use Rattle.vote_core.specs.Laws.{FreshBallotStays, FreshChangeStays};
+ghost use Rattle.vote_core.specs.Laws.{FreshBallotStays, FreshChangeStays, AboveLastIsFresh};
 ghost use Rattle.vote_core.specs.Laws.{PrepareStaysDrawn, MarkStaysDrawn, MendStaysDrawn};
 ghost use Rattle.vote_core.specs.Laws.{CalmSettles, MendStaysCalm, FreshIsCalm};
 ghost use Rattle.vote_core.specs.Laws.{DeadIsNeverPending, DeadStaysDead, MarkKills, SectionKeeps};
-ghost use Rattle.vote_core.specs.Laws.{OneValue, DrawingKeeps};
-ghost use Rattle.vote_core.specs.Laws.{ShownByPlaces, LeftByPlaces, LeftAtByPlaces, HadByPlaces};
+ghost use Rattle.vote_core.specs.Laws.{LiveIs, LiveIsOldOrOwn, MarkLeavesNoneLive};
+ghost use Rattle.vote_core.specs.Laws.{OneValue, DrawingKeeps, QuorumsMeet, ValueIsMet, UnlistedIsBlank};
+ghost use Rattle.vote_core.specs.Laws.{ShownByPlaces, LeftByPlaces, LeftAtByPlaces, LeftMembers, HadByPlaces};
 
 /// What a verdict over sound lanes says: a settled lane has the value, and what is pending is the value's change or may become the value. The
 /// rows have one verdict.
@@ -36,10 +37,11 @@ pub fn mend_law()
     ensures { MendKeeps }
 {}
 
-/// What is fresh for a register stays so through loops that don't use it.
+/// What is fresh for a register stays so through loops that don't use it, and a number above the last one drawn is fresh for every register.
 pub fn fresh_laws()
     ensures ballot { FreshBallotStays }
     ensures change { FreshChangeStays }
+    ensures above { AboveLastIsFresh }
 {}
 
 /// The numbers of the lanes' files stay lawful through every loop, also where the lanes are not sound.
@@ -66,10 +68,22 @@ pub fn history_laws()
     ensures section { SectionKeeps }
 {}
 
-/// Sound lanes have one value, and keep it while numbers are drawn.
+/// What may become the value: on sound lanes each next of another change over the value's base. What may become the value after a loop could so
+/// before or is the loop's own, and once another change is marked nothing may.
+pub fn live_laws()
+    ensures is { LiveIs }
+    ensures old_or_own { LiveIsOldOrOwn }
+    ensures marked { MarkLeavesNoneLive }
+{}
+
+/// Sound lanes have one value, keep it while numbers are drawn, and show it on one of any d lanes. Where w lanes at least keep no file it is the
+/// empty one, and the records of the others may be taken for blank.
 pub fn value_laws()
     ensures one { OneValue }
     ensures drawing { DrawingKeeps }
+    ensures meet { QuorumsMeet }
+    ensures met { ValueIsMet }
+    ensures unlisted { UnlistedIsBlank }
 {}
 
 /// The relations of rows and lanes, from what holds at each place.
@@ -78,4 +92,5 @@ pub fn place_laws()
     ensures left { LeftByPlaces }
     ensures targets { LeftAtByPlaces }
     ensures mask { HadByPlaces }
+    ensures members { LeftMembers }
 {}

@@ -16,7 +16,7 @@ mod row;
 mod verdict;
 
 pub use laws::{
-    calm_laws, fresh_laws, history_laws, mark_laws, mend_law, number_laws, place_laws,
+    calm_laws, fresh_laws, history_laws, live_laws, mark_laws, mend_law, number_laws, place_laws,
     prepare_laws, value_laws, verdict_laws,
 };
 pub use row::{NextRow, Row};

@@ -28,6 +28,8 @@ pub struct NextRow {
     pub ballot: Ballot,
     /// The change.
     pub change: ChangeId,
+    /// Whether it adds data.
+    pub adds: bool,
 }
 
 /// The height of a row's base: 0 where the row isn't good, else one more than the rank of its ballot.

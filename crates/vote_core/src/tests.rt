@@ -35,6 +35,7 @@ fn next(number: u16, change: u16, next_number: u16, next_change: u16) -> Row {
     let next = NextRow {
         ballot: ballot(next_number),
         change: ChangeId(ballot(next_change)),
+        adds: true,
     };
     Row::Good {
         base: ballot(number),

@@ -13,7 +13,7 @@ fn keeps_its_word(
 ) -> Result<bool, Fail> {
     let mut world = fresh_world(alloc, 2)?;
     assert_eq!(rt; world.put_all(rt, b"old")?, None);
-    let adds = world.begin(rt, b"new")?;
+    let adds = world.begin(rt)?;
     for index in 0..4usize {
         if lanes[index] {
             world.fuse(rt, index, calls, late);
@@ -28,27 +28,51 @@ fn keeps_its_word(
 }
 
 #[test]
-fn a_change_under_each_fuse_of_one_lane(rt: HostRuntime) -> Result<(), Fail> {
+fn a_change_under_each_fuse_of_one_lane_or_of_all_but_one(rt: HostRuntime) -> Result<(), Fail> {
     for lane in 0..4usize {
-        let mut lanes = [false; 4];
-        lanes[lane] = true;
-        for calls in 0..9u64 {
-            assert!(rt; keeps_its_word(&rt, rt.alloc(), lanes, calls, false)?);
-            assert!(rt; keeps_its_word(&rt, rt.alloc(), lanes, calls, true)?);
+        for alone in [true, false] {
+            let mut lanes = [!alone; 4];
+            lanes[lane] = alone;
+            for calls in 0..9u64 {
+                assert!(rt; keeps_its_word(&rt, rt.alloc(), lanes, calls, false)?);
+                assert!(rt; keeps_its_word(&rt, rt.alloc(), lanes, calls, true)?);
+            }
         }
     }
     Ok(())
 }
 
 #[test]
-fn a_change_under_each_fuse_of_all_lanes_but_one(rt: HostRuntime) -> Result<(), Fail> {
-    for lane in 0..4usize {
-        let mut lanes = [true; 4];
-        lanes[lane] = false;
-        for calls in 0..9u64 {
-            assert!(rt; keeps_its_word(&rt, rt.alloc(), lanes, calls, false)?);
-            assert!(rt; keeps_its_word(&rt, rt.alloc(), lanes, calls, true)?);
+fn a_look_makes_one_call_or_two(rt: HostRuntime) -> Result<(), Fail> {
+    // One call for a file that is absent, and two for one that is shown.
+    for (shown, calls, good) in [
+        (false, 0u64, false),
+        (false, 1, true),
+        (true, 1, false),
+        (true, 2, true),
+    ] {
+        let mut world = fresh_world(rt.alloc(), 2)?;
+        if shown {
+            assert_eq!(rt; world.put_all(&rt, b"old")?, None);
         }
+        world.fuse(&rt, 0, calls, false);
+        let looked = world.look(&rt)??;
+        assert!(rt; looked.whys.len() == 4);
+        assert_eq!(rt; looked.whys.get(0).is_good(), good);
+    }
+    Ok(())
+}
+
+#[test]
+fn a_write_makes_three_calls(rt: HostRuntime) -> Result<(), Fail> {
+    // One call of the look, three of the prepare and three of the mark.
+    for (calls, good) in [(6u64, false), (7, true)] {
+        let mut world = fresh_world(rt.alloc(), 2)?;
+        let adds = world.begin(&rt)?;
+        world.fuse(&rt, 0, calls, false);
+        let whys = world.put(&rt, adds, b"new")??;
+        assert!(rt; whys.len() == 4);
+        assert_eq!(rt; whys.get(0).is_good(), good);
     }
     Ok(())
 }

@@ -14,10 +14,10 @@ fn without_lane_three(rt: &impl Abort, alloc: Global) -> Result<World, Fail> {
 #[test]
 fn a_mend_writes_the_lanes_that_lack_the_value(rt: HostRuntime) -> Result<(), Fail> {
     let mut world = without_lane_three(&rt, rt.alloc())?;
-    let mended = world.heal(&rt, 0)?;
+    let mended = world.heal(&rt, DriveSet::none())?;
     assert_eq!(rt; mended.lanes, 1);
     assert_eq!(rt; mended.whys, Whys::all_good(4));
-    let again = world.heal(&rt, 0)?;
+    let again = world.heal(&rt, DriveSet::none())?;
     assert_eq!(rt; again.lanes, 0);
     // Lane 3 has the value now: the others aren't needed.
     world.lose(&rt, 0);
@@ -29,7 +29,7 @@ fn a_mend_writes_the_lanes_that_lack_the_value(rt: HostRuntime) -> Result<(), Fa
 #[test]
 fn a_mend_leaves_a_lane_that_fails_and_one_that_is_out(rt: HostRuntime) -> Result<(), Fail> {
     let mut world = without_lane_three(&rt, rt.alloc())?;
-    let out = world.heal(&rt, 0b1000)?;
+    let out = world.heal(&rt, DriveSet::from_mask(0b1000))?;
     assert_eq!(rt; out.lanes, 0);
     assert_eq!(rt;
         out.whys.as_slice().get(3).copied(),
@@ -37,7 +37,7 @@ fn a_mend_leaves_a_lane_that_fails_and_one_that_is_out(rt: HostRuntime) -> Resul
     );
     // The put met two faults of lane 3. The look takes one call, `size`, and the write fails at its `sync`.
     world.fuse(&rt, 3, 2, false);
-    let failed = world.heal(&rt, 0)?;
+    let failed = world.heal(&rt, DriveSet::none())?;
     assert_eq!(rt; failed.lanes, 0);
     assert_eq!(rt;
         failed.whys.as_slice().get(3).copied(),
@@ -52,7 +52,7 @@ fn a_mend_leaves_a_lane_that_fails_and_one_that_is_out(rt: HostRuntime) -> Resul
 #[test]
 fn a_change_that_was_completed_is_mended_by_its_own_draft(rt: HostRuntime) -> Result<(), Fail> {
     let mut world = fresh_world(rt.alloc(), 2)?;
-    let adds = world.begin(&rt, b"hello")?;
+    let adds = world.begin(&rt)?;
     // Lanes 0 to 2 are prepared, and no lane is marked.
     for (index, calls) in [(0usize, 4u64), (1, 4), (2, 4), (3, 1)] {
         world.fuse(&rt, index, calls, false);
@@ -60,16 +60,13 @@ fn a_change_that_was_completed_is_mended_by_its_own_draft(rt: HostRuntime) -> Re
     assert!(rt; world.put(&rt, adds, b"hello")?.is_err());
     world.stop();
     let looked = world.look(&rt)??;
-    let Some(found) = &looked.pending else {
-        return Err(Fail::new("nothing was pending"));
-    };
     // Lane 3 fails all calls of the forward.
     world.fuse(&rt, 3, 0, false);
-    let draft = world.forward(&rt, &looked, found)??;
+    let draft = world.forward(&rt, &looked)??;
     world.back(&rt, 3);
-    let mended = world.mend(&rt, 0, &draft)?;
+    let mended = world.mend(&rt, DriveSet::none(), &draft)?;
     assert_eq!(rt; mended.lanes, 1);
-    let again = world.heal(&rt, 0)?;
+    let again = world.heal(&rt, DriveSet::none())?;
     assert_eq!(rt; again.lanes, 0);
     assert!(rt; world.holds(&rt, b"hello")?);
     Ok(())
@@ -83,6 +80,12 @@ impl ContentRule for NoHello {
     ghost use Rattle.std.specs.Prelude.{Some, None, bytes_eq, codes, if◌then◌else◌};
 
     ghost fault_in = { λ _ content. if bytes_eq content (codes "hello") then Some 2 else None };
+
+    ghost most_bytes = { λ _. 18446744073709551615 };
+
+    fn longest(&self) -> u64 {
+        u64::MAX
+    }
 
     fn check(&mut self, _alloc: Global, content: &[u8]) -> Result<(), ContentFault> {
         if content == b"hello".as_slice() {
@@ -100,7 +103,8 @@ fn a_content_that_breaks_its_rule_is_refused(rt: HostRuntime) -> Result<(), Fail
     let set = SetPlan::new([7; 16], 4, 2);
     let lanes = world.lanes.as_mut_slice();
     let disks = world.disks.as_mut_slice();
-    let refused = look(rt.alloc(), lanes, disks, 0, set, NAME, &mut NoHello).err();
+    let out = DriveSet::none();
+    let refused = look(rt.alloc(), lanes, disks, out, set, NAME, &mut NoHello).err();
     let damaged = Why::Damaged(Damage::Spelling(2));
     let mut whys = Whys::all_good(4);
     whys.set(0, damaged);

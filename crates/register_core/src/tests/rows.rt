@@ -48,7 +48,7 @@ fn letter(why: Why) -> u8 {
 fn half_put(rt: &impl Abort, alloc: Global) -> Result<World, Fail> {
     let mut world = fresh_world(alloc, 2)?;
     assert_eq!(rt; world.put_all(rt, b"old")?, None);
-    let adds = world.begin(rt, b"new")?;
+    let adds = world.begin(rt)?;
     world.lose(rt, 2);
     world.lose(rt, 3);
     let refused = world.put(rt, adds, b"new")?.err().map(told);
@@ -99,7 +99,7 @@ fn a_pending_put_without_its_manifests_is_undecided(rt: HostRuntime) -> Result<(
 #[test]
 fn a_put_that_no_lane_marked_is_completed_after_a_stop(rt: HostRuntime) -> Result<(), Fail> {
     let mut world = fresh_world(rt.alloc(), 2)?;
-    let adds = world.begin(&rt, b"hello")?;
+    let adds = world.begin(&rt)?;
     // Each lane passes one `size`, and lanes 0 to 2 the three calls of a prepare.
     for (index, calls) in [(0usize, 4u64), (1, 4), (2, 4), (3, 1)] {
         world.fuse(&rt, index, calls, false);
@@ -116,7 +116,7 @@ fn a_put_that_no_lane_marked_is_completed_after_a_stop(rt: HostRuntime) -> Resul
 #[test]
 fn a_put_that_one_lane_marked_is_completed_without_that_lane(rt: HostRuntime) -> Result<(), Fail> {
     let mut world = fresh_world(rt.alloc(), 2)?;
-    let adds = world.begin(&rt, b"hello")?;
+    let adds = world.begin(&rt)?;
     for (index, calls) in [(0usize, 7u64), (1, 4), (2, 4), (3, 4)] {
         world.fuse(&rt, index, calls, false);
     }
@@ -133,7 +133,7 @@ fn a_put_that_one_lane_marked_is_completed_without_that_lane(rt: HostRuntime) ->
 fn a_lane_that_comes_back_with_a_dead_change(rt: HostRuntime) -> Result<(), Fail> {
     let mut world = fresh_world(rt.alloc(), 2)?;
     assert_eq!(rt; world.put_all(&rt, b"old")?, None);
-    let adds = world.begin(&rt, b"new")?;
+    let adds = world.begin(&rt)?;
     for index in 1..4usize {
         world.fuse(&rt, index, 2, false);
     }

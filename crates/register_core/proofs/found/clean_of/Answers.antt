@@ -1,4 +1,6 @@
 use Rattle.std.proofs.Common.{◌≡◌, ◌+◌, ◌<◌, ◌^◌, ◌∙◌, ℕ, length, subst, sym, arith}
+use Rattle.std.specs.Prelude.{◌↔◌}
+use Rattle.std.specs.Int.{IsBitSet}
 use Rattle.call_types.proofs.MaskLemmas.{MaskSoFar, mask_bit, mask_no, mask_yes}
 use Rattle.register_core.proofs.FoundLemmas.{IsClean, looked_up}
 use Rattle.register_core.proofs.found.clean_of.Goals as goal
@@ -23,9 +25,10 @@ pub returns-clause-bits : goal.returns-clause-bits
 returns-clause-bits c =
     let clean : ℕ → Type 0 = IsClean c.args.files.now c.args.base.now in
     let all : c.loop-k.k ≡ length c.args.files.now = omega arith in
-    mask_bit clean (length c.args.files.now) c.loop-k.mask (subst (λ (n : ℕ). MaskSoFar clean n c.loop-k.mask) all c.loop-k.invariant)
+    subst (λ (m : ℕ). (k : ℕ) → k < length c.args.files.now → IsBitSet m k ↔ clean k) (sym c.from_mask.ensures)
+    (mask_bit clean (length c.args.files.now) c.loop-k.mask (subst (λ (n : ℕ). MaskSoFar clean n c.loop-k.mask) all c.loop-k.invariant))
 
 pub returns-clause-none_else : goal.returns-clause-none_else
 returns-clause-none_else c =
     let all : c.loop-k.k ≡ length c.args.files.now = omega arith in
-    subst (λ (n : ℕ). c.loop-k.mask < 2 ^ n) all c.loop-k.invariant.low
+    subst (λ (m : ℕ). m < 2 ^ length c.args.files.now) (sym c.from_mask.ensures) (subst (λ (n : ℕ). c.loop-k.mask < 2 ^ n) all c.loop-k.invariant.low)

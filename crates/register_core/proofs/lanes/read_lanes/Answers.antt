@@ -7,9 +7,11 @@ use Rattle.call_types.specs.declared.why.Why.{Why}
 use Rattle.call_types.specs.declared.why.Why.TheVariants.{Good, Lacks}
 use Rattle.register_file.specs.declared.record.RegFile.{RegFile}
 use Rattle.register_core.specs.Loops.{letter_at}
-use Rattle.register_core.specs.Looking.{LaneIsRead, found_at}
+use Rattle.register_core.specs.Found.{found_at}
+use Rattle.register_core.specs.Looking.{LaneIsRead}
 use Rattle.register_core.proofs.EachLemmas.{AreGoodFrom, good_after, set_each}
 use Rattle.register_core.proofs.ReadLemmas.{found_more, out_same, read_err, read_ok}
+use Rattle.register_core.proofs.SeenLemmas.{letters_on}
 use Rattle.register_core.proofs.lanes.read_lanes.Goals as goal
 use Rattle.register_core.proofs.lanes.read_lanes.Goals.{in-Ok+in_ok-push-in-Ok, in-Err-Because+in_ok-push-in-Err-Because}
 
@@ -29,7 +31,7 @@ loop-index-preserved g c =
     let was : (d : T) → slice_index_or now i c.index-lanes-index.result ≡ slice_index_or old i d =
     (λ d. get_or_default now i c.index-lanes-index.result d low ∙ inv.others i d (omega arith)) in
     let P : ℕ → Option RegFile → Why → T → T → Type 0 =
-    (λ k f (v : Why) a b. LaneIsRead c.args.name.now f v (IsBitSet c.args.out k) (D.tells a) (D.files a) (D.count a) (D.count b)) in
+    (λ k f (v : Why) a b. LaneIsRead c.args.most c.args.name.now f v (IsBitSet c.args.out k) (D.tells a) (D.files a) (D.count a) (D.count b)) in
     let before = slice_index_or now i c.index-lanes-index.result in
     let one : (f : Option RegFile) (why : Why) → P i f why before x → (d : T) → P i f why (slice_index_or old i d) x =
     (λ f why given d. subst (λ (a : T). P i f why a x) (was d) given) in
@@ -51,8 +53,8 @@ loop-index-preserved g c =
             let file = w.in-Ok.file in
             let pushed : c.match-read_lane.files.items ≡ items ++ Some file ∷ [] = rw w.files-is w.in_ok-push-in-Ok.ensures.items in
             let given : P i (Some file) Good before x =
-            out_same c.args.name.now (Some file) Good (IsTrue c.is_out.result) (IsBitSet c.args.out i) (D.tells before) (D.files before) (D.count before) (D.count x) c.is_out.ensures
-            (read_ok c.args.name.now c.read_lane.result file (IsTrue c.is_out.result) (D.tells before) (D.files before) (D.count before) (D.count x)
+            out_same c.args.most c.args.name.now (Some file) Good (IsTrue c.is_out.result) (IsBitSet c.args.out i) (D.tells before) (D.files before) (D.count before) (D.count x) c.is_out.ensures
+            (read_ok c.args.most c.args.name.now c.read_lane.result file (IsTrue c.is_out.result) (D.tells before) (D.files before) (D.count before) (D.count x)
             w.in-Ok.is c.read_lane.ensures.outcome) in
             subst (λ (fs : List (Option RegFile)). (k : ℕ) (d : T) → k < i + 1 → P k (found_at fs k) (letter_at c.match-read_lane.whys k) (slice_index_or old k d) (slice_index_or (slice_set now i x) k d)) (sym pushed)
             (found_more T P items whys c.match-read_lane.whys old now i (Some file) Good x inv.counted low
@@ -62,8 +64,8 @@ loop-index-preserved g c =
             let why = w.in-Err-Because.why in
             let pushed : c.match-read_lane.files.items ≡ items ++ None ∷ [] = rw w.files-is w.in_ok-push-in-Err-Because.ensures.items in
             let given : P i None why before x =
-            out_same c.args.name.now None why (IsTrue c.is_out.result) (IsBitSet c.args.out i) (D.tells before) (D.files before) (D.count before) (D.count x) c.is_out.ensures
-            (read_err c.args.name.now c.read_lane.result w.in-Err-Because.field-0 why (IsTrue c.is_out.result) (D.tells before) (D.files before) (D.count before) (D.count x)
+            out_same c.args.most c.args.name.now None why (IsTrue c.is_out.result) (IsBitSet c.args.out i) (D.tells before) (D.files before) (D.count before) (D.count x) c.is_out.ensures
+            (read_err c.args.most c.args.name.now c.read_lane.result w.in-Err-Because.field-0 why (IsTrue c.is_out.result) (D.tells before) (D.files before) (D.count before) (D.count x)
             w.in-Err-Because.is w.in-Err-Because.field-0-is c.read_lane.ensures.outcome) in
             let set_whys = w.whys-is ∙ w.set.ensures in
             subst (λ (fs : List (Option RegFile)). (k : ℕ) (d : T) → k < i + 1 → P k (found_at fs k) (letter_at c.match-read_lane.whys k) (slice_index_or old k d) (slice_index_or (slice_set now i x) k d)) (sym pushed)
@@ -86,4 +88,23 @@ loop-index-preserved g c =
       counts = set_each T (λ (k : ℕ) (a b : T). D.count a ≤ D.count b) old now i x low
           (λ d. subst (λ (a : T). D.count a ≤ D.count x) (was d) c.read_lane.ensures.count) inv.counts;
       others = search rules;
+    }
+
+pub returns-clause-read : goal.returns-clause-read
+returns-clause-read g c =
+    let D = g.D.Drive in
+    let inv = c.loop-index.invariant in
+    let old = c.args.lanes.now in
+    let all : c.loop-index.index ≡ length old = omega arith in
+    let counted = inv.counted ∙ all in
+    let each : (k : ℕ) (d : g.row.D.Denot) → k < length old
+    → LaneIsRead c.args.most c.args.name.now (found_at c.loop-index.files.items k) (letter_at c.loop-index.whys k) (IsBitSet c.args.out k)
+    (D.tells (slice_index_or old k d)) (D.files (slice_index_or old k d)) (D.count (slice_index_or old k d)) (D.count (slice_index_or c.loop-index.lanes k d)) =
+    (λ k d below. inv.found k d (omega arith)) in
+    record {
+      counted = counted;
+      lettered = inv.long;
+      on = letters_on D.tells D.files D.count c.args.out c.args.most c.args.name.now c.loop-index.files.items c.loop-index.whys old c.loop-index.lanes counted inv.long each;
+      each = each;
+      stay = inv.stay;
     }

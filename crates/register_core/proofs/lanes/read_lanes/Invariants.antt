@@ -2,7 +2,8 @@ use Rattle.std.proofs.Common.{◌≡◌, ◌<◌, ◌≤◌, ℕ, length, slice_
 use Rattle.std.specs.Prelude.{IsTrue}
 use Rattle.std.specs.Int.{IsBitSet}
 use Rattle.register_core.specs.Loops.{letter_at}
-use Rattle.register_core.specs.Looking.{LaneIsRead, found_at}
+use Rattle.register_core.specs.Found.{found_at}
+use Rattle.register_core.specs.Looking.{LaneIsRead}
 use Rattle.register_core.proofs.EachLemmas.{AreGoodFrom}
 use Rattle.register_core.proofs.lanes.read_lanes.Given as goal
 
@@ -12,7 +13,7 @@ invariant-loop-index g l = let D = g.D.Drive in record {
   counted : length l.files.items ≡ l.index;
   long : length l.whys ≡ length l.initial.lanes;
   found : (k : ℕ) (d : g.row.D.Denot) → k < l.index
-      → LaneIsRead l.name (found_at l.files.items k) (letter_at l.whys k) (IsBitSet l.out k)
+      → LaneIsRead l.most l.name (found_at l.files.items k) (letter_at l.whys k) (IsBitSet l.out k)
       (D.tells (slice_index_or l.initial.lanes k d)) (D.files (slice_index_or l.initial.lanes k d))
       (D.count (slice_index_or l.initial.lanes k d)) (D.count (slice_index_or l.lanes k d));
   good : AreGoodFrom l.index l.whys;

@@ -1,8 +1,11 @@
-use Rattle.std.proofs.Common.{List, string_bytes, ◌≤◌, subst, sym, ◌∙◌, ℕ, arith}
+use Rattle.std.proofs.Common.{List, length, string_bytes, ◌≡◌, ◌≤◌, ap, subst, sym, ◌∙◌, ℕ, arith}
+use Rattle.std.specs.Int.{IsBitSet}
 use Rattle.call_types.proofs.GoodLemmas.{mask_at}
+use Rattle.drive_base.specs.DriveSet.{count_in}
 use Rattle.register_core.specs.Loops.{WritesEach}
 use Rattle.register_core.specs.Proposing.{quorum_of}
 use Rattle.register_core.proofs.KeepLemmas.{HasMarked, has_marked}
+use Rattle.register_core.proofs.ServingLemmas.{served}
 use Rattle.register_core.proofs.proposing.mark.Goals as goal
 
 pub returns-then-good-write_quorum-clause-keeps : goal.returns-then-good-write_quorum-clause-keeps
@@ -10,12 +13,13 @@ returns-then-good-write_quorum-clause-keeps g c next recorded ends tell unused a
     let D : Type 0 = g.row.D.Denot in
     let draft = c.args.draft.now in
     let took = c.args.prepared in
-    let On : List ℕ → List ℕ → Type 0 = λ name bytes.
-    WritesEach {D = D} g.D.Drive.tells g.D.Drive.files g.D.Drive.count took.out 0 name bytes c.args.term c.args.count.now c.write_each-whys.new.count took.whys
+    let On : ℕ → List ℕ → List ℕ → Type 0 = λ passed name bytes.
+    WritesEach {D = D} g.D.Drive.tells g.D.Drive.files g.D.Drive.count took.out passed name bytes c.args.term c.args.count.now c.write_each-whys.new.count took.whys
     c.write_each-whys.result c.args.lanes.now c.write_each-whys.new.lanes in
-    let wrote : On (string_bytes draft.name) draft.last.items =
-    subst (λ (name : List ℕ). On name draft.last.items) c.as_str.ensures.value
-    (subst (λ (bytes : List ℕ). On c.as_str.result.now bytes) c.as_slice.ensures.value c.write_each-whys.ensures.wrote) in
+    let wrote : On 0 (string_bytes draft.name) draft.last.items =
+    subst (λ (passed : ℕ). On passed (string_bytes draft.name) draft.last.items) c.none.ensures
+    (subst (λ (name : List ℕ). On c.none.result name draft.last.items) c.as_str.ensures.value
+    (subst (λ (bytes : List ℕ). On c.none.result c.as_str.result.now bytes) c.as_slice.ensures.value c.write_each-whys.ensures.wrote)) in
     let some : 1 ≤ quorum_of draft =
     subst (λ (w : ℕ). 1 ≤ w) c.write_quorum.ensures.quorum (omega (arith, c.write_quorum.ensures.overlap)) in
     let kept : HasMarked {D = D} g.D.Drive.tells g.D.Drive.files g.D.Drive.count draft took next c.write_each-whys.result c.write_each-whys.new.lanes recorded =
@@ -31,12 +35,13 @@ returns-clause-keeps g c next recorded ends tell unused are =
     let D : Type 0 = g.row.D.Denot in
     let draft = c.args.draft.now in
     let took = c.args.prepared in
-    let On : List ℕ → List ℕ → Type 0 = λ name bytes.
-    WritesEach {D = D} g.D.Drive.tells g.D.Drive.files g.D.Drive.count took.out 0 name bytes c.args.term c.args.count.now c.write_each-whys.new.count took.whys
+    let On : ℕ → List ℕ → List ℕ → Type 0 = λ passed name bytes.
+    WritesEach {D = D} g.D.Drive.tells g.D.Drive.files g.D.Drive.count took.out passed name bytes c.args.term c.args.count.now c.write_each-whys.new.count took.whys
     c.write_each-whys.result c.args.lanes.now c.write_each-whys.new.lanes in
-    let wrote : On (string_bytes draft.name) draft.last.items =
-    subst (λ (name : List ℕ). On name draft.last.items) c.as_str.ensures.value
-    (subst (λ (bytes : List ℕ). On c.as_str.result.now bytes) c.as_slice.ensures.value c.write_each-whys.ensures.wrote) in
+    let wrote : On 0 (string_bytes draft.name) draft.last.items =
+    subst (λ (passed : ℕ). On passed (string_bytes draft.name) draft.last.items) c.none.ensures
+    (subst (λ (name : List ℕ). On c.none.result name draft.last.items) c.as_str.ensures.value
+    (subst (λ (bytes : List ℕ). On c.none.result c.as_str.result.now bytes) c.as_slice.ensures.value c.write_each-whys.ensures.wrote)) in
     let some : 1 ≤ quorum_of draft =
     subst (λ (w : ℕ). 1 ≤ w) c.write_quorum.ensures.quorum (omega (arith, c.write_quorum.ensures.overlap)) in
     let kept : HasMarked {D = D} g.D.Drive.tells g.D.Drive.files g.D.Drive.count draft took next c.write_each-whys.result c.write_each-whys.new.lanes recorded =
@@ -54,5 +59,20 @@ returns-clause-keeps g c next recorded ends tell unused are =
       stay = kept.stay;
       value = kept.enough (subst (λ (n : ℕ). quorum_of draft ≤ n) c.good.ensures enough);
       numbers = kept.numbers;
-      marked_lanes = λ k below bit. kept.have k below ((mask_at c.write_each-whys.result c.good_mask-draft.result c.good_mask-draft.ensures k).0 bit);
+      marked_lanes = λ k below bit. kept.have k below ((mask_at c.write_each-whys.result c.good_mask.result c.good_mask.ensures k).0 (subst (λ (m : ℕ). IsBitSet m k) c.from_mask-draft.ensures bit));
     }
+
+pub returns-then-good-write_quorum-clause-enough : goal.returns-then-good-write_quorum-clause-enough
+returns-then-good-write_quorum-clause-enough g c serving serve enough =
+    let D : Type 0 = g.row.D.Denot in
+    let draft = c.args.draft.now in
+    let took = c.args.prepared in
+    let On : ℕ → Type 0 = λ passed.
+    WritesEach {D = D} g.D.Drive.tells g.D.Drive.files g.D.Drive.count took.out passed c.as_str.result.now c.as_slice.result.now c.args.term c.args.count.now c.write_each-whys.new.count
+    took.whys c.write_each-whys.result c.args.lanes.now c.write_each-whys.new.lanes in
+    let wrote : On 0 = subst On c.none.ensures c.write_each-whys.ensures.wrote in
+    let many = served {D = D} g.D.Drive.tells g.D.Drive.files g.D.Drive.count took.out c.as_str.result.now c.as_slice.result.now c.args.term c.args.count.now c.write_each-whys.new.count
+    took.whys c.write_each-whys.result c.args.lanes.now c.write_each-whys.new.lanes serving wrote (c.requires.letters ∙ sym c.requires.drives) serve in
+    let all : count_in serving (length c.args.lanes.now) ≡ count_in serving draft.set.drives = ap (count_in serving) c.requires.drives in
+    let few = c.if-good-write_quorum.true in
+    absurd (omega (arith, c.good.ensures, c.write_quorum.ensures.quorum))

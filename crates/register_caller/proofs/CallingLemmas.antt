@@ -1,0 +1,175 @@
+-- What a caller of the register concludes: lanes that a look left, and the premises of a forward.
+use Rattle.std.proofs.Common.{◌≡◌, ◌<◌, ◌≤◌, ◌+◌, ◌∙◌, ℕ, List, Option, Some, None, length, map, string_bytes, ap, subst, sym, refl, inl, inr, arith}
+use Rattle.std.specs.Prelude.{Bool, IsTrue, Contains, slice_index_or}
+use Rattle.std.specs.Int.{IsBitSet}
+use Rattle.std.specs.Option.{option_map}
+use Rattle.std.proofs.lemmas.List.Elements.{Contains-get_or}
+use Rattle.call_types.specs.Good.{is_good}
+use Rattle.call_types.specs.declared.why.Why.{Why}
+use Rattle.drive_base.specs.Files.{Files}
+use Rattle.drive_base.specs.Plan.{write_drives}
+use Rattle.drive_base.specs.declared.plan.SetPlan.{SetPlan}
+use Rattle.register_file.specs.declared.record.Base.{Base}
+use Rattle.register_file.specs.declared.record.Next.{Next}
+use Rattle.stamp_id.specs.Rank.{rank_of, change_of}
+use Rattle.stamp_id.specs.declared.stamp.Ballot.{Ballot}
+use Rattle.vote_core.specs.Row.{is_good as is_good_row}
+use Rattle.vote_core.specs.Lane.{Lane, HasNext, HasRecord, blank_lane, lane_at, Base as LaneBase, Next as LaneNext}
+use Rattle.vote_core.specs.Laws.{AboveLastIsFresh, DrawingKeeps}
+use Rattle.vote_core.specs.Loops.{IsAgain}
+use Rattle.vote_core.specs.Shown.{FindsPending}
+use Rattle.vote_core.specs.Sound.{HoldsValue}
+use Rattle.register_caller.specs.Calling.{IsLateStep, IsSettled, IsValueIfOk, StaysOrSteps, WroteBoth}
+use Rattle.register_core.specs.Keeping.{MarkMoves, MayPropose, MayProposeAgain}
+use Rattle.register_core.specs.Loose.{loose_name}
+use Rattle.register_core.specs.OnLanes.{AllTell, AreLanes, AreUnused}
+use Rattle.register_core.specs.Proposing.{quorum_of}
+use Rattle.register_core.specs.Records.{HasLane, again_of, base_of, marked_base, next_of}
+use Rattle.register_core.specs.Seen.{FindsValueOr, LookFinds}
+use Rattle.register_core.specs.declared.drafts.Draft.{Draft}
+use Rattle.register_core.specs.declared.looked.Looked.{Looked}
+use Rattle.std.specs.Prelude.{Result, Ok, Err}
+
+module _ {D : Type 0} (tells : D → Bool) (files : D → Files) where
+  -- drives that tell as before
+  pub tell_after : (out : ℕ) (old new : List D) → length new ≡ length old
+      → ((k : ℕ) (d : D) → k < length old → tells (slice_index_or new k d) ≡ tells (slice_index_or old k d)) → AllTell tells out old → AllTell tells out new
+  tell_after out old new long stay told k d below in_use = subst IsTrue (sym (stay k d (omega arith))) (told k d (omega arith) in_use)
+
+  -- drives whose files stay keep the same records
+  pub lanes_after_look : (out : ℕ) (name : List ℕ) (old new : List D) (lanes : List Lane) → length new ≡ length old
+      → ((k : ℕ) (d : D) → k < length old → IsTrue (tells (slice_index_or old k d)) → files (slice_index_or new k d) ≡ files (slice_index_or old k d))
+      → AllTell tells out old → AreLanes files out name old lanes → AreLanes files out name new lanes
+  lanes_after_look out name old new lanes long stay told are = record {
+    counted = are.counted ∙ sym long;
+    each = λ k d below in_use. let low : k < length old = omega arith in
+        subst (λ (f : Files). HasLane (f.kept name) (lane_at lanes k)) (sym (stay k d low (told k d low in_use))) (are.each k d low in_use);
+  }
+
+  -- and have no more loose files
+  pub unused_after_look : (out term number : ℕ) (old new : List D) → length new ≡ length old
+      → ((k : ℕ) (d : D) → k < length old → IsTrue (tells (slice_index_or old k d)) → files (slice_index_or new k d) ≡ files (slice_index_or old k d))
+      → AllTell tells out old → AreUnused files out term number old → AreUnused files out term number new
+  unused_after_look out term number old new long stay told unused k d later below in_use from fits =
+      let low : k < length old = omega arith in
+      ap (λ (f : Files). f.loose (loose_name term later)) (stay k d low (told k d low in_use)) ∙ unused k d later low in_use from fits
+
+-- lanes that were left as they are
+pub left_settled : {E : Type 0} → DrawingKeeps → (w last later c : ℕ) (content : List ℕ) (result : Result Base E) (lanes : List Lane) → last < later
+    → HoldsValue w last lanes c content → IsValueIfOk result c content → IsSettled w later c content result lanes lanes
+left_settled drawing w last later c content result lanes low holds value = record {
+  now = c;
+  shows = content;
+  holds = drawing w last later c content lanes (omega arith) holds;
+  step = inl (refl, refl);
+  value = value;
+}
+
+-- the value of a settled look
+pub settled_value : (looked : Looked) (pending : Option Next) (lanes : List Lane) (c : ℕ) (content : List ℕ) → pending ≡ None
+    → FindsValueOr pending looked lanes c content → (change_of looked.base.change ≡ c) × (looked.base.content ≡ content)
+settled_value looked None lanes c content is finds = (finds.0, finds.1)
+settled_value looked (Some next) lanes c content is finds = absurd cc
+
+-- what a pending look found
+pub pending_found : (looked : Looked) (pending : Option Next) (found : Next) (lanes : List Lane) (c : ℕ) (content : List ℕ) → pending ≡ Some found
+    → FindsValueOr pending looked lanes c content → FindsValueOr (Some found) looked lanes c content
+pending_found looked pending found lanes c content is finds = subst (λ (p : Option Next). FindsValueOr p looked lanes c content) is finds
+
+-- a pending change may be proposed again, under a ballot above the last one drawn
+pub may_forward : AboveLastIsFresh → (w last c : ℕ) (content : List ℕ) (lanes : List Lane) (looked : Looked) (found : Next) (ballot : Ballot) (letters : List Why)
+    → HoldsValue w last lanes c content → last < rank_of ballot → FindsValueOr (Some found) looked lanes c content
+    → map is_good letters ≡ map is_good_row looked.rows.items
+    → MayPropose w last (rank_of ballot) lanes c content letters (base_of looked.base) (next_of (again_of looked.base ballot found))
+may_forward above w last c content lanes looked found ballot letters holds low (base_lane, lane, finds, base_is) on = record {
+  rises = omega arith;
+  holds = holds;
+  may = inr (record {
+    rows = looked.rows.items;
+    base_lane = base_lane;
+    lane = lane;
+    found = next_of found;
+    finds = finds;
+    base_is = base_is;
+    again = record {
+      parent = refl;
+      change = refl;
+      content = refl;
+      adds = refl;
+      above = (above last (rank_of ballot) (rank_of ballot) lanes holds.sound.drawn low (omega arith)).0;
+    };
+    on = on;
+  });
+}
+
+-- a next of the value's own change has the value's content
+own_content : (w last c : ℕ) (content : List ℕ) (lanes : List Lane) (lane : Lane) (next : LaneNext) → HoldsValue w last lanes c content
+    → Contains lanes lane → HasNext lane next → next.change ≡ c → next.content ≡ content
+own_content w last c content lanes lane next holds there is same =
+    let top = holds.sound.value in
+    holds.sound.agree.contents lane top.lane c next.content top.lane.base.content there top.top.there (inr (next, is, same, refl)) (inl (top.carries, refl))
+    ∙ holds.contents top.lane top.top.there top.carries
+
+-- where what was found becomes the value, that is as it was, or a late step was made
+pub found_steps : (w last c : ℕ) (content : List ℕ) (lanes : List Lane) (looked : Looked) (found : Next) (ballot : Ballot) → HoldsValue w last lanes c content
+    → FindsValueOr (Some found) looked lanes c content
+    → StaysOrSteps lanes c content (next_of (again_of looked.base ballot found)).change (next_of (again_of looked.base ballot found)).content
+found_steps w last c content lanes looked found ballot holds (base_lane, lane, finds, base_is) =
+    let there : Contains lanes (lane_at lanes lane) = Contains-get_or lanes lane blank_lane finds.next_read.there in
+    elim finds.found [
+      | inl own ↦ inl (own.same, own_content w last c content lanes (lane_at lanes lane) (next_of found) holds there finds.next_is own.same)
+      | inr other ↦ inr (record {
+        lane = lane_at lanes lane;
+        there = there;
+        next = next_of found;
+        on_its_way = finds.next_is;
+        live = other.live;
+        change_is = refl;
+        content_is = refl;
+      })
+    ]
+
+module _ {D : Type 0} (tells : D → Bool) (files : D → Files) where
+  -- what both writes of a forward leave
+  pub forward_moves : {T E : Type 0} → AboveLastIsFresh → (set : SetPlan) (out term to : ℕ) (looked : Looked) (found : Next) (ballot : Ballot) (draft : Draft)
+      (result : Result T E) (new : List D) (lanes : List Lane) (last c : ℕ) (content : List ℕ)
+      → (wrote : WroteBoth tells files draft out term to looked.base (again_of looked.base ballot found) result new lanes)
+      → draft.set ≡ set → draft.letters ≡ looked.whys → map is_good looked.whys ≡ map is_good_row looked.rows.items
+      → HoldsValue (write_drives set.drives set.parity) last lanes c content → last < rank_of ballot → FindsValueOr (Some found) looked lanes c content
+      → MarkMoves result (write_drives set.drives set.parity) (rank_of ballot) c content (next_of (again_of looked.base ballot found)) wrote.after
+  forward_moves {T} {E} above set out term to looked found ballot draft result new lanes last c content wrote plan letters on holds low finds =
+      let here : HoldsValue (quorum_of draft) last lanes c content =
+      subst (λ (s : SetPlan). HoldsValue (write_drives s.drives s.parity) last lanes c content) (sym plan) holds in
+      subst (λ (s : SetPlan). MarkMoves result (write_drives s.drives s.parity) (rank_of ballot) c content (next_of (again_of looked.base ballot found)) wrote.after) plan
+      (wrote.value last (rank_of ballot) c content
+      (may_forward above (quorum_of draft) last c content lanes looked found ballot draft.letters here low finds (ap (map is_good) letters ∙ on)))
+
+-- a forward that was marked
+pub marked_settled : {T E : Type 0} (w last c : ℕ) (content : List ℕ) (value : T) (base : Base) (lanes after : List Lane) (looked : Looked) (found : Next) (ballot : Ballot)
+    → HoldsValue w last lanes c content → FindsValueOr (Some found) looked lanes c content
+    → MarkMoves {T = T} {E = E} (Ok value) w (rank_of ballot) c content (next_of (again_of looked.base ballot found)) after
+    → base ≡ marked_base (again_of looked.base ballot found)
+    → IsSettled {E = E} w (rank_of ballot) c content (Ok base) lanes after
+marked_settled w last c content value base lanes after looked found ballot holds finds moves is = record {
+  now = (next_of (again_of looked.base ballot found)).change;
+  shows = (next_of (again_of looked.base ballot found)).content;
+  holds = moves.holds;
+  step = found_steps w last c content lanes looked found ballot holds finds;
+  value = (ap (λ (b : Base). change_of b.change) is, ap (λ (b : Base). b.content) is);
+}
+
+-- a forward that was refused
+pub refused_settled : (T : Type 0) {E : Type 0} (w last c : ℕ) (content : List ℕ) (fault : E) (lanes after : List Lane) (looked : Looked) (found : Next) (ballot : Ballot)
+    → HoldsValue w last lanes c content → FindsValueOr (Some found) looked lanes c content
+    → MarkMoves {T = T} {E = E} (Err fault) w (rank_of ballot) c content (next_of (again_of looked.base ballot found)) after
+    → IsSettled {E = E} w (rank_of ballot) c content (Err fault) lanes after
+refused_settled T w last c content fault lanes after looked found ballot holds finds moves = elim moves [
+  | inl stays ↦ record { now = c; shows = content; holds = stays; step = inl (refl, refl); value = tt }
+  | inr steps ↦ record {
+    now = (next_of (again_of looked.base ballot found)).change;
+    shows = (next_of (again_of looked.base ballot found)).content;
+    holds = steps;
+    step = found_steps w last c content lanes looked found ballot holds finds;
+    value = tt;
+  }
+]

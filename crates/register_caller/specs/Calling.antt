@@ -1,0 +1,56 @@
+-- What a caller of the register concludes from its contracts.
+use Rattle.std.specs.Prelude.{◌≡◌, ◌⊎◌, ◌<◌, ℕ, Bool, List, Contains, Result, Ok, Err, string_bytes}
+use Rattle.drive_base.specs.Files.{Files}
+use Rattle.register_file.specs.declared.record.Base.{Base}
+use Rattle.register_file.specs.declared.record.Next.{Next}
+use Rattle.stamp_id.specs.Rank.{change_of}
+use Rattle.vote_core.specs.Lane.{Lane, HasNext, Next as LaneNext}
+use Rattle.vote_core.specs.Sound.{HoldsValue, IsLive}
+use Rattle.register_core.specs.Keeping.{MarkMoves, MayPropose}
+use Rattle.register_core.specs.OnLanes.{AllTell, AreLanes, AreUnused}
+use Rattle.register_core.specs.Proposing.{quorum_of}
+use Rattle.register_core.specs.Records.{base_of, next_of}
+use Rattle.register_core.specs.declared.drafts.Draft.{Draft}
+
+-- a change that was on its way before, and might become the value, has become it
+pub record IsLateStep (lanes : List Lane) (c now : ℕ) (shows : List ℕ) : Type 0 where
+  pub lane : Lane
+  pub there : Contains lanes lane
+  pub next : LaneNext
+  pub on_its_way : HasNext lane next
+  pub live : IsLive lanes c lane next
+  pub change_is : now ≡ next.change
+  pub content_is : shows ≡ next.content
+
+-- the value is as it was, or a late step was made
+abbrev pub StaysOrSteps : List Lane → ℕ → List ℕ → ℕ → List ℕ → Type 0
+StaysOrSteps lanes c content now shows = ((now ≡ c) × (shows ≡ content)) ⊎ IsLateStep lanes c now shows
+
+-- what is answered is the value
+abbrev pub IsValueIfOk : {E : Type 0} → Result Base E → ℕ → List ℕ → Type 0
+IsValueIfOk (Ok base) now shows = (change_of base.change ≡ now) × (base.content ≡ shows)
+IsValueIfOk (Err _) now shows = Unit {0}
+
+-- lanes of which a register was settled: they hold the value as it was or after a late step, and what is answered is that value
+pub record IsSettled {E : Type 0} (w later c : ℕ) (content : List ℕ) (result : Result Base E) (lanes after : List Lane) : Type 0 where
+  pub now : ℕ
+  pub shows : List ℕ
+  pub holds : HoldsValue w later after now shows
+  pub step : StaysOrSteps lanes c content now shows
+  pub value : IsValueIfOk result now shows
+
+module _ {D : Type 0} (tells : D → Bool) (files : D → Files) where
+  -- the lanes after both writes of a change
+  pub record WroteBoth {T E : Type 0} (draft : Draft) (out term to : ℕ) (base : Base) (next : Next) (result : Result T E) (new : List D) (lanes : List Lane) : Type 0 where
+    pub after : List Lane
+    pub tell : AllTell tells out new
+    pub unused : AreUnused files out term to new
+    pub are : AreLanes files out (string_bytes draft.name) new after
+    pub value : (last later c : ℕ) (content : List ℕ) → MayPropose (quorum_of draft) last later lanes c content draft.letters (base_of base) (next_of next)
+        → MarkMoves result (quorum_of draft) later c content (next_of next) after
+
+  -- the lanes after a settlement
+  pub record Settles {E : Type 0} (out : ℕ) (name : List ℕ) (w later c : ℕ) (content : List ℕ) (result : Result Base E) (new : List D) (lanes : List Lane) : Type 0 where
+    pub after : List Lane
+    pub are : AreLanes files out name new after
+    pub settled : IsSettled w later c content result lanes after

@@ -1,0 +1,37 @@
+//! Both writes of a change.
+
+ghost use Rattle.std.specs.Prelude.{◌≡◌, ◌+◌, ◌*◌, ◌<◌, ◌≤◌, ◌^◌, List, length, string_bytes, string_len};
+ghost use Rattle.register_file.specs.declared.record.Base.{Base};
+ghost use Rattle.register_file.specs.declared.record.Next.{Next};
+ghost use Rattle.vote_core.specs.Lane.{Lane};
+ghost use Rattle.register_core.specs.Drafts.{IsDraftOf};
+ghost use Rattle.register_core.specs.OnLanes.{AllTell, AreLanes, AreUnused};
+ghost use Rattle.register_caller.specs.Calling.{WroteBoth};
+
+use call_types::Whys;
+use drive_base::{Drive, DriveSet};
+use register_core::{Draft, QuorumFault, mark, propose};
+
+/// Writes both files of a draft: proposes the change, and marks it where enough lanes took it.
+pub fn write_both<D: Drive>(
+    lanes: &mut [D],
+    out: DriveSet,
+    draft: &mut Draft,
+    term: u64,
+    count: &mut u64,
+) -> Result<Whys, QuorumFault>
+    requires drives { length lanes.old ≡ draft.old.set.drives }
+    requires letters { length draft.old.letters ≡ draft.old.set.drives }
+    requires named { string_len draft.old.name ≤ 1129 }
+    requires room { count.old + 2 * draft.old.set.drives < 2 ^ 64 }
+    ensures wrote { (base : Base) (next : Next) (recorded : List Lane) → IsDraftOf draft.old base next → AllTell D.tells out lanes.old
+        → AreUnused D.files out term count.old lanes.old → AreLanes D.files out (string_bytes draft.old.name) lanes.old recorded
+        → WroteBoth D.tells D.files draft.old out term count.new base next result lanes.new recorded }
+    ensures value { draft.new.value ≡ draft.old.value }
+{
+    let prepared = match propose(lanes, out, draft, term, count) {
+        Ok(prepared) => prepared,
+        Err(fault) => return Err(fault),
+    };
+    mark(lanes, draft, prepared, term, count)
+}
