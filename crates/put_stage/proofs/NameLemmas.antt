@@ -20,3 +20,5 @@ short_shard id name is =
     let two = length-encode_with lower_digits (id_bytes id) in
     let sixteen = length-id_bytes id in
     omega (arith, named, two, sixteen)
+
+pub ruleset short_names = (short_manifest, short_shard)

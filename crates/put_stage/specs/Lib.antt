@@ -1,4 +1,5 @@
 pub mod Coding
+pub mod Holding
 pub mod Manifests
 pub mod OnDrives
 pub mod Outcomes

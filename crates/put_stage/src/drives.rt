@@ -11,6 +11,7 @@ use drive_base::{Drive, SetPlan};
 use file_access::{place, write_loose};
 
 /// Writes both files under their loose names, and puts the manifest in place, then the shard file.
+#[tactic(auto, using(crate::proofs::NameLemmas::short_names))]
 fn write_both<D: Drive>(
     drive: &mut D,
     names: &Names,
@@ -30,8 +31,8 @@ fn write_both<D: Drive>(
     write_loose(drive, FileKind::Shard, loose_shard, shard)?;
     write_loose(drive, FileKind::Manifest, loose_manifest, manifest)?;
     let manifest_name = names.manifest.as_str();
-    place(drive, FileKind::Manifest, loose_manifest, manifest_name)?;
     let shard_name = names.shard.as_str();
+    place(drive, FileKind::Manifest, loose_manifest, manifest_name)?;
     place(drive, FileKind::Shard, loose_shard, shard_name)
 }
 

@@ -1,9 +1,10 @@
 //! Staging a manifest alone, over parts that are staged already.
 
-ghost use Rattle.std.specs.Prelude.{◌≡◌, ◌<◌, ◌≤◌, ℕ, IsTrue, OnOk, OnErr, length, slice_index_or};
+ghost use Rattle.std.specs.Prelude.{◌≡◌, ◌<◌, ◌≤◌, ℕ, IfOk, IsTrue, OnOk, OnErr, length, slice_index_or};
 ghost use Rattle.std.specs.Int.{IsBitSet};
 ghost use Rattle.file_access.specs.Writing.{StepCause};
 ghost use Rattle.manifest_file.specs.Canonical.{IsCanonical};
+ghost use Rattle.put_stage.specs.Holding.{TookManifest};
 ghost use Rattle.put_stage.specs.Manifests.{StagesManifest, same_manifest, total_size};
 ghost use Rattle.put_stage.specs.OnDrives.{HasNoLoose, LeavesAll, MayBeStaged, StagedOn, StagesOn, manifest_alone};
 ghost use Rattle.put_stage.specs.Outcomes.{Untouched};
@@ -37,6 +38,7 @@ pub fn stage_manifest<D: Drive>(
     requires same_drives { manifest.now.drives ≡ set.drives }
     requires same_parity { manifest.now.parity ≡ set.parity }
     ensures outcome { StagesManifest D.tells D.files D.count set id manifest.now etag result drives.old drives.new }
+    ensures holds { IfOk result (λ staged. TookManifest D.tells D.files set id staged drives.old drives.new) }
     ensures untouched { Untouched result drives.old drives.new }
     ensures tells { (k : ℕ) (d : D) → k < length drives.old → D.tells (slice_index_or drives.new k d) ≡ D.tells (slice_index_or drives.old k d) }
     ensures counts { (k : ℕ) (d : D) → k < length drives.old → D.count (slice_index_or drives.old k d) ≤ D.count (slice_index_or drives.new k d) }
@@ -104,6 +106,7 @@ fn manifest_on<D: Drive>(
 }
 
 /// Writes a manifest under its loose name, and puts it in place.
+#[tactic(auto, using(crate::proofs::NameLemmas::short_names))]
 fn write_manifest<D: Drive>(drive: &mut D, names: &Names, manifest: &[u8]) -> Result<(), Why>
     ensures ok { let written = manifest_alone names.now.id manifest.now in
         OnOk result (IsTrue (D.tells drive.old) → HasNoLoose written (D.files drive.old) → LeavesAll written (D.files drive.old) (D.files drive.new)) }

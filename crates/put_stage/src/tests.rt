@@ -14,6 +14,13 @@ mod manifests;
 mod sets;
 mod whole;
 
+/// The drives of four that are out, one that is lost, and those that take a stage then.
+const SERVED: [(u16, Option<usize>, u16); 3] = [
+    (0, None, 0b1111),
+    (0, Some(1), 0b1101),
+    (0b0100, None, 0b1011),
+];
+
 /// The id of term 1, slot 5, seq 7.
 fn id() -> VersionId {
     VersionId::from_parts(ChangeId(Ballot { term: 1, seq: 7 }), 5)
@@ -47,6 +54,11 @@ fn lose(drives: &mut [MemDrive], place: usize)
     if let Some(drive) = drives.get_mut(place) {
         drive.lose();
     }
+}
+
+/// Which of four drives are in a mask.
+fn in_mask(mask: u16) -> [bool; 4] {
+    [mask & 1 != 0, mask & 2 != 0, mask & 4 != 0, mask & 8 != 0]
 }
 
 /// The answers of four drives of which two were lost.

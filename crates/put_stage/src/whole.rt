@@ -2,6 +2,7 @@
 
 ghost use Rattle.std.specs.Prelude.{◌≡◌, ◌<◌, ◌≤◌, ◌^◌, ℕ, IfOk, length, slice_index_or};
 ghost use Rattle.manifest_file.specs.Canonical.{IsCanonical};
+ghost use Rattle.put_stage.specs.Holding.{TookBody};
 ghost use Rattle.put_stage.specs.Outcomes.{Compares, Stages, Untouched, manifest_of};
 ghost use Rattle.put_stage.specs.Preparing.{IsPrepared};
 
@@ -37,6 +38,7 @@ pub fn stage_whole<D: Drive>(
     requires few { length body.now ≤ 5368709120 }
     requires name { length name.now < 2 ^ 16 }
     ensures outcome { Stages D.tells D.files D.count set id name.now body.now md5 result drives.old drives.new }
+    ensures holds { IfOk result (λ staged. TookBody D.tells D.files set id staged drives.old drives.new) }
     ensures untouched { Untouched result drives.old drives.new }
     ensures tells { (k : ℕ) (d : D) → k < length drives.old → D.tells (slice_index_or drives.new k d) ≡ D.tells (slice_index_or drives.old k d) }
     ensures counts { (k : ℕ) (d : D) → k < length drives.old → D.count (slice_index_or drives.old k d) ≤ D.count (slice_index_or drives.new k d) }

@@ -4,7 +4,7 @@ ghost use Rattle.std.specs.Prelude.{◌≡◌, IfOk, length};
 ghost use Rattle.manifest_file.specs.Canonical.{IsCanonical};
 
 use super::golden::*;
-use super::{fresh_drives, id, lose, lost, plan, shows, shows_no};
+use super::{SERVED, fresh_drives, id, in_mask, lose, lost, plan, shows, shows_no};
 use crate::{StageFault, Staged, stage_manifest};
 use drive_base::DriveSet;
 use drive_memory::MemDrive;
@@ -64,32 +64,16 @@ fn parts_on(took: u16) -> Staged {
 }
 
 #[test]
-fn a_manifest_goes_to_all_drives(rt: HostRuntime) -> Result<(), Fail> {
-    let mut drives = fresh_drives(rt.alloc(), 4)?;
-    assert_eq!(rt; staged(rt.alloc(), 0, &mut drives)?, Ok(parts_on(0b1111)));
-    assert_eq!(rt; that_show_it(rt.alloc(), &mut drives)?, [true; 4]);
-    Ok(())
-}
-
-#[test]
-fn a_lost_drive_and_one_that_is_out(rt: HostRuntime) -> Result<(), Fail> {
-    // 4 drives with 2 of parity write to 3.
-    let mut drives = fresh_drives(rt.alloc(), 4)?;
-    lose(&mut drives, 0);
-    assert_eq!(rt; staged(rt.alloc(), 0, &mut drives)?, Ok(parts_on(0b1110)));
-    assert_eq!(rt;
-        that_show_it(rt.alloc(), &mut drives)?,
-        [false, true, true, true]
-    );
-    let mut drives = fresh_drives(rt.alloc(), 4)?;
-    assert_eq!(rt;
-        staged(rt.alloc(), 0b0010, &mut drives)?,
-        Ok(parts_on(0b1101))
-    );
-    assert_eq!(rt;
-        that_show_it(rt.alloc(), &mut drives)?,
-        [true, false, true, true]
-    );
+fn a_manifest_goes_to_the_drives_that_answer(rt: HostRuntime) -> Result<(), Fail> {
+    for (out, gone, took) in SERVED {
+        let mut drives = fresh_drives(rt.alloc(), 4)?;
+        if let Some(place) = gone {
+            lose(&mut drives, place);
+        }
+        let answer = staged(rt.alloc(), out, &mut drives)?;
+        assert_eq!(rt; answer, Ok(parts_on(took)));
+        assert_eq!(rt; that_show_it(rt.alloc(), &mut drives)?, in_mask(took));
+    }
     Ok(())
 }
 
@@ -101,9 +85,6 @@ fn two_lost_drives_refuse_a_manifest(rt: HostRuntime) -> Result<(), Fail> {
     let fault = StageFault::WriteQuorum(lost(1, 2));
     assert_eq!(rt; staged(rt.alloc(), 0, &mut drives)?, Err(fault));
     // What was put in place stays.
-    assert_eq!(rt;
-        that_show_it(rt.alloc(), &mut drives)?,
-        [true, false, false, true]
-    );
+    assert_eq!(rt; that_show_it(rt.alloc(), &mut drives)?, in_mask(0b1001));
     Ok(())
 }

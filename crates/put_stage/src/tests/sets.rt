@@ -3,9 +3,9 @@
 ghost use Rattle.std.specs.Prelude.{◌≡◌, ◌+◌, ◌≤◌, IfOk, length};
 
 use super::golden::*;
-use super::{fresh_drives, id, plan, shown};
+use super::{fresh_drives, id, shown};
 use crate::{Staged, stage_whole};
-use drive_base::{Drive, SetPlan};
+use drive_base::SetPlan;
 use drive_memory::MemDrive;
 use sha2::{Digest, Sha256};
 use std::alloc::{AllocError, Global};
@@ -54,16 +54,6 @@ fn files_and_prints_of_each_set(rt: HostRuntime) -> Result<(), Fail> {
         assert_eq!(rt; answer.length, bytes as u64);
         assert_eq!(rt; hex::encode(rt.alloc(), answer.print)?.as_str(), print);
         assert_eq!(rt; digest_of_files(rt.alloc(), &mut drives)?.as_str(), files);
-    }
-    Ok(())
-}
-
-#[test]
-fn a_byte_more_than_a_stripe_is_a_block_more(rt: HostRuntime) -> Result<(), Fail> {
-    let mut drives = fresh_drives(rt.alloc(), 4)?;
-    staged(rt.alloc(), plan(0), 1_048_577, &mut drives)?;
-    for drive in drives.iter_mut() {
-        assert_eq!(rt; drive.size(SHARD)?, 524_289 + 64);
     }
     Ok(())
 }

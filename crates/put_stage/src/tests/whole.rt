@@ -3,7 +3,7 @@
 ghost use Rattle.std.specs.Prelude.{◌≡◌, ◌≤◌, length};
 
 use super::golden::*;
-use super::{fresh_drives, id, lose, lost, plan, shows, shows_no};
+use super::{SERVED, fresh_drives, id, in_mask, lose, lost, plan, shows, shows_no};
 use crate::{StageFault, Staged, stage_whole};
 use drive_base::{Drive, DriveSet};
 use drive_memory::MemDrive;
@@ -56,28 +56,15 @@ fn hello_on(took: u16) -> Staged {
 }
 
 #[test]
-fn hello_goes_to_all_drives(rt: HostRuntime) -> Result<(), Fail> {
-    let mut drives = fresh_drives(rt.alloc(), 4)?;
-    let answer = staged(rt.alloc(), 0, b"hello", Some(HELLO_MD5), &mut drives);
-    assert_eq!(rt; answer, Ok(hello_on(0b1111)));
-    assert_eq!(rt; that_show_hello(rt.alloc(), &mut drives)?, [true; 4]);
-    Ok(())
-}
-
-#[test]
-fn an_empty_body_has_empty_shards(rt: HostRuntime) -> Result<(), Fail> {
-    let mut drives = fresh_drives(rt.alloc(), 4)?;
-    let answer = staged(rt.alloc(), 0, b"", None, &mut drives);
-    let due = Staged {
-        print: EMPTY_PRINT,
-        length: 0,
-        etag: EMPTY_MD5,
-        took: DriveSet::from_mask(0b1111),
-    };
-    assert_eq!(rt; answer, Ok(due));
-    for drive in drives.iter_mut() {
-        assert!(rt; shows(rt.alloc(), drive, SHARD, b"")?);
-        assert!(rt; shows(rt.alloc(), drive, MANIFEST, &EMPTY_MANIFEST)?);
+fn hello_goes_to_the_drives_that_answer(rt: HostRuntime) -> Result<(), Fail> {
+    for (out, gone, took) in SERVED {
+        let mut drives = fresh_drives(rt.alloc(), 4)?;
+        if let Some(place) = gone {
+            lose(&mut drives, place);
+        }
+        let answer = staged(rt.alloc(), out, b"hello", Some(HELLO_MD5), &mut drives);
+        assert_eq!(rt; answer, Ok(hello_on(took)));
+        assert_eq!(rt; that_show_hello(rt.alloc(), &mut drives)?, in_mask(took));
     }
     Ok(())
 }
@@ -96,33 +83,6 @@ fn the_worked_rows_are_the_blocks_of_the_files(rt: HostRuntime) -> Result<(), Fa
 }
 
 #[test]
-fn a_lost_drive_is_not_named(rt: HostRuntime) -> Result<(), Fail> {
-    let mut drives = fresh_drives(rt.alloc(), 4)?;
-    lose(&mut drives, 1);
-    let answer = staged(rt.alloc(), 0, b"hello", None, &mut drives);
-    assert_eq!(rt; answer, Ok(hello_on(0b1101)));
-    assert_eq!(rt;
-        that_show_hello(rt.alloc(), &mut drives)?,
-        [true, false, true, true]
-    );
-    Ok(())
-}
-
-#[test]
-fn a_drive_that_is_out_is_not_written(rt: HostRuntime) -> Result<(), Fail> {
-    let mut drives = fresh_drives(rt.alloc(), 4)?;
-    let answer = staged(rt.alloc(), 0b0100, b"hello", None, &mut drives);
-    assert_eq!(rt; answer, Ok(hello_on(0b1011)));
-    assert_eq!(rt;
-        that_show_hello(rt.alloc(), &mut drives)?,
-        [true, true, false, true]
-    );
-    let out = drives.get_mut(2).ok_or("no drive")?;
-    assert!(rt; shows_none(out));
-    Ok(())
-}
-
-#[test]
 fn two_lost_drives_are_too_many(rt: HostRuntime) -> Result<(), Fail> {
     let mut drives = fresh_drives(rt.alloc(), 4)?;
     lose(&mut drives, 0);
@@ -130,10 +90,7 @@ fn two_lost_drives_are_too_many(rt: HostRuntime) -> Result<(), Fail> {
     let answer = staged(rt.alloc(), 0, b"hello", None, &mut drives);
     assert_eq!(rt; answer, Err(StageFault::WriteQuorum(lost(0, 3))));
     // What was put in place stays.
-    assert_eq!(rt;
-        that_show_hello(rt.alloc(), &mut drives)?,
-        [false, true, true, false]
-    );
+    assert_eq!(rt; that_show_hello(rt.alloc(), &mut drives)?, in_mask(0b0110));
     Ok(())
 }
 
