@@ -9,8 +9,8 @@ use crate::outcome::Outcome;
 use crate::state::KeyState;
 use crate::uploads::{with_upload, without_upload};
 use call_types::{Upload, Uploads, Version, VersionName, Versions};
-use seal_file::Bytes;
 use fault_base::NoMemory;
+use seal_file::Bytes;
 use stamp_id::VersionId;
 use std::alloc::Global;
 

@@ -9,8 +9,8 @@ ghost use Rattle.version_list.specs.Step as step;
 use crate::gone::gone;
 use crate::same::is_same;
 use call_types::{Mode, Version, VersionName, Versions, What};
-use seal_file::Bytes;
 use fault_base::NoMemory;
+use seal_file::Bytes;
 use stamp_id::VersionId;
 use std::alloc::Global;
 

@@ -5,8 +5,8 @@ ghost use Rattle.version_list.specs.declared.outcome.ActFault.TheVariants.{NoMem
 
 use crate::state::KeyState;
 use call_types::{Brief, KeyRefusal, Reply};
-use seal_file::Bytes;
 use fault_base::NoMemory;
+use seal_file::Bytes;
 use std::alloc::{AllocError, Global};
 
 /// What a change of a key leaves, and answers.

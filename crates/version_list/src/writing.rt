@@ -9,8 +9,8 @@ ghost use Rattle.version_list.specs.State.{IsCanonicalWhat, IsCanonicalVersion, 
 use crate::sizes::state_size;
 use crate::state::KeyState;
 use call_types::{Upload, Version, VersionName, What};
-use field_reader::{put_bytes, put_short_text, put_u8, put_u16, put_u32, put_u64};
 use fault_base::NoMemory;
+use field_reader::{put_bytes, put_short_text, put_u8, put_u16, put_u32, put_u64};
 use stamp_id::VersionId;
 use std::alloc::{AllocError, Global};
 
