@@ -39,14 +39,14 @@ part_is_canonical drives = record {
 abbrev manifest_with : ℕ → ℕ → ℕ → Manifest
 manifest_with n drives count = record { name = replicate n 0; drives = drives; parity = 0; parts = replicate count (part_with drives) }
 
-as_long : (n drives count longest : ℕ) → n < 2 ^ 16 → drives < 2 ^ 8 → 1 ≤ count → count ≤ 10000 → 43 + n + (24 + 32 * drives) * count ≡ longest → SomeManifestIsAsLong longest
+as_long : (n drives count longest : ℕ) → n < 2 ^ 16 → drives ≤ 16 → 1 ≤ count → count ≤ 10000 → 43 + n + (24 + 32 * drives) * count ≡ longest → SomeManifestIsAsLong longest
 as_long n drives count longest n_fits drives_fit some few is =
     let m = manifest_with n drives count in
     let name = length-replicate {A = ℕ} n 0 in
     let parts = length-replicate count (part_with drives) in
     let canonical : IsCanonical m = record {
       name = omega (arith, name, n_fits);
-      drives = drives_fit;
+      drives = omega (arith, drives_fit);
       parity = omega arith;
       some = omega (arith, parts, some);
       few = omega (arith, parts, few);
@@ -54,7 +54,7 @@ as_long n drives count longest n_fits drives_fit some few is =
     } in
     let size : length (spelling m) ≡ 7 + n + (24 + 32 * drives) * count =
     manifest_size m canonical ∙ ap (λ (k : ℕ). 7 + k + (24 + 32 * drives) * length m.parts) name ∙ ap (λ (k : ℕ). 7 + n + (24 + 32 * drives) * k) parts in
-    (m, canonical, omega (arith, size, length-sealed manifest_kind (spelling m), is))
+    (m, canonical, drives_fit, omega (arith, size, length-sealed manifest_kind (spelling m), is))
 
-pub longest_is_reached : SomeManifestIsAsLong 81905578
-longest_is_reached = as_long 65535 255 10000 81905578 (omega arith) (omega arith) (omega arith) (omega arith) (omega arith)
+pub longest_is_reached : SomeManifestIsAsLong 5425578
+longest_is_reached = as_long 65535 16 10000 5425578 (omega arith) (omega arith) (omega arith) (omega arith) (omega arith)

@@ -51,15 +51,15 @@ manifest_size m h =
     let whole = length-append m.name behind in
     rw (append-nil (flat_map part_bytes (map part_row m.parts))) (omega (arith, whole, parts))
 
--- as many roots as one byte counts
-part_short : (drives : ℕ) → drives < 2 ^ 8 → 24 + 32 * drives ≤ 8184
+-- as many roots as a set has drives
+part_short : (drives : ℕ) → drives ≤ 16 → 24 + 32 * drives ≤ 536
 part_short drives few = omega arith
 
 -- the longest file
-pub no_longer : ManifestsAreNoLonger 81905578
-no_longer m h =
+pub no_longer : ManifestsAreNoLonger 5425578
+no_longer m h set =
     let sealed = length-sealed manifest_kind (spelling m) in
     let size = manifest_size m h in
     let name = h.name in
-    let parts : (24 + 32 * m.drives) * length m.parts ≤ 8184 * 10000 = mul-le-mul (part_short m.drives h.drives) h.few in
+    let parts : (24 + 32 * m.drives) * length m.parts ≤ 536 * 10000 = mul-le-mul (part_short m.drives set) h.few in
     omega arith

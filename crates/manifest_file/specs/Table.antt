@@ -16,10 +16,10 @@ manifest_table = record { row = row_of; format = manifest; bytes = row_bytes; Ca
 abbrev pub FileIsInjective : Type 0
 FileIsInjective = TableFileIsInjective manifest_kind manifest_table
 
--- No canonical manifest has a file of more bytes than these.
+-- No canonical manifest for at most 16 drives has a file of more bytes than these.
 abbrev pub ManifestsAreNoLonger : ℕ → Type 0
-ManifestsAreNoLonger longest = (m : Manifest) → IsCanonical m → length (file_of m) ≤ longest
+ManifestsAreNoLonger longest = (m : Manifest) → IsCanonical m → m.drives ≤ 16 → length (file_of m) ≤ longest
 
--- Some canonical manifest has a file of just so many bytes.
+-- Some canonical manifest for at most 16 drives has a file of just so many bytes.
 abbrev pub SomeManifestIsAsLong : ℕ → Type 0
-SomeManifestIsAsLong longest = (m : Manifest) × IsCanonical m × (length (file_of m) ≡ longest)
+SomeManifestIsAsLong longest = (m : Manifest) × IsCanonical m × (m.drives ≤ 16) × (length (file_of m) ≡ longest)

@@ -13,9 +13,10 @@ pub const MOST_PARTS: usize = 10_000;
 /// The most bytes of a part, as Amazon S3 limits the body of one PUT.
 pub const MOST_PART_BYTES: u64 = 5_368_709_120;
 
-/// The length in bytes of the longest file of a manifest: the 36 of its seal, 7 for the numbers before its parts, a name
-/// of 65,535 bytes, and 10,000 parts, each with an id of 16, a length of 8 and 255 roots of 32 bytes.
-pub const LONGEST_FILE: u64 = 36 + 7 + 65_535 + 10_000 * (16 + 8 + 255 * 32);
+/// The length in bytes of the longest file of a manifest for a set of at most 16 drives: the 36 of its seal, 7 for the
+/// numbers before its parts, a name of 65,535 bytes, and 10,000 parts, each with an id of 16, a length of 8 and 16 roots of
+/// 32 bytes.
+pub const LONGEST_FILE: u64 = 36 + 7 + 65_535 + 10_000 * (16 + 8 + 16 * 32);
 
 /// The manifest of a body.
 #[derive(Debug, Drop)]
