@@ -9,7 +9,7 @@ use Rattle.call_types.specs.declared.reply.Reply.TheVariants.{Refused}
 use Rattle.fault_base.specs.Counts.{Rose}
 use Rattle.drive_base.specs.Files.{Files, Named}
 use Rattle.version_list.specs.declared.state.KeyState.{KeyState}
-use Rattle.version_list.specs.Answers.{refusal_of}
+use Rattle.call_types.specs.Refusals.{refusal_of}
 use Rattle.version_list.specs.Reads.{Reads}
 use Rattle.ostore.specs.declared.connection.Turn.{Turn}
 use Rattle.ostore.specs.declared.connection.Turn.TheVariants.{Ended}

@@ -6,7 +6,7 @@ use Rattle.stamp_id.specs.declared.version.VersionId.{VersionId}
 use Rattle.seal_file.proofs.SealedLemmas.{sealed-injective}
 use Rattle.version_list.specs.declared.state.KeyState.{KeyState}
 use Rattle.version_list.specs.State.{IsCanonical}
-use Rattle.version_list.specs.Naming.{has_id}
+use Rattle.version_list.specs.NamesId.{names_id}
 use Rattle.version_list.specs.Spelling.{spelling}
 use Rattle.version_list.proofs.LawProofs.{injective}
 use Rattle.std.proofs.lemmas.List.{get_or-map, length-map}
@@ -80,10 +80,10 @@ module _ {D : Type 0} (clock : Option ℕ) (mode : Mode) (tell : D → Bool) (fi
 
   -- why the drives' states weren't to be had
   pub look_cause : (number most : ℕ) (objects : Objects) (key : List ℕ) (id : VersionId) (old new : List D) → 0 < length old → length new ≡ length old
-      → (AllTell (map tell old) → Ready files number most objects old) → (AllTell (map tell old) → has_id id (objects.states key) ≡ false)
+      → (AllTell (map tell old) → Ready files number most objects old) → (AllTell (map tell old) → names_id id (objects.states key) ≡ false)
       → LookCause tell files count id (name_of key) old new → DrivesCause (map tell old) (map count old) (map count new)
   look_cause number most objects key id old new some same ready fresh (inl cause) = keys_cause number most objects key old new same ready cause
   look_cause number most objects key id old new some same ready fresh (inr named) = inr (λ all.
       let r = ready all in
       let is = shown_is number most objects key named.state old some all r named.canonical named.shown in
-      named.names (ap (has_id id) is ∙ fresh all))
+      named.names (ap (names_id id) is ∙ fresh all))

@@ -22,7 +22,8 @@ use Rattle.call_types.specs.declared.refusal.KeyRefusal.{KeyRefusal}
 use Rattle.call_types.specs.declared.refusal.KeyRefusal.TheVariants.{NoSuchKey, NoSuchVersion, MarkerNamed}
 use Rattle.drive_base.specs.Files.{Named, with_name}
 use Rattle.version_list.specs.declared.state.KeyState.{KeyState}
-use Rattle.version_list.specs.Naming.{same_id, same_name, has_name, has_id, is_upload, is_named, kept, is_marker}
+use Rattle.version_list.specs.Naming.{same_id, same_name, has_name, is_upload, is_named, kept, is_marker}
+use Rattle.version_list.specs.NamesId.{is_made_by, what_names, version_names, names_id}
 use Rattle.version_list.specs.Step.{Step, AddsVersion, new_name, replaced, told}
 use Rattle.version_list.proofs.Distinct.{each_item}
 use Rattle.version_list.specs.Reads.{Reads, ReadsAt, ReadsNamed}
@@ -31,7 +32,7 @@ use Rattle.ostore.specs.Holders.{IsPrintOf}
 use Rattle.ostore.specs.Slots.{slot_of, Drawn, IsIdOf, WasDrawn}
 use Rattle.ostore.specs.Objects.{put_act, usual_kind}
 use Rattle.ostore.proofs.NameLemmas.{shard_names_differ, with_name-here, with_name-other}
-use Rattle.ostore.specs.Store.{IsDrawnName, HasDataOf, IsSound}
+use Rattle.ostore.specs.Store.{IsDrawnName, HasDataOf, IsSingle, IsSound}
 use Rattle.ostore.proofs.ListLemmas.{each_passed}
 use Rattle.ostore.proofs.DrawnLemmas.{Grows, IsNotDrawn, was_drawn_later, name_later, drawn_differs}
 
@@ -45,26 +46,37 @@ drawn_apart : (drawn : Drawn) (slot : ℕ) (id : VersionId) (name : VersionName)
 drawn_apart drawn slot id Null next was = refl
 drawn_apart drawn slot id (Id a) next was = numbers_apart a id (omega (arith, next.number_is, was.low))
 
-none_named : (drawn : Drawn) (slot : ℕ) (id : VersionId) → IsIdOf slot (drawn slot + 1) id → (versions : List Version) → AllByRecursion (λ v. IsDrawnName drawn slot v.id) versions → list_any (has_name (Id id)) versions ≡ false
-none_named drawn slot id next [] all = refl
-none_named drawn slot id next (v ∷ versions) all =
-    ap (λ (b : Bool). b || list_any (has_name (Id id)) versions) (drawn_apart drawn slot id v.id next all.0) ∙ none_named drawn slot id next versions all.1
+neither : (a b : Bool) → a ≡ false → b ≡ false → (a || b) ≡ false
+neither a b not_a not_b = rw not_a not_b
 
--- a key whose names its slot has drawn doesn't have the slot's next id
-pub next_is_fresh :
-    (drawn : Drawn) (slot : ℕ) (id : VersionId) (state : KeyState) → IsIdOf slot (drawn slot + 1) id → state.uploads ≡ []
-    → AllByRecursion (λ v. IsDrawnName drawn slot v.id) state.versions → has_id id state ≡ false
-next_is_fresh drawn slot id state next none all =
-    ap (λ (b : Bool). b || list_any (is_upload id) state.uploads) (none_named drawn slot id next state.versions all) ∙ ap (list_any (is_upload id)) none
+-- no object of a PUT whose data has an id that its slot drew names the slot's next id
+none_in_what :
+    (drawn : Drawn) (owner : List ℕ → List ℕ) (bodies : Named (List ℕ)) (key : List ℕ) (id : VersionId) (what : What)
+    → IsIdOf (slot_of key) (drawn (slot_of key) + 1) id → HasDataOf drawn owner bodies key what → IsSingle what → what_names id what ≡ false
+none_in_what drawn owner bodies key id Marker next has single = refl
+none_in_what drawn owner bodies key id (Object data_id print size md5 parts upload kind) next has single =
+    neither (same_id data_id id) (is_made_by id upload) (numbers_apart data_id id (omega (arith, next.number_is, has.drawn_id.low)))
+    (ap (is_made_by id) single)
 
--- the same of sound versions
+none_named :
+    (drawn : Drawn) (owner : List ℕ → List ℕ) (bodies : Named (List ℕ)) (key : List ℕ) (id : VersionId)
+    → IsIdOf (slot_of key) (drawn (slot_of key) + 1) id → (versions : List Version) → AllByRecursion (IsSound drawn owner bodies key) versions
+    → list_any (version_names id) versions ≡ false
+none_named drawn owner bodies key id next [] all = refl
+none_named drawn owner bodies key id next (v ∷ versions) all =
+    neither (version_names id v) (list_any (version_names id) versions)
+    (neither (has_name (Id id) v) (what_names id v.what) (drawn_apart drawn (slot_of key) id v.id next all.0.named)
+    (none_in_what drawn owner bodies key id v.what next all.0.data all.0.single))
+    (none_named drawn owner bodies key id next versions all.1)
+
+-- a key with no uploads and with sound versions doesn't name its slot's next id
 pub next_is_fresh-sound :
     (drawn : Drawn) (owner : List ℕ → List ℕ) (bodies : Named (List ℕ)) (key : List ℕ) (id : VersionId) (state : KeyState)
     → IsIdOf (slot_of key) (drawn (slot_of key) + 1) id → state.uploads ≡ []
-    → AllByRecursion (IsSound drawn owner bodies key) state.versions → has_id id state ≡ false
+    → AllByRecursion (IsSound drawn owner bodies key) state.versions → names_id id state ≡ false
 next_is_fresh-sound drawn owner bodies key id state next none all =
-    next_is_fresh drawn (slot_of key) id state next none
-    (each_item (IsSound drawn owner bodies key) (λ v. IsDrawnName drawn (slot_of key) v.id) (λ v sound. sound.named) state.versions all)
+    neither (list_any (version_names id) state.versions) (list_any (is_upload id) state.uploads)
+    (none_named drawn owner bodies key id next state.versions all) (ap (list_any (is_upload id)) none)
 
 -- ---- steps
 
@@ -227,6 +239,7 @@ sound_drawn_later drawn later owner bodies key versions grows all =
     (λ v sound. record {
       named = name_later drawn later (slot_of key) v.id grows sound.named;
       «data» = data_drawn_later drawn later owner bodies key v.what grows sound.data;
+      single = sound.single;
     }) versions all
 
 -- the same where an id that wasn't drawn is given an owner and a body
@@ -239,6 +252,7 @@ sound_later drawn later owner bodies key id owned body versions grows new all =
     (λ v sound. record {
       named = name_later drawn later (slot_of key) v.id grows sound.named;
       «data» = data_later drawn later owner bodies key id owned body v.what grows new sound.data;
+      single = sound.single;
     }) versions all
 
 new_name_drawn : (drawn : Drawn) (slot : ℕ) (mode : Mode) (id : VersionId) → WasDrawn drawn slot id → IsDrawnName drawn slot (new_name mode id)
@@ -262,10 +276,11 @@ put_is_sound later owner bodies key mode id print body now was printed few = rec
     sized = refl;
     few = few;
   };
+  single = refl;
 }
 
 -- the marker that a DELETE makes is sound
 pub marker_is_sound :
     (later : Drawn) (owner : List ℕ → List ℕ) (bodies : Named (List ℕ)) (key : List ℕ) (mode : Mode) (id : VersionId) (now : ℕ)
     → WasDrawn later (slot_of key) id → IsSound later owner bodies key (marker_version mode id now)
-marker_is_sound later owner bodies key mode id now was = record { named = new_name_drawn later (slot_of key) mode id was; «data» = tt }
+marker_is_sound later owner bodies key mode id now was = record { named = new_name_drawn later (slot_of key) mode id was; «data» = tt; single = tt }

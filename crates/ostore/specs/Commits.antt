@@ -8,7 +8,7 @@ use Rattle.version_list.specs.declared.state.KeyState.{KeyState}
 use Rattle.version_list.specs.State.{IsCanonical}
 use Rattle.version_list.specs.Answers.{IsServed}
 use Rattle.version_list.specs.Gone.{gone_bytes}
-use Rattle.version_list.specs.Naming.{has_id}
+use Rattle.version_list.specs.NamesId.{names_id}
 use Rattle.version_list.specs.Step.{Step}
 use Rattle.ostore.specs.KeyFiles.{key_file}
 use Rattle.ostore.specs.Replies.{reply_text}
@@ -31,7 +31,7 @@ pub record IsPrepared (mode : Mode) (act : Act) (id : VersionId) (now : ℕ) (st
   pub state : KeyState
   pub canonical : IsCanonical state
   pub shown : stands state
-  pub fresh : has_id id state ≡ false
+  pub fresh : names_id id state ≡ false
   pub changes : Changes mode act id now state text file gone
 
 -- the state that drive 0 showed already names the id
@@ -39,4 +39,4 @@ pub record NamesId (id : VersionId) (stands : KeyState → Type 0) : Type 0 wher
   pub state : KeyState
   pub canonical : IsCanonical state
   pub shown : stands state
-  pub names : has_id id state ≢ false
+  pub names : names_id id state ≢ false

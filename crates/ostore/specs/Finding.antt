@@ -12,7 +12,7 @@ use Rattle.call_types.specs.declared.why.Why.{Why}
 use Rattle.drive_base.specs.Files.{Files}
 use Rattle.version_list.specs.declared.state.KeyState.{KeyState}
 use Rattle.version_list.specs.State.{IsCanonical}
-use Rattle.version_list.specs.Answers.{refusal_of}
+use Rattle.call_types.specs.Refusals.{refusal_of}
 use Rattle.version_list.specs.Reads.{Reads}
 use Rattle.get_read.specs.Outcomes.{IsRefused}
 use Rattle.get_read.specs.declared.faults.ReadFaultKind.TheVariants.{ShardQuorum}

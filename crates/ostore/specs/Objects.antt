@@ -15,8 +15,9 @@ use Rattle.call_types.specs.declared.reply.Reply.TheVariants.{Refused}
 use Rattle.drive_base.specs.Files.{Named, with_name}
 use Rattle.version_list.specs.declared.state.KeyState.{KeyState}
 use Rattle.version_list.specs.State.{IsMoment}
-use Rattle.version_list.specs.Naming.{has_id}
-use Rattle.version_list.specs.Answers.{refusal_of, IsServed}
+use Rattle.version_list.specs.NamesId.{names_id}
+use Rattle.call_types.specs.Refusals.{refusal_of}
+use Rattle.version_list.specs.Answers.{IsServed}
 use Rattle.version_list.specs.Reads.{Reads}
 use Rattle.version_list.specs.Step.{Step}
 use Rattle.ostore.specs.Heads.{SpellsPut, SpellsGet, SpellsDelete}
@@ -79,7 +80,7 @@ put_act id print body = act.Put id print (length body) (md5 body) usual_kind
 -- that the clock told, where it tells.
 pub record IsNext (clock : Option ℕ) (old : Objects) (key : List ℕ) (id : VersionId) (now : ℕ) : Type 0 where
   pub is : IsIdOf (slot_of key) (old.drawn (slot_of key) + 1) id
-  pub fresh : has_id id (old.states key) ≡ false
+  pub fresh : names_id id (old.states key) ≡ false
   pub moment : IsMoment now
   pub clocked : IfSome clock (λ told. now ≡ told)
 

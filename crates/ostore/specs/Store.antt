@@ -39,10 +39,16 @@ abbrev pub HasDataOf : Drawn → (List ℕ → List ℕ) → Named (List ℕ) �
 HasDataOf drawn owner bodies key Marker = ⊤
 HasDataOf drawn owner bodies key (Object data_id print size md5 parts upload kind) = HasData drawn owner bodies key data_id print size
 
+-- an object that no upload made
+abbrev pub IsSingle : What → Type 0
+IsSingle Marker = ⊤
+IsSingle (Object data_id print size md5 parts upload kind) = upload ≡ None
+
 -- a version of a key is sound
 pub record IsSound (drawn : Drawn) (owner : List ℕ → List ℕ) (bodies : Named (List ℕ)) (key : List ℕ) (version : Version) : Type 0 where
   pub named : IsDrawnName drawn (slot_of key) version.id
   pub «data» : HasDataOf drawn owner bodies key version.what
+  pub single : IsSingle version.what
 
 -- a drive keeps a file of some state, or none, under every key's name
 abbrev pub KeepsSomeState : Files → Type 0

@@ -2,10 +2,9 @@
 
 ghost use Rattle.std.specs.Prelude.{◌≡◌, ◌⊎◌, ◌<◌, ◌≤◌, IsTrue, false, IfOk, IfErr, IfSome, Err, length, slice_index_or};
 ghost use Rattle.std.specs.Option.{option_map};
-ghost use Rattle.version_list.specs.Naming.{has_id};
+ghost use Rattle.version_list.specs.NamesId.{names_id};
 ghost use Rattle.version_list.specs.State.{IsMoment, IsCanonical};
 ghost use Rattle.version_list.specs.Lawful.{IsLawful};
-ghost use Rattle.version_list.specs.Answers.{refusal_of};
 ghost use Rattle.ostore.specs.Drives.{AtEach, SomeDrive};
 ghost use Rattle.ostore.specs.KeyFiles.{key_file, StandsFor, KeyCause};
 ghost use Rattle.ostore.specs.Commits.{Changes, IsPrepared, NamesId};
@@ -14,13 +13,13 @@ ghost use Rattle.ostore.specs.declared.undone.Undone.TheVariants.{NoMemory as Th
 use crate::keyfile::{Trouble, read_states};
 use crate::reply;
 use crate::undone::Undone;
-use call_types::{Act, Brief, KeyRefusal, Mode, Refusal, Reply};
+use call_types::{Act, Brief, Mode, Refusal, Reply};
 use drive_base::Drive;
 use fault_base::NoMemory;
 use seal_file::{Bytes, seal};
 use stamp_id::VersionId;
 use std::alloc::Global;
-use version_list::{ActFault, Applied, KeyState, apply, has_id, write};
+use version_list::{ActFault, Applied, KeyState, apply, names_id, write};
 
 /// The kind of a key's file.
 const KEY_KIND: [u8; 4] = *b"OKEY";
@@ -37,23 +36,6 @@ pub struct Prepared {
     pub gone: Bytes,
 }
 
-/// A refusal of a key as that of a call.
-pub fn refusal_of(why: KeyRefusal) -> Refusal
-    ensures { result ≡ refusal_of why }
-{
-    match why {
-        KeyRefusal::NoSuchKey { marker } => Refusal::NoSuchKey { marker },
-        KeyRefusal::NoSuchVersion => Refusal::NoSuchVersion,
-        KeyRefusal::MarkerNamed { id, modified } => Refusal::MarkerNamed { id, modified },
-        KeyRefusal::VersionLimit => Refusal::VersionLimit,
-        KeyRefusal::NoSuchUpload => Refusal::NoSuchUpload,
-        KeyRefusal::InvalidPart => Refusal::InvalidPart,
-        KeyRefusal::PartOrder => Refusal::PartOrder,
-        KeyRefusal::PartSmall => Refusal::PartSmall,
-        KeyRefusal::UploadLimit => Refusal::UploadLimit,
-    }
-}
-
 /// What a change makes of a key's state.
 fn change(
     alloc: Global,
@@ -64,7 +46,7 @@ fn change(
     act: &Act,
 ) -> Result<Prepared, Undone>
     requires canonical { IsCanonical state.now }
-    requires fresh { has_id id state.now ≡ false }
+    requires fresh { names_id id state.now ≡ false }
     requires moment { IsMoment now }
     requires lawful { IsLawful act.now }
     ensures ok { IfOk result (λ p. Changes mode act.now id now state.now p.text.items (option_map (λ f. f.items) p.file) p.gone) }
@@ -85,7 +67,7 @@ fn change(
             Ok(Prepared { text, file, gone })
         }
         Err(ActFault::Refused(why)) => {
-            let reply = Reply::Refused(refusal_of(why));
+            let reply = Reply::Refused(Refusal::from(why));
             let text = reply::text(alloc, mode, &reply, b"")?;
             Ok(Prepared {
                 text,
@@ -141,7 +123,7 @@ pub fn prepare<D: Drive>(
         Err(Trouble::NoMemory) => return Err(Undone::NoMemory),
         Err(_) => return Err(Undone::Refused),
     };
-    if has_id(&state, id) {
+    if names_id(&state, id) {
         return Err(Undone::Refused);
     }
     change(alloc, mode, now, &state, id, act)

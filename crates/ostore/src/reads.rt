@@ -11,17 +11,16 @@ ghost use Rattle.ostore.specs.Slots.{Drawn};
 ghost use Rattle.ostore.specs.Store.{Ready};
 ghost use Rattle.ostore.specs.declared.undone.Undone.TheVariants.{Refused};
 ghost use Rattle.ostore.specs.Replies.{reply_text};
-ghost use Rattle.version_list.specs.Answers.{refusal_of};
+ghost use Rattle.call_types.specs.Refusals.{refusal_of};
 ghost use Rattle.call_types.specs.declared.reply.Reply.TheVariants.{Refused as ReplyRefused};
 
-use crate::commit::refusal_of;
 use crate::connection::{ConnectionEnd, Turn};
 use crate::keyfile::{Trouble, read_states};
 use crate::making::answer;
 use crate::reply::{self, unavailable};
 use crate::undone::Undone;
 use crate::{bodies, files};
-use call_types::{KeyRefusal, Mode, Pick, Reply, Version, What};
+use call_types::{KeyRefusal, Mode, Pick, Refusal, Reply, Version, What};
 use drive_base::Drive;
 use fault_base::NoMemory;
 use io_base::Sink;
@@ -61,7 +60,7 @@ fn found<D: Drive>(
 fn refused(alloc: Global, mode: Mode, why: KeyRefusal) -> Result<Vec<u8>, NoMemory>
     ensures { IfOk result (λ text. text.items ≡ reply_text mode (ReplyRefused (refusal_of why)) []) }
 {
-    reply::text(alloc, mode, &Reply::Refused(refusal_of(why)), b"")
+    reply::text(alloc, mode, &Reply::Refused(Refusal::from(why)), b"")
 }
 
 /// The text of the reply to a GET of the key whose file has this name. It is refused where some drive failed, or showed
