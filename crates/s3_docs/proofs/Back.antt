@@ -1,13 +1,12 @@
 -- What is read is the bytes of a tree: the pieces that all documents have.
-use Rattle.std.proofs.Common.{◌≡◌, ◌≢◌, refl, sym, ◌∙◌, ap, subst, ℕ, zero, suc, ◌+◌, ◌*◌, ◌-◌, ◌<◌, ◌≤◌, ◌⊎◌, inl, inr, Bool, true, false, not, ◌||◌, ◌&&◌, eqb, ltb, leb, cond, List, [], ◌∷◌, ◌++◌, length, codes, Option, Some, None, append_assoc, arith}
-use Rattle.std.proofs.lemmas.Bool.{true≢false, false≢true}
+use Rattle.std.proofs.Common.{◌≡◌, refl, sym, ◌∙◌, ap, ℕ, ◌⊎◌, inl, inr, Bool, true, false, not, eqb, cond, List, [], ◌∷◌, ◌++◌, length, codes, Option, Some, None, append_assoc, arith}
 use Rattle.std.proofs.lemmas.Bool.Decides.{eqb_tells}
-use Rattle.std.proofs.lemmas.List.{length_push, append-nil}
-use Rattle.s3_docs.specs.Bytes.{is_blank, is_digit, is_letter, is_name_byte}
+use Rattle.std.proofs.lemmas.List.{append-nil}
+use Rattle.s3_docs.specs.Bytes.{is_blank, is_letter, is_name_byte}
 use Rattle.s3_docs.specs.Machine.{Value, Holder, State, Expect, Inside, Inner, Name, Text, due, end_tag, is_gap, moves, step, said, closes, naming, behind_name, Naming}
-use Rattle.s3_docs.specs.Outcomes.{Outcome, Says, Fails, outcome, goes_on, at_the_end}
+use Rattle.s3_docs.specs.Outcomes.{Says, Fails, outcome, goes_on}
 use Rattle.s3_docs.specs.Reads.{NoBlank, NoNameByte, Opens}
-use Rattle.s3_docs.specs.Grammar.{◌·◌, Every, IsGap, IsName, Passed, content_text, passed_text, HoldsNoTag, IsPassed}
+use Rattle.s3_docs.specs.Grammar.{◌·◌, Every, IsGap, IsName, content_text, HoldsNoTag}
 
 pub not_failed : {A : Type 0} → (left : ℕ) (value : Value) → Fails left ≡ Says value → A
 not_failed left value e = absurd (never left value e)

@@ -1,18 +1,18 @@
 -- What is read is the bytes of a tree: parts.
-use Rattle.std.proofs.Common.{◌≡◌, ◌≢◌, refl, sym, ◌∙◌, ap, subst, ℕ, zero, suc, ◌+◌, ◌<◌, ◌≤◌, ◌⊎◌, inl, inr, Bool, true, false, eqb, cond, List, [], ◌∷◌, ◌++◌, length, codes, Option, Some, None, append_assoc, arith, length-append}
+use Rattle.std.proofs.Common.{◌≡◌, ◌≢◌, refl, sym, ◌∙◌, ap, subst, ℕ, zero, suc, ◌<◌, ◌≤◌, inl, inr, Bool, true, false, eqb, List, [], ◌∷◌, ◌++◌, length, codes, Option, Some, None, append_assoc, arith, length-append}
 use Rattle.std.specs.Str.{bytes_eq}
 use Rattle.std.specs.Option.{option_to_list}
-use Rattle.std.proofs.lemmas.Bool.{true≢false, false≢true}
+use Rattle.std.proofs.lemmas.Bool.{false≢true}
 use Rattle.std.proofs.lemmas.Bool.Decides.{eqb_tells}
 use Rattle.std.proofs.lemmas.List.{append-nil}
 use Rattle.std.proofs.lemmas.Slice.Eq.{bytes_eq-Decides}
 use Rattle.call_types.specs.declared.version.PartRef.{PartRef}
 use Rattle.s3_docs.specs.Bytes.{is_blank}
-use Rattle.s3_docs.specs.Machine.{Value, Parts, Holder, Part, Field, PartNumber, ETag, Naming, Awaited, Spent, State, Inside, Inner, Name, Awaiting, Between, Tag, After, due, naming, behind_name, closes, closes_all, quote_text, md5_of}
+use Rattle.s3_docs.specs.Machine.{Value, Parts, Holder, Part, Field, PartNumber, ETag, Awaited, Spent, Inside, Inner, Name, Awaiting, Between, Tag, After, naming, closes, closes_all, quote_text, md5_of}
 use Rattle.s3_docs.specs.Outcomes.{Outcome, Says, Fails, outcome, goes_on}
 use Rattle.s3_docs.specs.Reads.{NoNameByte}
-use Rattle.s3_docs.specs.Grammar.{◌·◌, IsGap, IsName, Passed, content_text, passed_text, IsPassed, number_of, Item, Number, Etag, Other, item_text, IsItem, items_text, AreItems, numbers, digests, PartTree, part_text, SaysPart, parts_text, SayParts}
-use Rattle.s3_docs.proofs.Back.{Opened, not_failed, gap_back, open_back, due_back, inner_back, content_back}
+use Rattle.s3_docs.specs.Grammar.{◌·◌, IsGap, IsName, Passed, content_text, passed_text, number_of, Item, Number, Etag, Other, item_text, IsItem, items_text, AreItems, numbers, digests, PartTree, part_text, parts_text, SayParts}
+use Rattle.s3_docs.proofs.Back.{Opened, not_failed, open_back, due_back, inner_back, content_back}
 use Rattle.s3_docs.proofs.BackValues.{number_back, etag_back}
 
 -- a field's start tag, behind its name

@@ -1,14 +1,14 @@
 -- What is read is the bytes of a tree: numbers, ETags and modes.
-use Rattle.std.proofs.Common.{◌≡◌, ◌≢◌, refl, sym, ◌∙◌, ap, subst, ℕ, zero, suc, ◌+◌, ◌*◌, ◌-◌, ◌<◌, ◌≤◌, ◌⊎◌, inl, inr, Bool, true, false, not, ◌||◌, ◌&&◌, eqb, ltb, leb, cond, List, [], ◌∷◌, ◌++◌, length, codes, Option, Some, None, append_assoc, arith}
-use Rattle.std.proofs.lemmas.Bool.{true≢false, false≢true}
+use Rattle.std.proofs.Common.{◌≡◌, refl, sym, ◌∙◌, ap, subst, ℕ, ◌+◌, ◌*◌, ◌-◌, ◌≤◌, inl, inr, Bool, true, false, ◌||◌, ◌&&◌, eqb, ltb, leb, cond, List, [], ◌∷◌, ◌++◌, length, codes, Some, None, append_assoc, arith}
+use Rattle.std.proofs.lemmas.Bool.{false≢true}
 use Rattle.std.proofs.lemmas.Bool.Decides.{eqb_tells}
 use Rattle.std.proofs.lemmas.List.{length_push, append-nil}
 use Rattle.hex.specs.Hex.{is_hex_digit}
 use Rattle.call_types.specs.declared.names.Mode.{Mode}
 use Rattle.call_types.specs.declared.names.Mode.TheVariants.{Enabled, Suspended}
-use Rattle.s3_docs.specs.Bytes.{is_blank, is_digit}
-use Rattle.s3_docs.specs.Machine.{Value, Holder, Field, PartNumber, ETag, Status, Quotation, Bare, Plain, Named, Numbered, State, Inside, Awaiting, Ending, Digits, Reference, Hex, due, end_tag, field_name, with_number, with_md5, with_mode, md5_of, quote_text, behind_hex, behind_number, one_digit_more, begins}
-use Rattle.s3_docs.specs.Outcomes.{Outcome, Says, Fails, outcome, goes_on}
+use Rattle.s3_docs.specs.Bytes.{is_digit}
+use Rattle.s3_docs.specs.Machine.{Value, Holder, Field, PartNumber, ETag, Status, Quotation, Bare, Plain, Named, Numbered, State, Inside, Awaiting, Ending, Digits, Reference, Hex, due, end_tag, field_name, with_number, with_md5, with_mode, md5_of, quote_text, behind_hex, behind_number, begins}
+use Rattle.s3_docs.specs.Outcomes.{Outcome, Says, outcome, goes_on}
 use Rattle.s3_docs.specs.Reads.{NoBlank}
 use Rattle.s3_docs.specs.Grammar.{◌·◌, Every, IsGap, value_behind, number_of, IsNumber, IsDigest, mode_name, IsAsked}
 use Rattle.s3_docs.proofs.ValueLemmas.{awaiting_number, awaiting_hex}

@@ -1,20 +1,12 @@
 -- The bytes of a tree are read, and give what it says.
-use Rattle.std.proofs.Common.{◌≡◌, ◌≢◌, refl, sym, ◌∙◌, ap, subst, ℕ, zero, suc, ◌+◌, ◌*◌, ◌-◌, ◌<◌, ◌≤◌, ◌⊎◌, inl, inr, Bool, true, false, not, ◌||◌, ◌&&◌, eqb, ltb, leb, cond, List, [], ◌∷◌, ◌++◌, length, codes, Option, Some, None, append_assoc, arith}
-use Rattle.std.specs.Str.{bytes_eq}
-use Rattle.std.specs.Option.{option_to_list}
-use Rattle.std.proofs.lemmas.Bool.{true≢false, ne_eqb, false_from_ne_true}
-use Rattle.std.proofs.lemmas.Bool.Decides.{eqb_tells}
-use Rattle.std.proofs.lemmas.List.{length_push, append-nil}
-use Rattle.std.proofs.lemmas.Slice.Eq.{bytes_eq-Decides}
-use Rattle.hex.specs.Hex.{is_hex_digit}
-use Rattle.call_types.specs.declared.version.PartRef.{PartRef}
-use Rattle.s3_docs.specs.Bytes.{is_blank, is_digit, is_letter, is_name_byte}
+use Rattle.std.proofs.Common.{◌≡◌, refl, sym, ◌∙◌, ap, ℕ, Bool, true, false, not, eqb, List, [], ◌∷◌, ◌++◌, codes, Option, Some, None, append_assoc}
+use Rattle.std.proofs.lemmas.Bool.{true≢false, ne_eqb}
+use Rattle.std.proofs.lemmas.List.{append-nil}
+use Rattle.s3_docs.specs.Bytes.{is_letter, is_name_byte}
 use Rattle.s3_docs.specs.Machine.{Value, Holder, Part, Configuration, Quotation, Bare, Plain, Named, Numbered, Field, PartNumber, ETag, State, Expect, Inside, Inner, Name, Text, Awaiting, Ending, Digits, Reference, Hex, Between, due, end_tag, is_gap, moves, step, naming, with_number, with_md5, md5_of, quote_text, behind_hex}
-use Rattle.s3_docs.specs.Outcomes.{Outcome, Says, Fails, outcome}
-use Rattle.s3_docs.specs.Reads.{NoBlank}
-use Rattle.s3_docs.specs.Grammar.{◌·◌, Every, IsGap, IsName, Passed, content_text, passed_text, HoldsNoTag, IsPassed, value_behind, number_of, IsNumber, IsDigest, Item, number_text, etag_text, item_text, IsItem, items_text, AreItems, numbers, digests}
+use Rattle.s3_docs.specs.Outcomes.{outcome}
+use Rattle.s3_docs.specs.Grammar.{◌·◌, Every, IsGap, IsName, Passed, content_text, passed_text, HoldsNoTag, IsPassed}
 use Rattle.s3_docs.proofs.Live.{outcome-due}
-use Rattle.s3_docs.proofs.ValueLemmas.{awaiting_number}
 
 -- white space is passed over in a gap
 pub gap_read : (state : State) → is_gap state ≡ true → (gap : List ℕ) → IsGap gap → (rest : List ℕ) → outcome state (gap ++ rest) ≡ outcome state rest

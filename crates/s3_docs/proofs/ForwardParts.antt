@@ -1,5 +1,5 @@
 -- The bytes of a tree with parts are read, and give its parts.
-use Rattle.std.proofs.Common.{◌≡◌, ◌≢◌, refl, sym, ◌∙◌, ap, subst, ℕ, zero, suc, ◌+◌, ◌*◌, ◌-◌, ◌<◌, ◌≤◌, ◌⊎◌, inl, inr, Bool, true, false, not, ◌||◌, ◌&&◌, eqb, ltb, leb, cond, List, [], ◌∷◌, ◌++◌, length, get_or, codes, Option, Some, None, append_assoc, arith}
+use Rattle.std.proofs.Common.{◌≡◌, ◌≢◌, refl, sym, ◌∙◌, ap, ℕ, suc, ◌+◌, ◌*◌, ◌-◌, ◌<◌, ◌≤◌, inl, inr, Bool, true, false, ◌||◌, eqb, ltb, leb, List, [], ◌∷◌, ◌++◌, length, codes, Option, Some, None, append_assoc, arith}
 use Rattle.std.specs.Str.{bytes_eq}
 use Rattle.std.specs.Option.{option_to_list}
 use Rattle.std.proofs.lemmas.Bool.{true≢false, false≢true, ne_eqb, false_from_ne_true}
@@ -9,10 +9,10 @@ use Rattle.std.proofs.lemmas.Slice.Eq.{bytes_eq-Decides}
 use Rattle.hex.specs.Hex.{is_hex_digit}
 use Rattle.call_types.specs.declared.version.PartRef.{PartRef}
 use Rattle.s3_docs.specs.Bytes.{is_blank, is_digit}
-use Rattle.s3_docs.specs.Machine.{Value, Parts, Holder, Part, Quotation, Bare, Plain, Named, Numbered, Awaited, PartNumber, ETag, State, Inside, Awaiting, Ending, Digits, Hex, Between, After, due, naming, with_number, with_md5, md5_of, quote_text, behind_hex}
-use Rattle.s3_docs.specs.Outcomes.{Outcome, Says, outcome}
+use Rattle.s3_docs.specs.Machine.{Holder, Part, Quotation, Bare, Plain, Named, Numbered, Awaited, PartNumber, ETag, Inside, Awaiting, Ending, Digits, Hex, Between, naming, with_number, with_md5, md5_of, quote_text, behind_hex}
+use Rattle.s3_docs.specs.Outcomes.{outcome}
 use Rattle.s3_docs.specs.Reads.{NoBlank}
-use Rattle.s3_docs.specs.Grammar.{◌·◌, Every, IsGap, Passed, value_behind, number_of, IsNumber, IsDigest, Item, Number, Etag, Other, number_text, etag_text, item_text, IsItem, items_text, AreItems, numbers, digests, PartTree, part_text, SaysPart, parts_text, SayParts}
+use Rattle.s3_docs.specs.Grammar.{◌·◌, Every, IsGap, value_behind, number_of, IsNumber, IsDigest, Item, Number, Etag, Other, number_text, etag_text, items_text, AreItems, numbers, digests, PartTree, part_text, SaysPart, parts_text, SayParts}
 use Rattle.s3_docs.proofs.Live.{outcome-due}
 use Rattle.s3_docs.proofs.ValueLemmas.{awaiting_number, awaiting_hex}
 use Rattle.s3_docs.proofs.Forward.{gap_read, passed_read}

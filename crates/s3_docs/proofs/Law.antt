@@ -1,12 +1,11 @@
 -- What is accepted is exactly the bytes of the trees, with what they say.
-use Rattle.std.proofs.Common.{◌≡◌, ◌≢◌, refl, sym, ◌∙◌, ap, subst, ℕ, zero, suc, ◌+◌, ◌<◌, ◌≤◌, ◌⊎◌, inl, inr, Bool, true, false, eqb, List, [], ◌∷◌, ◌++◌, length, take, codes, Option, Some, None, arith}
+use Rattle.std.proofs.Common.{◌≡◌, ◌≢◌, refl, ◌∙◌, ap, subst, ℕ, suc, false, eqb, List, [], ◌∷◌, length, codes, Some, None, arith}
 use Rattle.call_types.specs.declared.names.Mode.{Mode}
 use Rattle.call_types.specs.declared.version.PartRef.{PartRef}
 use Rattle.s3_docs.specs.declared.prologue.Root.{Root}
 use Rattle.s3_docs.specs.declared.prologue.Root.TheVariants.{CompleteMultipartUpload, VersioningConfiguration}
-use Rattle.s3_docs.specs.Bytes.{is_blank}
-use Rattle.s3_docs.specs.Machine.{Value, Parts, Versioning, Configuration, State, Start, Between, Inside, After}
-use Rattle.s3_docs.specs.Outcomes.{Outcome, Says, Fails, outcome}
+use Rattle.s3_docs.specs.Machine.{Value, Parts, Versioning, Configuration, Start, Between, Inside, After}
+use Rattle.s3_docs.specs.Outcomes.{Says, outcome}
 use Rattle.s3_docs.specs.Documents.{IsDocument}
 use Rattle.s3_docs.specs.Grammar.{◌·◌, IsGap, prologue_text, CompleteTree, SaysComplete, complete_text, parts_text, VersioningTree, SaysVersioning, versioning_text, settings_text}
 use Rattle.s3_docs.proofs.Forward.{gap_read}

@@ -1,5 +1,5 @@
 -- Behind each byte some document goes on.
-use Rattle.std.proofs.Common.{◌≡◌, refl, sym, ◌∙◌, ap, ℕ, zero, suc, ◌+◌, ◌*◌, ◌-◌, ◌<◌, ◌≤◌, ◌⊎◌, Bool, true, false, ◌||◌, eqb, ltb, leb, List, [], ◌∷◌, ◌++◌, length, codes, Option, Some, None, append_assoc, arith}
+use Rattle.std.proofs.Common.{◌≡◌, refl, sym, ◌∙◌, ℕ, zero, suc, ◌+◌, ◌-◌, ◌<◌, ◌⊎◌, Bool, true, false, ◌||◌, eqb, ltb, leb, List, [], ◌∷◌, ◌++◌, length, codes, Option, Some, None, arith}
 use Rattle.std.specs.Str.{bytes_eq}
 use Rattle.std.proofs.lemmas.Bool.{ne_eqb, false_from_ne_true}
 use Rattle.std.proofs.lemmas.List.{length_push, same_from_push}
@@ -9,8 +9,8 @@ use Rattle.call_types.specs.declared.names.Mode.TheVariants.{Enabled}
 use Rattle.call_types.specs.declared.names.Mode.{Mode}
 use Rattle.s3_docs.specs.declared.prologue.Root.{Root}
 use Rattle.s3_docs.specs.declared.prologue.Root.TheVariants.{CompleteMultipartUpload, VersioningConfiguration}
-use Rattle.s3_docs.specs.Machine.{Value, Parts, Versioning, Field, PartNumber, ETag, Status, Holder, Part, Configuration, Quotation, State, Expect, Start, Opened, Declaration, Mark, Before, Rooted, Spaced, Quote, Quoted, Between, Tag, Inside, Inner, Name, Text, Awaiting, Ending, Digits, Reference, Hex, After, Numbered, Other, due, within, end_tag, naming, with_number, with_md5, with_mode, md5_of, quote_text, behind_hex, step}
-use Rattle.s3_docs.specs.Outcomes.{Outcome, Says, outcome}
+use Rattle.s3_docs.specs.Machine.{Value, Parts, Versioning, Field, PartNumber, ETag, Status, Holder, Part, Configuration, Quotation, State, Expect, Start, Opened, Declaration, Mark, Before, Rooted, Spaced, Quote, Quoted, Between, Tag, Inside, Inner, Name, Text, Awaiting, Ending, Digits, Reference, Hex, After, Numbered, Other, due, within, end_tag, naming, with_number, with_md5, with_mode, md5_of, quote_text, behind_hex}
+use Rattle.s3_docs.specs.Outcomes.{Says, outcome}
 
 -- some bytes make a document of what has come
 abbrev pub IsLive : State → Type 0

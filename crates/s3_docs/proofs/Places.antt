@@ -1,15 +1,14 @@
 -- Where bytes stop to be the beginning of a document.
-use Rattle.std.proofs.Common.{◌≡◌, ◌≢◌, refl, sym, ◌∙◌, ap, subst, ℕ, zero, suc, ◌+◌, ◌-◌, ◌<◌, ◌≤◌, ◌⊎◌, inl, inr, Bool, true, false, List, [], ◌∷◌, ◌++◌, length, take, drop, Option, Some, None, append_assoc, arith, cond, length-append, ◌||◌, ◌&&◌, leb, ltb, eqb}
+use Rattle.std.proofs.Common.{◌≡◌, refl, sym, ◌∙◌, ap, subst, ℕ, suc, ◌+◌, ◌-◌, ◌<◌, ◌≤◌, ◌⊎◌, inl, inr, Bool, true, false, List, [], ◌∷◌, ◌++◌, length, take, drop, Option, Some, None, append_assoc, arith, cond, length-append, ◌||◌, ◌&&◌, leb, ltb}
 use Rattle.std.proofs.lemmas.Bool.Decides.{eqb_tells}
 use Rattle.std.proofs.lemmas.List.{length_push, take_at, append-nil, take-append-drop, take-take}
 use Rattle.s3_docs.specs.declared.prologue.Root.{Root}
 use Rattle.s3_docs.specs.declared.prologue.Root.TheVariants.{CompleteMultipartUpload, VersioningConfiguration}
-use Rattle.s3_docs.specs.Machine.{Value, Field, PartNumber, ETag, Status, Holder, Part, Configuration, Quotation, Naming, Awaited, Spent, Other, State, Expect, Start, Opened, Declaration, Mark, Before, Rooted, Spaced, Quote, Quoted, Between, Tag, Inside, Inner, Name, Text, Awaiting, Ending, Digits, Reference, Hex, After, due, within, end_tag, naming, with_md5, md5_of, quote_text, behind_name, closes, closes_all, begins, ends, one_digit_more, behind_number, behind_hex, moves, is_gap, step, said}
-use Rattle.s3_docs.specs.Bytes.{is_blank}
+use Rattle.s3_docs.specs.Machine.{Value, Field, PartNumber, ETag, Status, Holder, Part, Configuration, Quotation, Naming, Awaited, Spent, Other, State, Expect, Start, Opened, Declaration, Mark, Before, Rooted, Spaced, Quote, Quoted, Between, Tag, Inside, Inner, Name, Text, Awaiting, Ending, Digits, Reference, Hex, After, due, within, with_md5, md5_of, quote_text, behind_name, closes, begins, one_digit_more, behind_hex, moves, step, said}
 use Rattle.s3_docs.specs.Outcomes.{Outcome, Says, Fails, outcome, goes_on, at_the_end}
 use Rattle.s3_docs.specs.Documents.{IsDocument, GoesOn, IsPlace}
 use Rattle.s3_docs.proofs.Law.{document_accepted, accepted_document}
-use Rattle.s3_docs.proofs.Live.{IsLive, IsLawful, live}
+use Rattle.s3_docs.proofs.Live.{IsLawful, live}
 
 -- what a byte leads to is lawful
 abbrev Keeps : Option State → Type 0

@@ -1,15 +1,14 @@
 -- What stands before a root's content, in both directions.
-use Rattle.std.proofs.Common.{◌≡◌, ◌≢◌, refl, sym, ◌∙◌, ap, subst, ℕ, zero, suc, ◌+◌, ◌<◌, ◌≤◌, ◌⊎◌, inl, inr, Bool, true, false, not, ◌||◌, eqb, cond, List, [], ◌∷◌, ◌++◌, length, codes, Option, Some, None, append_assoc, arith}
-use Rattle.std.proofs.lemmas.Bool.{true≢false, false≢true, ne_eqb}
+use Rattle.std.proofs.Common.{◌≡◌, refl, sym, ◌∙◌, ap, subst, ℕ, inl, inr, Bool, true, false, not, eqb, cond, List, [], ◌∷◌, length, codes, Option, Some, None, arith}
+use Rattle.std.proofs.lemmas.Bool.{ne_eqb}
 use Rattle.std.proofs.lemmas.Bool.Decides.{eqb_tells}
 use Rattle.s3_docs.specs.declared.prologue.Root.{Root}
 use Rattle.s3_docs.specs.declared.prologue.Root.TheVariants.{CompleteMultipartUpload, VersioningConfiguration}
 use Rattle.s3_docs.specs.Bytes.{is_blank}
-use Rattle.s3_docs.specs.Machine.{Value, State, Expect, Start, Opened, Declaration, Mark, Before, Rooted, Spaced, Quote, Quoted, due, within, initial, behind_initial, root_name}
-use Rattle.s3_docs.specs.Outcomes.{Outcome, Says, Fails, outcome, goes_on}
+use Rattle.s3_docs.specs.Machine.{Value, Start, Opened, Declaration, Mark, Before, Rooted, Spaced, Quote, Quoted, due, within, initial, behind_initial, root_name}
+use Rattle.s3_docs.specs.Outcomes.{Says, outcome, goes_on}
 use Rattle.s3_docs.specs.Reads.{NoBlank}
 use Rattle.s3_docs.specs.Grammar.{◌·◌, Every, IsGap, Attribute, Prologue, declaration_text, attribute_text, prologue_text, HasNoMark, is_quote, IsDeclaration, IsAttribute, IsPrologue}
-use Rattle.s3_docs.proofs.Live.{outcome-due}
 use Rattle.s3_docs.proofs.Forward.{gap_read}
 use Rattle.s3_docs.proofs.ForwardParts.{blank_fails}
 use Rattle.s3_docs.proofs.Back.{not_failed, gap_back, open_back, due_back}

@@ -1,5 +1,5 @@
 -- The content of a VersioningConfiguration, in both directions.
-use Rattle.std.proofs.Common.{◌≡◌, ◌≢◌, refl, sym, ◌∙◌, ap, subst, ℕ, zero, suc, ◌+◌, ◌<◌, ◌≤◌, ◌⊎◌, inl, inr, Bool, true, false, eqb, cond, List, [], ◌∷◌, ◌++◌, length, codes, Option, Some, None, append_assoc, arith}
+use Rattle.std.proofs.Common.{◌≡◌, ◌≢◌, refl, sym, ◌∙◌, ap, subst, ℕ, zero, suc, ◌<◌, inl, inr, Bool, true, false, List, [], ◌∷◌, ◌++◌, length, codes, Option, Some, None, arith}
 use Rattle.std.specs.Str.{bytes_eq}
 use Rattle.std.specs.Option.{option_to_list}
 use Rattle.std.proofs.lemmas.Bool.{false≢true, false_from_ne_true}
@@ -8,9 +8,9 @@ use Rattle.call_types.specs.declared.names.Mode.{Mode}
 use Rattle.call_types.specs.declared.names.Mode.TheVariants.{Never, Enabled, Suspended}
 use Rattle.s3_docs.specs.Machine.{Value, Versioning, Holder, Configuration, State, Inside, Inner, Name, Awaiting, Ending, After, due, naming, closes}
 use Rattle.s3_docs.specs.Machine as machine
-use Rattle.s3_docs.specs.Outcomes.{Outcome, Says, Fails, outcome, goes_on}
+use Rattle.s3_docs.specs.Outcomes.{Says, outcome, goes_on}
 use Rattle.s3_docs.specs.Reads.{NoNameByte}
-use Rattle.s3_docs.specs.Grammar.{◌·◌, IsGap, IsName, Passed, content_text, passed_text, IsPassed, Setting, Status, Else, mode_name, IsAsked, setting_text, IsSetting, settings_text, AreSettings, modes}
+use Rattle.s3_docs.specs.Grammar.{◌·◌, IsGap, IsName, Setting, Status, Else, mode_name, IsAsked, setting_text, IsSetting, settings_text, AreSettings, modes}
 use Rattle.s3_docs.proofs.Forward.{gap_read, passed_read}
 use Rattle.s3_docs.proofs.Back.{Opened, not_failed, open_back, due_back, inner_back, content_back}
 use Rattle.s3_docs.proofs.BackValues.{mode_back}

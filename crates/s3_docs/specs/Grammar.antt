@@ -1,5 +1,5 @@
 -- The grammar of the documents: trees, what they say, and their bytes. A text is written with the bytes that follow it.
-use Rattle.std.specs.Prelude.{◌≡◌, ◌≢◌, ℕ, ◌+◌, ◌*◌, ◌-◌, ◌≤◌, Bool, true, not, List, [], ◌∷◌, ◌++◌, length, codes, bytes_eq, ◌==◌, ◌||◌, Option, Some, None}
+use Rattle.std.specs.Prelude.{◌≡◌, ◌≢◌, ℕ, ◌+◌, ◌*◌, ◌-◌, ◌≤◌, Bool, true, not, List, [], ◌∷◌, ◌++◌, length, codes, ◌==◌, ◌||◌, Option, Some, None}
 use Rattle.hex.specs.Hex.{is_hex_digit}
 use Rattle.call_types.specs.declared.names.Mode.{Mode}
 use Rattle.call_types.specs.declared.names.Mode.TheVariants.{Never, Enabled, Suspended}
@@ -7,7 +7,7 @@ use Rattle.call_types.specs.declared.version.PartRef.{PartRef}
 use Rattle.s3_docs.specs.declared.prologue.Root.{Root}
 use Rattle.s3_docs.specs.declared.prologue.Root.TheVariants.{CompleteMultipartUpload, VersioningConfiguration}
 use Rattle.s3_docs.specs.Bytes.{is_blank, is_digit, is_letter, is_name_byte}
-use Rattle.s3_docs.specs.Machine.{Value, Parts, Versioning, Quotation, quote_text, root_name, md5_of}
+use Rattle.s3_docs.specs.Machine.{Quotation, quote_text, root_name, md5_of}
 
 -- a text, and what follows it
 infixr 20 ◌·◌

@@ -1,8 +1,8 @@
 -- What a reader of a piece of a document answers.
-use Rattle.std.specs.Prelude.{◌≡◌, ℕ, Bool, true, false, List, [], ◌∷◌, Option, Some, None, ◌==◌, if◌then◌else◌}
+use Rattle.std.specs.Prelude.{◌≡◌, ℕ, true, false, List, [], ◌∷◌, Some, None, ◌==◌, if◌then◌else◌}
 use Rattle.s3_docs.specs.Bytes.{is_blank, is_letter, is_name_byte}
 use Rattle.s3_docs.specs.Machine.{State, is_gap, moves, said}
-use Rattle.s3_docs.specs.Outcomes.{Outcome, Fails, outcome}
+use Rattle.s3_docs.specs.Outcomes.{Fails, outcome}
 
 -- The piece is read: what comes of the bytes from the one state on is what comes of the rest from the other on.
 abbrev pub Reads : State → List ℕ → State → List ℕ → Type 0

@@ -127,7 +127,7 @@ fn reads_clients(rt: HostRuntime) {
 }
 
 /// Documents that stop, each behind `<CompleteMultipartUpload>` and so from byte 25 on, and the place in it.
-const STOPS: &[(&[u8], u64)] = &[
+const STOPS: &[(&[u8], u8)] = &[
     (b"</CompleteMultipartUpload>", 1),
     (b"<Partx>", 5),
     (b"<Part />", 5),
@@ -168,9 +168,12 @@ fn stops_at_the_first_byte(rt: HostRuntime) {
         ).expect(&rt, "there is memory");
         document
             .extend_from_slice(text)
-            .expect(&rt, "the document is read");
+            .expect(&rt, "there is memory");
         let answer = read_complete(rt.alloc(), document.as_slice());
-        assert_eq!(rt; answer.err(), Some(DocFault::MalformedXML(25 + *place)));
+        assert_eq!(rt;
+            answer.err(),
+            Some(DocFault::MalformedXML(25 + u64::from(*place)))
+        );
     }
 }
 

@@ -1,4 +1,4 @@
-use Rattle.std.proofs.Common.{◌≡◌, ℕ, List, ◌∙◌, ap, sym, subst, inr}
+use Rattle.std.proofs.Common.{◌≡◌, List, ◌∙◌, ap, sym, subst, inr}
 use Rattle.call_types.specs.declared.version.PartRef.{PartRef}
 use Rattle.s3_docs.specs.declared.prologue.Root.TheVariants.{CompleteMultipartUpload}
 use Rattle.s3_docs.specs.Machine.{Value, Parts, Versioning}

@@ -1,4 +1,4 @@
-use Rattle.std.proofs.Common.{◌≡◌, ℕ, ap, sym, Ok, Err, Result, ◌∙◌}
+use Rattle.std.proofs.Common.{◌≡◌, ℕ, ap, Ok, Err}
 use Rattle.call_types.specs.declared.names.Mode.{Mode}
 use Rattle.s3_docs.specs.declared.prologue.Root.TheVariants.{VersioningConfiguration}
 use Rattle.s3_docs.specs.declared.fault.DocFault.TheVariants.{MalformedXML}

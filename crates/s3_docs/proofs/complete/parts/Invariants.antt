@@ -1,4 +1,4 @@
-use Rattle.std.proofs.Common.{length, ◌≤◌, []}
+use Rattle.std.proofs.Common.{length, []}
 use Rattle.s3_docs.specs.Machine.{Between}
 use Rattle.s3_docs.specs.Reads.{Reads}
 use Rattle.s3_docs.proofs.complete.parts.Given as goal

@@ -1,4 +1,4 @@
-use Rattle.std.proofs.Common.{◌≡◌, ◌∙◌, sym, Bool, false, eqb, length, ℕ, Option, Some}
+use Rattle.std.proofs.Common.{◌≡◌, ◌∙◌, sym, false, eqb, length}
 use Rattle.std.proofs.lemmas.Result.{IfErr-weaker, IfOk-weaker}
 use Rattle.s3_docs.specs.Machine.{After, Parts}
 use Rattle.s3_docs.proofs.complete.parts_end.Goals as goal

@@ -1,8 +1,7 @@
-use Rattle.std.proofs.Common.{◌≡◌, ◌∙◌, ℕ}
+use Rattle.std.proofs.Common.{◌∙◌, ℕ}
 use Rattle.std.proofs.lemmas.Result.{err_from_is_err_and, IfErr-weaker}
 use Rattle.s3_docs.specs.Machine.{State, end_tag}
-use Rattle.s3_docs.specs.Outcomes.{outcome}
-use Rattle.s3_docs.specs.Reads.{Reads, Stops, Opens}
+use Rattle.s3_docs.specs.Reads.{Stops, Opens}
 use Rattle.s3_docs.proofs.elements.field_end.Goals as goal
 
 pub returns-in_err-rest-clause-stops : goal.returns-in_err-rest-clause-stops

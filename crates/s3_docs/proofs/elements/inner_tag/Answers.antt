@@ -1,4 +1,4 @@
-use Rattle.std.proofs.Common.{refl, ℕ, List}
+use Rattle.std.proofs.Common.{refl, ℕ}
 use Rattle.std.proofs.lemmas.Result.{IfErr-weaker}
 use Rattle.s3_docs.specs.Machine.{State, Holder, Inside, Inner}
 use Rattle.s3_docs.specs.Reads.{Stops, Opens}

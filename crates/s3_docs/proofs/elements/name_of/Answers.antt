@@ -1,4 +1,4 @@
-use Rattle.std.proofs.Common.{◌≡◌, ◌∙◌, ap, sym, subst, ℕ, List, drop, drop-drop, ◌+◌}
+use Rattle.std.proofs.Common.{◌∙◌, ap, sym, subst, drop, drop-drop}
 use Rattle.s3_docs.specs.Reads.{NoNameByte}
 use Rattle.s3_docs.proofs.elements.name_of.Goals as goal
 

@@ -1,9 +1,8 @@
-use Rattle.std.proofs.Common.{◌≡◌, ◌∙◌, refl, sym, subst, ℕ, List, codes}
+use Rattle.std.proofs.Common.{◌≡◌, ◌∙◌, sym, subst, ℕ, List, codes}
 use Rattle.std.proofs.lemmas.Result.{IfErr-weaker}
 use Rattle.std.proofs.lemmas.Slice.Eq.{bytes_eq-Decides}
 use Rattle.call_types.specs.declared.version.PartRef.{PartRef}
 use Rattle.s3_docs.specs.Machine.{Part, Inner, Name}
-use Rattle.s3_docs.specs.Outcomes.{outcome}
 use Rattle.s3_docs.specs.Reads.{Stops}
 use Rattle.s3_docs.proofs.part.part_field.Goals as goal
 

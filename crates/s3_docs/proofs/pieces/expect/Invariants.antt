@@ -1,4 +1,4 @@
-use Rattle.std.proofs.Common.{◌≡◌, ◌≤◌, length, drop}
+use Rattle.std.proofs.Common.{◌≤◌, length, drop}
 use Rattle.s3_docs.specs.Machine.{State, due}
 use Rattle.s3_docs.specs.Reads.{Reads}
 use Rattle.s3_docs.proofs.pieces.expect.Given as goal

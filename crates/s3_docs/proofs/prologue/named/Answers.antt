@@ -1,8 +1,7 @@
-use Rattle.std.proofs.Common.{◌≡◌, ◌∙◌, subst, List, ℕ}
+use Rattle.std.proofs.Common.{◌∙◌, subst, List, ℕ}
 use Rattle.std.proofs.lemmas.Result.{err_from_is_err_and, IfErr-weaker}
 use Rattle.s3_docs.specs.declared.prologue.Root.{Root}
 use Rattle.s3_docs.specs.Machine.{Rooted, root_name, due}
-use Rattle.s3_docs.specs.Outcomes.{outcome}
 use Rattle.s3_docs.specs.Reads.{Reads, Stops}
 use Rattle.s3_docs.proofs.prologue.named.Goals as goal
 

@@ -1,6 +1,5 @@
-use Rattle.std.proofs.Common.{◌≡◌, ℕ, ◌+◌, ◌<◌, ◌≤◌, ◌∙◌, sym, length, take, get_or, Bool, true, arith, below_more, refl, subst, List, Result, Err}
+use Rattle.std.proofs.Common.{◌≡◌, ℕ, ◌<◌, ◌≤◌, ◌∙◌, sym, length, get_or, true, arith, below_more, subst, List, Err}
 use Rattle.hex.specs.Hex.{is_hex_digit, decode_sized}
-use Rattle.hex.specs.declared.error.FromHexError.{FromHexError}
 use Rattle.s3_docs.proofs.ValueLemmas.{more_hex, hex_decodes}
 use Rattle.s3_docs.proofs.values.digest.Goals as goal
 

@@ -1,4 +1,4 @@
-use Rattle.std.proofs.Common.{ℕ, List, [], length, ◌≤◌, ◌<◌, take, drop, get_or, ◌≡◌, true}
+use Rattle.std.proofs.Common.{ℕ, [], length, ◌≤◌, ◌<◌, take, drop, get_or, ◌≡◌, true}
 use Rattle.hex.specs.Hex.{is_hex_digit}
 use Rattle.s3_docs.specs.Machine.{Holder, Quotation, Hex, behind_hex}
 use Rattle.s3_docs.specs.Reads.{Reads}

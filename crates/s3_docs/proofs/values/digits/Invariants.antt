@@ -1,4 +1,4 @@
-use Rattle.std.proofs.Common.{ℕ, List, length, ◌≤◌, ◌<◌, ◌⊎◌, ◌≡◌}
+use Rattle.std.proofs.Common.{length, ◌≤◌}
 use Rattle.s3_docs.specs.Machine.{Holder, Digits}
 use Rattle.s3_docs.specs.Reads.{Reads}
 use Rattle.s3_docs.proofs.values.digits.Given as goal

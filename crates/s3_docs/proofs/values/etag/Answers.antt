@@ -1,4 +1,4 @@
-use Rattle.std.proofs.Common.{◌≡◌, ◌∙◌, refl}
+use Rattle.std.proofs.Common.{◌∙◌, refl}
 use Rattle.std.proofs.lemmas.Result.{err_from_is_err_and}
 use Rattle.s3_docs.specs.Machine.{ETag, Ending, Inside, with_md5}
 use Rattle.s3_docs.proofs.values.etag.Goals as goal

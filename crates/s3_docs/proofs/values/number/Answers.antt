@@ -1,4 +1,4 @@
-use Rattle.std.proofs.Common.{◌≡◌, ◌∙◌, sym, refl, ℕ}
+use Rattle.std.proofs.Common.{◌∙◌, refl, ℕ}
 use Rattle.std.proofs.lemmas.Result.{IfErr-weaker}
 use Rattle.s3_docs.specs.Machine.{Holder, Digits, Awaiting, PartNumber}
 use Rattle.s3_docs.specs.Reads.{Stops}

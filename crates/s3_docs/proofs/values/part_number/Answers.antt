@@ -1,4 +1,4 @@
-use Rattle.std.proofs.Common.{◌≡◌, ◌∙◌, refl}
+use Rattle.std.proofs.Common.{◌∙◌, refl}
 use Rattle.std.proofs.lemmas.Result.{err_from_is_err_and}
 use Rattle.s3_docs.specs.Machine.{PartNumber, Ending, Inside, with_number}
 use Rattle.s3_docs.proofs.values.part_number.Goals as goal

@@ -1,9 +1,7 @@
 use Rattle.std.proofs.Common.{◌≡◌, ◌∙◌, sym, refl, ℕ, []}
 use Rattle.std.proofs.lemmas.Result.{IfErr-weaker, IfOk-weaker}
-use Rattle.call_types.specs.declared.version.PartRef.{PartRef}
-use Rattle.s3_docs.specs.Machine.{Holder, Quotation, quote_text, Bare, Hex, Awaiting, Ending, ETag, with_md5}
-use Rattle.s3_docs.specs.Outcomes.{outcome}
-use Rattle.s3_docs.specs.Reads.{Stops, Reads}
+use Rattle.s3_docs.specs.Machine.{Holder, Quotation, quote_text, Bare, Hex, Awaiting, ETag}
+use Rattle.s3_docs.specs.Reads.{Stops}
 use Rattle.s3_docs.proofs.ValueLemmas.{awaiting_hex}
 use Rattle.s3_docs.proofs.values.tag_digest.Goals as goal
 

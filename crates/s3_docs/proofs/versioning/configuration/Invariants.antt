@@ -1,4 +1,4 @@
-use Rattle.std.proofs.Common.{length, ◌≤◌, None}
+use Rattle.std.proofs.Common.{length, None}
 use Rattle.s3_docs.specs.Machine.{Configuration, Inside}
 use Rattle.s3_docs.specs.Reads.{Reads}
 use Rattle.s3_docs.proofs.versioning.configuration.Given as goal
