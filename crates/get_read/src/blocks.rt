@@ -9,7 +9,8 @@ ghost use Rattle.get_read.specs.declared.blocks.Blocks.{Blocks};
 ghost use Rattle.call_types.specs.declared.why.Why.{Why};
 
 use crate::tables::Fetched;
-use call_types::{MOST_DRIVES, Why, Whys};
+use call_types::{Why, Whys};
+use drive_base::MOST_DRIVES;
 use seal_file::Damage;
 use shard_file::block_digests;
 use std::alloc::AllocError;
@@ -45,7 +46,7 @@ pub fn sift(found: &mut Blocks, whys: &mut Whys, size: usize)
     ensures { AreSifted size 0 found.old found.new whys.old whys.new }
 {
     let count = found.rows.len();
-    let mut digests = [[0; 32]; MOST_DRIVES];
+    let mut digests = [[0; 32]; MOST_DRIVES as usize];
     let digests = &mut digests[..count];
     block_digests(found.bytes.as_slice(), size, digests);
     keep_verified(found, whys, size, digests);

@@ -30,7 +30,7 @@ use Rattle.body_print.specs.Names.{shard_name, manifest_name}
 use Rattle.body_print.proofs.ShardLemmas.{shards_are_one, shards_have_their_blocks}
 use Rattle.put_stage.specs.Outcomes.{manifest_of}
 use Rattle.std.specs.List.{AllByRecursion}
-use Rattle.sha2.proofs.Facts256.{length-sha256}
+use Rattle.manifest_file.proofs.RootLemmas.{sha256_is_root}
 use Rattle.file_access.specs.Reading.{FailedWhile}
 use Rattle.get_read.specs.Causes.{Wanted, Fits, Serves, IsManifestDamage, IsTableDamage, IsBlockDamage, IsShardDamage, NoManifest, NoBlock, digest_in}
 use Rattle.get_read.specs.Outcomes.{wanted_of, NoneServes, FewBlocks}
@@ -49,7 +49,7 @@ manifest_made id body coding = manifest_of the_set id (name_of coding.key) (leng
 
 roots_are_roots : (shards : List (List (List ℕ))) → AllByRecursion IsRoot (map root_of shards)
 roots_are_roots [] = tt
-roots_are_roots (shard ∷ shards) = (length-sha256 (table_of shard), roots_are_roots shards)
+roots_are_roots (shard ∷ shards) = (sha256_is_root (table_of shard), roots_are_roots shards)
 
 manifest_canonical : (id : VersionId) (body : List ℕ) (coding : Coding body) → length body ≤ 5368709120 → IsCanonical (manifest_made id body coding)
 manifest_canonical id body coding few =
