@@ -40,10 +40,13 @@ use Rattle.register_core.proofs.SeenLemmas.{element}
 
 -- a count that rose within a call rose over it
 rose_wider : (before after old new : ℕ) → FailedWhile before after old new → Rose old new
-rose_wider before after old new (low, rose, high) = (omega (arith, low, rose.0, high), elim rose.1 [
-  | inl up ↦ inl (omega (arith, low, up, high))
-  | inr top ↦ inr (omega (arith, top, high))
-])
+rose_wider before after old new (low, rose, high) = (
+  omega (arith, low, rose.0, high),
+  elim rose.1 [
+    | inl up ↦ inl (omega (arith, low, up, high))
+    | inr top ↦ inr (omega (arith, top, high))
+  ],
+)
 
 -- the contents of a record that are not too long are those of its file
 contents_fit : (longest : ℕ) (file : RegFile) → IsWithin longest (lane_of file) → ContentsFit longest file
@@ -126,7 +129,7 @@ good_from set (why ∷ whys) from good =
     let one = sum_by-cons (λ k. one_if (is_in set k)) from (range_with_len (from + 1) (length whys)) in
     let other = sum_by-cons (λ w. one_if (is_good w)) why whys in
     let rest = good_from set whys (from + 1) (λ k low bit.
-        let same : from + 1 + k ≡ from + suc k = omega arith in good (suc k) (omega arith) (subst (IsBitSet set) same bit)) in
+    let same : from + 1 + k ≡ from + suc k = omega arith in good (suc k) (omega arith) (subst (IsBitSet set) same bit)) in
     elim (counts (is_in set from)) [
       | inl has ↦
           let same : from ≡ from + 0 = omega arith in
@@ -178,10 +181,10 @@ module _ {D : Type 0} (tells : D → Bool) (files : D → Files) (count : D → 
   served out name bytes term from to letters whys old new serving wrote sized serve =
       subst (λ (n : ℕ). count_in serving n ≤ good_count whys) (wrote.counted ∙ sized)
       (good_letters_count serving whys (λ k low bit.
-          let here : k < length old = omega (arith, wrote.counted) in
-          let e = element old k here in
-          let lane = serve k e here bit in
-          on_lane_good out name bytes term from to letters k (letter_at whys k) (slice_index_or old k e) (slice_index_or new k e) (wrote.each k e here) lane.0 lane.1))
+      let here : k < length old = omega (arith, wrote.counted) in
+      let e = element old k here in
+      let lane = serve k e here bit in
+      on_lane_good out name bytes term from to letters k (letter_at whys k) (slice_index_or old k e) (slice_index_or new k e) (wrote.each k e here) lane.0 lane.1))
 
   -- and no more than the good letters before it
   pub served_before : (out : ℕ) (letters : List Why) (old new : List D) (serving : ℕ) → length letters ≡ length old
