@@ -1,21 +1,14 @@
 -- From what a shard file is to why a drive gave no block.
-use Rattle.std.proofs.Common.{◌≡◌, ◌≢◌, ℕ, ◌≤◌, ◌∙◌, List, Some, length, ap, sym, refl, subst, inr, arith}
+use Rattle.std.proofs.Common.{◌≡◌, ◌≢◌, ℕ, ◌∙◌, List, ap, sym, subst, inr}
 use Rattle.std.proofs.lemmas.Option.{same_Some}
-use Rattle.std.specs.Prelude.{Bool, IsTrue}
+use Rattle.std.specs.Prelude.{Bool}
 use Rattle.sha2.specs.Sha256.{sha256}
-use Rattle.seal_file.specs.declared.damage.Damage.{Damage}
 use Rattle.seal_file.specs.declared.damage.Damage.TheVariants.{Digest}
-use Rattle.call_types.specs.declared.why.FileKind.TheVariants.{Format, Register, Manifest, Shard}
-use Rattle.call_types.specs.declared.why.Why.TheVariants.{Good, Failed, Damaged, Behind, Lacks}
+use Rattle.call_types.specs.declared.why.Why.TheVariants.{Damaged}
 use Rattle.drive_base.specs.Files.{Files}
 use Rattle.manifest_file.specs.declared.manifest.ManifestPart.{ManifestPart}
-use Rattle.body_print.specs.Names.{shard_name}
-use Rattle.get_read.specs.Blocks.{IsFetched, IsNoBlock, ShowsBlock}
-use Rattle.get_read.specs.Causes.{IsShardDamage, IsTableOf, NoBlock}
-use Rattle.file_access.specs.Reading.{IsRefusedBy}
-use Rattle.file_access.specs.declared.cause.NotGiven.{NotGiven}
-use Rattle.file_access.specs.declared.cause.NotGiven.TheVariants.{Because, NoMemory}
-use Rattle.get_read.proofs.Widening.{Widens}
+use Rattle.get_read.specs.Blocks.{IsFetched}
+use Rattle.get_read.specs.Causes.{IsTableOf, NoBlock}
 
 -- a block that was fetched and hasn't its stored digest is damage of its drive's file
 pub fetched_damage : (d : ℕ) (part : ManifestPart) (i : ℕ) (root : List ℕ) (out : Type 0) (tells : Bool) (files : Files) (old new : ℕ) (stored block : List ℕ)

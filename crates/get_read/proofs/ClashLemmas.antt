@@ -1,7 +1,6 @@
 -- What was read is a body's, or there is a clash.
-use Rattle.std.proofs.Common.{◌≡◌, ◌≢◌, ◌⊎◌, ℕ, zero, suc, ◌+◌, ◌*◌, ◌<◌, ◌∙◌, List, [], ◌∷◌, ◌++◌, length, slice_index, slice_index_or, take, drop, map, subst, sym, ap, refl, inl, inr, arith}
+use Rattle.std.proofs.Common.{◌≡◌, ◌⊎◌, ℕ, ◌+◌, ◌*◌, ◌<◌, ◌∙◌, List, [], ◌++◌, length, slice_index, slice_index_or, take, drop, map, subst, sym, ap, refl, inl, inr, arith}
 use Rattle.std.specs.Prelude.{Bool, IsTrue}
-use Rattle.std.proofs.lemmas.Bool.{cases_eq, cases_lt}
 use Rattle.std.proofs.lemmas.List.{drop_at, drop_more, get_or-map, get_or_default, length-take-le, take_at}
 use Rattle.sha2.proofs.Facts256.{length-sha256}
 use Rattle.sha2.specs.Sha256.{sha256}

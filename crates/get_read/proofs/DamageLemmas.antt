@@ -2,8 +2,8 @@
 use Rattle.std.proofs.Common.{◌≡◌, ℕ, ◌+◌, ◌*◌, ◌<◌, ◌≤◌, ◌∙◌, List, length, take, drop, ap, arith}
 use Rattle.seal_file.specs.declared.damage.Damage.TheVariants.{Short, Digest, Kind, Spelling, Long}
 use Rattle.sha2.specs.Sha256.{sha256}
-use Rattle.shard_file.specs.Shards.{block_place, digest_place, file_length, table_place}
-use Rattle.shard_file.specs.Stripes.{block_size, stripe_count, stripe_length}
+use Rattle.shard_file.specs.Shards.{digest_place, table_place}
+use Rattle.shard_file.specs.Stripes.{stripe_count}
 use Rattle.get_read.specs.Causes.{IsBlockDamage, IsTableDamage}
 use Rattle.file_access.specs.Reading.{EndsBefore}
 use Rattle.get_read.specs.Steps.{IsPieceDamage}

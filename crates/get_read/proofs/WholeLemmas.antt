@@ -1,25 +1,22 @@
 -- The parts of a body, one after the other, and the body that has the print.
-use Rattle.std.proofs.Common.{◌≡◌, ◌⊎◌, ℕ, ◌+◌, ◌-◌, ◌<◌, ◌≤◌, ◌∙◌, List, [], ◌∷◌, ◌++◌, length, slice_index_or, take, drop, map, subst, sym, ap, refl, inl, inr, arith}
-use Rattle.std.specs.Prelude.{All, Bool, Err, IfErr, Ok, Result, Some}
-use Rattle.std.specs.List.{AllByRecursion, concat}
+use Rattle.std.proofs.Common.{◌≡◌, ◌⊎◌, ℕ, ◌+◌, ◌-◌, ◌<◌, ◌≤◌, ◌∙◌, List, [], ◌++◌, length, slice_index_or, take, drop, subst, sym, ap, refl, inl, inr, arith}
+use Rattle.std.specs.Prelude.{Bool, Err, IfErr, Ok, Result, Some}
+use Rattle.std.specs.List.{concat}
 use Rattle.std.proofs.Math.Seq.{take-append-add}
-use Rattle.std.proofs.lemmas.List.{drop_more, get_or-map, length-append, length-map, length-take-le, take-append-drop, take-append-le, take_all, take_at}
+use Rattle.std.proofs.lemmas.List.{drop_more, length-append, length-take-le, take-append-drop, take-append-le, take_all, take_at}
 use Rattle.std.proofs.lemmas.Option.{slice_get-get_or}
-use Rattle.std.proofs.lemmas.List.Elements.{All-from_get_or, All-map, All-same, recursion_from_All}
 use Rattle.std.proofs.lemmas.List.Folds.{concat-append}
 use Rattle.std.proofs.lemmas.List.Sums.{sum_by_more}
-use Rattle.sha2.proofs.Facts256.{length-sha256}
 use Rattle.stamp_id.specs.declared.version.VersionId.{VersionId}
 use Rattle.drive_base.specs.Files.{Files}
 use Rattle.drive_base.specs.declared.plan.SetPlan.{SetPlan}
 use Rattle.manifest_file.proofs.PrintText.{texts_are_bytes}
-use Rattle.manifest_file.specs.Canonical.{IsCanonical, IsCanonicalPart, IsRoot}
+use Rattle.manifest_file.specs.Canonical.{IsCanonical}
 use Rattle.manifest_file.specs.Print.{cut_of, text_under}
 use Rattle.manifest_file.specs.declared.manifest.Manifest.{Manifest}
 use Rattle.manifest_file.specs.declared.manifest.ManifestPart.{ManifestPart}
 use Rattle.shard_file.proofs.ShardLemmas.{concat-take_more}
-use Rattle.shard_file.specs.Shards.{root_of, table_of}
-use Rattle.body_print.specs.Prints.{HasPrint, IsCutAs, IsCutOf}
+use Rattle.body_print.specs.Prints.{IsCutAs, IsCutOf}
 use Rattle.get_read.specs.Causes.{Serves, body_length}
 use Rattle.get_read.specs.Keeping.{AreKept}
 use Rattle.get_read.specs.Outcomes.{AreOfSpan, FindsManifest, IsFound, IsRefused, wanted_of}

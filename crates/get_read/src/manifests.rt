@@ -32,7 +32,9 @@ pub struct Wanted {
 }
 
 /// The manifest of an id that has this print and is of the set's numbers, from the first drive that gives it. `ShardQuorum`
-/// comes where no drive does, with the cause for each. No drive is changed, and one that is out isn't called.
+/// comes where no drive does, with the cause for each; a file that is longer than each manifest's is damaged, and isn't read.
+/// `NoMemory` comes at a drive whose count of faults stood, and the later ones aren't called. No drive is changed, and one
+/// that is out isn't called.
 pub fn read_manifest<D: Drive>(
     alloc: Global,
     set: SetPlan,

@@ -11,7 +11,7 @@ use Rattle.std.proofs.lemmas.Nat.{mul-le}
 use Rattle.sha2.proofs.Facts256.{length-sha256}
 use Rattle.sha2.specs.Sha256.{sha256}
 use Rattle.shard_file.specs.Laws.{BodiesHaveShards, DigestsEndTheFile, ShardFilesHaveLength, ShardFilesHoldBlocks, WholeBlocksAdjoin}
-use Rattle.shard_file.specs.Shards.{block_place, digest_place, table_of, table_place, shard_bytes, AreShardBlocks, HoldsBlock}
+use Rattle.shard_file.specs.Shards.{block_place, digest_place, table_of, table_place, shard_bytes, AreShardBlocks}
 use Rattle.shard_file.specs.Stripes.{piece, stripe_size, stripe_count, stripe_length, stripe_lengths, stripes, block_size}
 use Rattle.shard_file.proofs.Pieces.{map_map, map_same}
 use Rattle.shard_file.proofs.StripeLemmas.{stripes_have_lengths}

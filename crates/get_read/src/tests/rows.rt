@@ -13,15 +13,22 @@ const LOST: [[usize; 2]; 6] = [[0, 1], [0, 2], [0, 3], [1, 2], [1, 3], [2, 3]];
 
 #[test]
 fn the_worked_rows_come_back_from_each_two_drives(rt: HostRuntime) -> Result<(), Fail> {
-    let set = plan(4, 2);
     for (body, print) in ROWS {
         for [first, second] in LOST {
             let mut drives = fresh_drives(rt.alloc(), 4)?;
-            let staged = stage_whole(rt.alloc(), set, id(), "k/pic/a", &body, None, &mut drives);
+            let staged = stage_whole(
+                rt.alloc(),
+                plan(4, 2),
+                id(),
+                "k/pic/a",
+                &body,
+                None,
+                &mut drives,
+            );
             assert_eq!(rt; staged.ok().map(|staged| staged.print), Some(print));
             lose(&mut drives, first);
             lose(&mut drives, second);
-            let answer = read_whole(rt.alloc(), set, print, id(), 2, &mut drives);
+            let answer = read_whole(rt.alloc(), plan(4, 2), print, id(), 2, &mut drives);
             assert!(rt; gave(answer, &body));
         }
     }

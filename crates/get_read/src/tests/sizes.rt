@@ -8,8 +8,19 @@ use put_stage::stage_whole;
 use std::alloc::Global;
 use std::test::Fail;
 
-/// The lengths around a stripe and two.
-const LENGTHS: [usize; 6] = [0, 1, 1_048_575, 1_048_576, 1_048_577, 2_097_152];
+/// The drives and the parity of a set, and the length of a body: around a stripe and two on each set, and sixteen.
+const SIZES: [(u8, u8, usize); 10] = [
+    (4, 1, 1_048_577),
+    (4, 2, 0),
+    (4, 2, 1_048_575),
+    (4, 2, 2_097_152),
+    (5, 2, 1),
+    (5, 2, 1_048_577),
+    (8, 4, 1_048_576),
+    (16, 1, 1_048_577),
+    (16, 8, 2_097_152),
+    (16, 4, 16_777_216),
+];
 
 /// Whether a body comes back after the first drives, as many as have parity, were damaged.
 fn comes_back(alloc: Global, drives: u8, parity: u8, long: usize) -> Result<bool, Fail>
@@ -18,65 +29,29 @@ fn comes_back(alloc: Global, drives: u8, parity: u8, long: usize) -> Result<bool
     requires some { 1 ≤ parity }
     requires half { parity + parity ≤ drives }
 {
-    let set = plan(drives, parity);
     let body = some_body(alloc, long)?;
-    let mut drives = fresh_drives(alloc, set.drives)?;
-    let drives = drives.as_mut_slice();
+    let mut made = fresh_drives(alloc, drives)?;
+    let made = made.as_mut_slice();
     if body.len() > 5_368_709_120 {
         return Ok(false);
     }
-    let Ok(staged) = stage_whole(alloc, set, id(), "k/pic/a", &body, None, drives) else {
+    let set = plan(drives, parity);
+    let Ok(staged) = stage_whole(alloc, set, id(), "k/pic/a", &body, None, made) else {
         return Ok(false);
     };
     for at in 0..parity {
-        damage(alloc, drives, at as usize)?;
+        damage(alloc, made, at as usize)?;
     }
-    let answer = read_whole(alloc, set, staged.print, id(), staged.length, drives);
+    let set = plan(drives, parity);
+    let answer = read_whole(alloc, set, staged.print, id(), staged.length, made);
     Ok(gave(answer, &body))
 }
 
 #[test]
-fn from_four_drives(rt: HostRuntime) -> Result<(), Fail> {
-    for parity in 1..3u8 {
-        for long in LENGTHS {
-            assert!(rt; comes_back(rt.alloc(), 4, parity, long)?);
-        }
+fn bodies_come_back(rt: HostRuntime) -> Result<(), Fail> {
+    for (drives, parity, long) in SIZES {
+        assert!(rt; drives >= 4 && drives <= 16 && parity >= 1 && parity <= drives / 2);
+        assert!(rt; comes_back(rt.alloc(), drives, parity, long)?);
     }
-    Ok(())
-}
-
-#[test]
-fn from_five_drives(rt: HostRuntime) -> Result<(), Fail> {
-    for parity in 1..3u8 {
-        for long in LENGTHS {
-            assert!(rt; comes_back(rt.alloc(), 5, parity, long)?);
-        }
-    }
-    Ok(())
-}
-
-#[test]
-fn from_eight_drives(rt: HostRuntime) -> Result<(), Fail> {
-    for parity in 1..5u8 {
-        for long in LENGTHS {
-            assert!(rt; comes_back(rt.alloc(), 8, parity, long)?);
-        }
-    }
-    Ok(())
-}
-
-#[test]
-fn from_sixteen_drives(rt: HostRuntime) -> Result<(), Fail> {
-    for parity in 1..9u8 {
-        for long in LENGTHS {
-            assert!(rt; comes_back(rt.alloc(), 16, parity, long)?);
-        }
-    }
-    Ok(())
-}
-
-#[test]
-fn sixteen_mebibytes_come_back(rt: HostRuntime) -> Result<(), Fail> {
-    assert!(rt; comes_back(rt.alloc(), 16, 4, 16_777_216)?);
     Ok(())
 }

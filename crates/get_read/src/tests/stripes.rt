@@ -61,13 +61,12 @@ fn answer_after(
     damages: &[(usize, Block)],
     causes: &mut Whys,
 ) -> Result<Result<Vec<u8>, ReadFaultKind>, Fail> {
-    let set = plan(4, 2);
     if body.len() > 5_368_709_120 {
         return Err("too long".into());
     }
     let mut drives = fresh_drives(alloc, 4)?;
     let drives = drives.as_mut_slice();
-    let Ok(staged) = stage_whole(alloc, set, id(), "k/pic/a", body, None, drives) else {
+    let Ok(staged) = stage_whole(alloc, plan(4, 2), id(), "k/pic/a", body, None, drives) else {
         return Err("not staged".into());
     };
     for (at, block) in damages {
@@ -78,7 +77,7 @@ fn answer_after(
             causes.set(*at, Why::Damaged(Damage::Digest { stored, computed }));
         }
     }
-    Ok(read_whole(alloc, set, staged.print, id(), long, drives))
+    Ok(read_whole(alloc, plan(4, 2), staged.print, id(), long, drives))
 }
 
 #[test]
