@@ -1,13 +1,7 @@
 //! The program's `run` over streams and drives in memory: what it gives, and how it ends.
 
-mod counted;
-mod failing;
-mod faults;
-mod heads;
-mod limits;
-mod lying;
+mod drives;
 mod objects;
-mod picky;
 mod prints;
 mod versions;
 
