@@ -92,13 +92,13 @@ lanes_seen tells files count out most name found whys old new injective by_place
     let counted : length found ≡ length lanes = read.counted ∙ sym are.counted in
     let each : (k : ℕ) (file : RegFile) → k < length lanes → found_at found k ≡ Some file → lane_at lanes k ≡ lane_of file =
     (λ k file low is.
-        let here : k < length old = omega (arith, are.counted) in
-        let d = element old k here in
-        lane_seen most name file (letter_at whys k) (IsBitSet out k) (tells (slice_index_or old k d)) (files (slice_index_or old k d))
-        (count (slice_index_or old k d)) (count (slice_index_or new k d)) (lane_at lanes k) injective
-        (subst (λ (r : Option RegFile). LaneIsRead most name r (letter_at whys k) (IsBitSet out k) (tells (slice_index_or old k d)) (files (slice_index_or old k d))
-        (count (slice_index_or old k d)) (count (slice_index_or new k d))) is (read.each k d here))
-        (told k d here) (honest k d here) (are.each k d here)) in
+    let here : k < length old = omega (arith, are.counted) in
+    let d = element old k here in
+    lane_seen most name file (letter_at whys k) (IsBitSet out k) (tells (slice_index_or old k d)) (files (slice_index_or old k d))
+    (count (slice_index_or old k d)) (count (slice_index_or new k d)) (lane_at lanes k) injective
+    (subst (λ (r : Option RegFile). LaneIsRead most name r (letter_at whys k) (IsBitSet out k) (tells (slice_index_or old k d)) (files (slice_index_or old k d))
+    (count (slice_index_or old k d)) (count (slice_index_or new k d))) is (read.each k d here))
+    (told k d here) (honest k d here) (are.each k d here)) in
     record { counted = counted; each = each; rows = rows_show found lanes by_places counted each }
 
 -- a letter is good exactly where the row is
@@ -125,11 +125,11 @@ on_by_places (why ∷ whys) (read ∷ found) same at =
 pub letters_on : {D : Type 0} (tells : D → Bool) (files : D → Files) (count : D → ℕ) (out most : ℕ) (name : List ℕ) (found : List (Option RegFile)) (whys : List Why)
     (old new : List D) → length found ≡ length old → length whys ≡ length old
     → ((k : ℕ) (d : D) → k < length old → LaneIsRead most name (found_at found k) (letter_at whys k) (IsBitSet out k)
-        (tells (slice_index_or old k d)) (files (slice_index_or old k d)) (count (slice_index_or old k d)) (count (slice_index_or new k d)))
+    (tells (slice_index_or old k d)) (files (slice_index_or old k d)) (count (slice_index_or old k d)) (count (slice_index_or new k d)))
     → map is_good whys ≡ map is_good_row (map row_of found)
 letters_on tells files count out most name found whys old new counted lettered each =
     on_by_places whys found (lettered ∙ sym counted) (λ k low.
-        let here : k < length old = omega arith in
-        let d = element old k here in
-        letter_on most name (found_at found k) (letter_at whys k) (IsBitSet out k) (tells (slice_index_or old k d)) (files (slice_index_or old k d))
-        (count (slice_index_or old k d)) (count (slice_index_or new k d)) (each k d here))
+    let here : k < length old = omega arith in
+    let d = element old k here in
+    letter_on most name (found_at found k) (letter_at whys k) (IsBitSet out k) (tells (slice_index_or old k d)) (files (slice_index_or old k d))
+    (count (slice_index_or old k d)) (count (slice_index_or new k d)) (each k d here))

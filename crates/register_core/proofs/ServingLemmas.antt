@@ -6,7 +6,6 @@ use Rattle.std.specs.List.{range_with_len}
 use Rattle.std.specs.Option.{option_map}
 use Rattle.std.proofs.lemmas.List.Sums.{sum_by-cons}
 use Rattle.fault_base.specs.Counts.{Rose}
-use Rattle.seal_file.specs.Sealing.{IsDamage, sealed}
 use Rattle.seal_file.specs.declared.damage.Damage.{Damage}
 use Rattle.seal_file.specs.declared.damage.Damage.TheVariants.{Short, Digest, Kind, Spelling, Long}
 use Rattle.seal_file.proofs.SealedLemmas.{no_damage, sealed-injective}
@@ -25,13 +24,12 @@ use Rattle.register_file.specs.Layout.{register}
 use Rattle.register_file.specs.Lengths.{ContentsFit, FilesAreNoLonger, longest_file}
 use Rattle.register_file.specs.Record.{IsCanonical}
 use Rattle.register_file.specs.Spelling.{file_of, register_kind, spelling}
-use Rattle.register_file.specs.Table.{HasFault, register_table}
-use Rattle.register_file.specs.declared.record.Base.{Base}
+use Rattle.register_file.specs.Table.{register_table}
 use Rattle.register_file.specs.declared.record.Next.{Next}
 use Rattle.register_file.specs.declared.record.RegFile.{RegFile}
-use Rattle.vote_core.specs.Lane.{Lane, HasNext, blank_lane, Base as LaneBase, Next as LaneNext}
+use Rattle.vote_core.specs.Lane.{Lane, blank_lane, Next as LaneNext}
 use Rattle.register_core.specs.Looking.{LaneIsRead}
-use Rattle.register_core.specs.Loops.{IsTarget, OnLane, WritesEach, letter_at}
+use Rattle.register_core.specs.Loops.{OnLane, WritesEach, letter_at}
 use Rattle.register_core.specs.Records.{HasLane, IsRegisterDamage, StandsFor, lane_of, next_of}
 use Rattle.register_core.specs.Serving.{AllServe, IsWithin, Serves}
 use Rattle.stamp_id.specs.declared.stamp.Ballot.{Ballot}
@@ -40,10 +38,13 @@ use Rattle.register_core.proofs.SeenLemmas.{element}
 
 -- a count that rose within a call rose over it
 rose_wider : (before after old new : ℕ) → FailedWhile before after old new → Rose old new
-rose_wider before after old new (low, rose, high) = (omega (arith, low, rose.0, high), elim rose.1 [
-  | inl up ↦ inl (omega (arith, low, up, high))
-  | inr top ↦ inr (omega (arith, top, high))
-])
+rose_wider before after old new (low, rose, high) = (
+  omega (arith, low, rose.0, high),
+  elim rose.1 [
+    | inl up ↦ inl (omega (arith, low, up, high))
+    | inr top ↦ inr (omega (arith, top, high))
+  ],
+)
 
 -- the contents of a record that are not too long are those of its file
 contents_fit : (longest : ℕ) (file : RegFile) → IsWithin longest (lane_of file) → ContentsFit longest file
@@ -126,7 +127,7 @@ good_from set (why ∷ whys) from good =
     let one = sum_by-cons (λ k. one_if (is_in set k)) from (range_with_len (from + 1) (length whys)) in
     let other = sum_by-cons (λ w. one_if (is_good w)) why whys in
     let rest = good_from set whys (from + 1) (λ k low bit.
-        let same : from + 1 + k ≡ from + suc k = omega arith in good (suc k) (omega arith) (subst (IsBitSet set) same bit)) in
+    let same : from + 1 + k ≡ from + suc k = omega arith in good (suc k) (omega arith) (subst (IsBitSet set) same bit)) in
     elim (counts (is_in set from)) [
       | inl has ↦
           let same : from ≡ from + 0 = omega arith in
@@ -178,10 +179,10 @@ module _ {D : Type 0} (tells : D → Bool) (files : D → Files) (count : D → 
   served out name bytes term from to letters whys old new serving wrote sized serve =
       subst (λ (n : ℕ). count_in serving n ≤ good_count whys) (wrote.counted ∙ sized)
       (good_letters_count serving whys (λ k low bit.
-          let here : k < length old = omega (arith, wrote.counted) in
-          let e = element old k here in
-          let lane = serve k e here bit in
-          on_lane_good out name bytes term from to letters k (letter_at whys k) (slice_index_or old k e) (slice_index_or new k e) (wrote.each k e here) lane.0 lane.1))
+      let here : k < length old = omega (arith, wrote.counted) in
+      let e = element old k here in
+      let lane = serve k e here bit in
+      on_lane_good out name bytes term from to letters k (letter_at whys k) (slice_index_or old k e) (slice_index_or new k e) (wrote.each k e here) lane.0 lane.1))
 
   -- and no more than the good letters before it
   pub served_before : (out : ℕ) (letters : List Why) (old new : List D) (serving : ℕ) → length letters ≡ length old

@@ -3,9 +3,9 @@
 ghost use Rattle.std.specs.Prelude.{◌≡◌, IfOk};
 ghost use Rattle.register_core.specs.Records.{marked_base};
 
+use fault_base::NoMemory;
 use register_file::{Base, Next};
 use seal_file::Bytes;
-use fault_base::NoMemory;
 use std::alloc::Global;
 
 /// A copy of a base.

@@ -9,8 +9,8 @@ use crate::drafts::Draft;
 use crate::looked::Looked;
 use call_types::Whys;
 use drive_base::{DriveSet, SetPlan};
-use register_file::{Base, Next, RegFile, write};
 use fault_base::NoMemory;
+use register_file::{Base, Next, RegFile, write};
 use std::alloc::Global;
 
 /// Takes the memory of both files of a change over the base of a look.

@@ -110,7 +110,14 @@ pub fn mark<D: Drive>(
         bytes: draft.last.as_slice(),
         term,
     };
-    let whys = write_each(lanes, prepared.out, DriveSet::none(), prepared.whys, &writing, count);
+    let whys = write_each(
+        lanes,
+        prepared.out,
+        DriveSet::none(),
+        prepared.whys,
+        &writing,
+        count,
+    );
     if whys.good() < draft.set.write_quorum() {
         return Err(QuorumFault::WriteQuorum(whys));
     }

@@ -114,7 +114,13 @@ impl World {
         let name = name_of_manifest(self.alloc, id)?;
         assert!(rt; name.len() <= 1129);
         for disk in self.disks.iter_mut() {
-            let _ = write_file(disk, FileKind::Manifest, "t", name.as_str(), file.as_slice());
+            let _ = write_file(
+                disk,
+                FileKind::Manifest,
+                "t",
+                name.as_str(),
+                file.as_slice(),
+            );
         }
         Ok(Adds {
             id,

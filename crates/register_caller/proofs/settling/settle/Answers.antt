@@ -142,4 +142,3 @@ returns g c = record {
         settled = refused_settled Whys {E = QuorumFault} w last change content c.in-Err-write_both.fault recorded again.after looked found c.args.ballot holds finds moves;
       };
 }
-

@@ -12,10 +12,13 @@ overflow_sub-result c = omega (arith, length-file_of c.args.manifest.now, c.requ
 pub returns-then-not-names_set : goal.returns-then-not-names_set
 returns-then-not-names_set c =
     let other = subst (λ (names : Bool). TellsOf c.args.set.now c.args.manifest.now names) c.if-not-names_set.true c.names_set.ensures in
-    inr (subst (λ (n : ℕ). n ≤ LONGEST_FILE) c.requires.long c.requires.within, inr (inr (inr (
-      c.args.manifest.now,
-      c.requires.canonical,
-      refl,
-      other,
-      ap Spelling (omega (arith, length-file_of c.args.manifest.now, c.requires.long)),
-    ))))
+    inr (
+      subst (λ (n : ℕ). n ≤ LONGEST_FILE) c.requires.long c.requires.within,
+      inr (inr (inr (
+        c.args.manifest.now,
+        c.requires.canonical,
+        refl,
+        other,
+        ap Spelling (omega (arith, length-file_of c.args.manifest.now, c.requires.long)),
+      ))),
+    )
