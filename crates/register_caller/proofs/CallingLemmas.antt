@@ -1,8 +1,6 @@
 -- What a caller of the register concludes: lanes that a look left, and the premises of a forward.
-use Rattle.std.proofs.Common.{◌≡◌, ◌<◌, ◌≤◌, ◌+◌, ◌∙◌, ℕ, List, Option, Some, None, length, map, string_bytes, ap, subst, sym, refl, inl, inr, arith}
+use Rattle.std.proofs.Common.{◌≡◌, ◌<◌, ◌∙◌, ℕ, List, Option, Some, None, length, map, ap, subst, sym, refl, inl, inr, arith}
 use Rattle.std.specs.Prelude.{Bool, IsTrue, Contains, slice_index_or}
-use Rattle.std.specs.Int.{IsBitSet}
-use Rattle.std.specs.Option.{option_map}
 use Rattle.std.proofs.lemmas.List.Elements.{Contains-get_or}
 use Rattle.call_types.specs.Good.{is_good}
 use Rattle.call_types.specs.declared.why.Why.{Why}
@@ -14,18 +12,16 @@ use Rattle.register_file.specs.declared.record.Next.{Next}
 use Rattle.stamp_id.specs.Rank.{rank_of, change_of}
 use Rattle.stamp_id.specs.declared.stamp.Ballot.{Ballot}
 use Rattle.vote_core.specs.Row.{is_good as is_good_row}
-use Rattle.vote_core.specs.Lane.{Lane, HasNext, HasRecord, blank_lane, lane_at, Base as LaneBase, Next as LaneNext}
+use Rattle.vote_core.specs.Lane.{Lane, HasNext, blank_lane, lane_at, Next as LaneNext}
 use Rattle.vote_core.specs.Laws.{AboveLastIsFresh, DrawingKeeps}
-use Rattle.vote_core.specs.Loops.{IsAgain}
-use Rattle.vote_core.specs.Shown.{FindsPending}
 use Rattle.vote_core.specs.Sound.{HoldsValue}
-use Rattle.register_caller.specs.Calling.{IsLateStep, IsSettled, IsValueIfOk, StaysOrSteps, WroteBoth}
-use Rattle.register_core.specs.Keeping.{MarkMoves, MayPropose, MayProposeAgain}
+use Rattle.register_caller.specs.Calling.{IsSettled, IsValueIfOk, StaysOrSteps, WroteBoth}
+use Rattle.register_core.specs.Keeping.{MarkMoves, MayPropose}
 use Rattle.register_core.specs.Loose.{loose_name}
 use Rattle.register_core.specs.OnLanes.{AllTell, AreLanes, AreUnused}
 use Rattle.register_core.specs.Proposing.{quorum_of}
 use Rattle.register_core.specs.Records.{HasLane, again_of, base_of, marked_base, next_of}
-use Rattle.register_core.specs.Seen.{FindsValueOr, LookFinds}
+use Rattle.register_core.specs.Seen.{FindsValueOr}
 use Rattle.register_core.specs.declared.drafts.Draft.{Draft}
 use Rattle.register_core.specs.declared.looked.Looked.{Looked}
 use Rattle.std.specs.Prelude.{Result, Ok, Err}

@@ -1,5 +1,5 @@
 -- What a caller of the register concludes from its contracts.
-use Rattle.std.specs.Prelude.{◌≡◌, ◌⊎◌, ◌<◌, ℕ, Bool, List, Contains, Result, Ok, Err, string_bytes}
+use Rattle.std.specs.Prelude.{◌≡◌, ◌⊎◌, ℕ, Bool, List, Contains, Result, Ok, Err, string_bytes}
 use Rattle.drive_base.specs.Files.{Files}
 use Rattle.register_file.specs.declared.record.Base.{Base}
 use Rattle.register_file.specs.declared.record.Next.{Next}

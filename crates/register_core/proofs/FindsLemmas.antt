@@ -11,14 +11,13 @@ use Rattle.register_file.specs.declared.record.Next.{Next}
 use Rattle.vote_core.specs.Calm.{IsCalm}
 use Rattle.vote_core.specs.Lane.{Lane, HasNext, blank_lane, lane_at, Base as LaneBase, Next as LaneNext}
 use Rattle.vote_core.specs.Laws.{CalmSettles, PendingIsFound, SettledIsTheValue, ShownByPlaces}
-use Rattle.vote_core.specs.Loops.{Stands}
 use Rattle.vote_core.specs.Shown.{FindsPending, Overlap, ShowLanes}
 use Rattle.vote_core.specs.Sound.{HoldsValue}
 use Rattle.vote_core.specs.Verdict.{VerdictRule}
 use Rattle.vote_core.specs.declared.row.Row.{Row}
 use Rattle.vote_core.specs.declared.verdict.Verdict.TheVariants.{Settled, Pending}
 use Rattle.register_core.specs.Found.{Concludes, FindsBase, FindsNext, content_of, found_at}
-use Rattle.register_core.specs.Seen.{AreSeen, FindsValueOr, IsOnItsWay, KeepsContent, LookFinds, LookedSeen, RefusedSeen, UndecidedSeen}
+use Rattle.register_core.specs.Seen.{AreSeen, FindsValueOr, IsOnItsWay, LookedSeen, RefusedSeen, UndecidedSeen}
 use Rattle.register_core.specs.Records.{base_of, next_of, row_of, settled_file}
 use Rattle.register_core.specs.declared.looked.Looked.{Looked}
 use Rattle.register_core.proofs.FoundLemmas.{found_below}

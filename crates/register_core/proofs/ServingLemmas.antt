@@ -6,7 +6,6 @@ use Rattle.std.specs.List.{range_with_len}
 use Rattle.std.specs.Option.{option_map}
 use Rattle.std.proofs.lemmas.List.Sums.{sum_by-cons}
 use Rattle.fault_base.specs.Counts.{Rose}
-use Rattle.seal_file.specs.Sealing.{IsDamage, sealed}
 use Rattle.seal_file.specs.declared.damage.Damage.{Damage}
 use Rattle.seal_file.specs.declared.damage.Damage.TheVariants.{Short, Digest, Kind, Spelling, Long}
 use Rattle.seal_file.proofs.SealedLemmas.{no_damage, sealed-injective}
@@ -25,13 +24,12 @@ use Rattle.register_file.specs.Layout.{register}
 use Rattle.register_file.specs.Lengths.{ContentsFit, FilesAreNoLonger, longest_file}
 use Rattle.register_file.specs.Record.{IsCanonical}
 use Rattle.register_file.specs.Spelling.{file_of, register_kind, spelling}
-use Rattle.register_file.specs.Table.{HasFault, register_table}
-use Rattle.register_file.specs.declared.record.Base.{Base}
+use Rattle.register_file.specs.Table.{register_table}
 use Rattle.register_file.specs.declared.record.Next.{Next}
 use Rattle.register_file.specs.declared.record.RegFile.{RegFile}
-use Rattle.vote_core.specs.Lane.{Lane, HasNext, blank_lane, Base as LaneBase, Next as LaneNext}
+use Rattle.vote_core.specs.Lane.{Lane, blank_lane, Next as LaneNext}
 use Rattle.register_core.specs.Looking.{LaneIsRead}
-use Rattle.register_core.specs.Loops.{IsTarget, OnLane, WritesEach, letter_at}
+use Rattle.register_core.specs.Loops.{OnLane, WritesEach, letter_at}
 use Rattle.register_core.specs.Records.{HasLane, IsRegisterDamage, StandsFor, lane_of, next_of}
 use Rattle.register_core.specs.Serving.{AllServe, IsWithin, Serves}
 use Rattle.stamp_id.specs.declared.stamp.Ballot.{Ballot}

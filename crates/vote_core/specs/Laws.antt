@@ -2,8 +2,6 @@
 use Rattle.std.specs.Prelude.{◌≡◌, ◌≢◌, ◌⊎◌, ℕ, ◌+◌, ◌<◌, ◌≤◌, Bool, false, IsTrue, List, [], slice_index_or, length, map, replicate, count_by, Contains}
 use Rattle.std.specs.Int.{IsBitSet}
 use Rattle.drive_base.specs.DriveSet.{count_in}
-use Rattle.stamp_id.specs.declared.stamp.Ballot.{Ballot}
-use Rattle.stamp_id.specs.Rank.{rank_of}
 use Rattle.vote_core.specs.Row.{is_good}
 use Rattle.vote_core.specs.Lane.{Base, Next, Lane, HasNext, HasRecord, lane_at, blank_lane, has_base_of}
 use Rattle.vote_core.specs.Sound.{LanesAreDrawn, IsLive, HoldsValue}

@@ -1,6 +1,4 @@
 use Rattle.std.proofs.Common.{◌≡◌, ℕ, List, string_bytes, ap, inl, refl, subst, sym, arith}
-use Rattle.std.specs.Prelude.{Bool}
-use Rattle.vote_core.specs.Lane.{Lane}
 use Rattle.register_core.specs.OnLanes.{AllTell, AreLanes, AreUnused}
 use Rattle.register_core.specs.Records.{base_of}
 use Rattle.register_core.specs.declared.drafts.Draft.{Draft}
