@@ -79,22 +79,16 @@ module _ {D : Type 0} (tell : D → Bool) (files : D → Files) (count : D → �
       → Clash tells_of files_of n p body print (views_of tell files drives)
   clash_seen n p body print drives clash = record {
     read = clash.read;
-    other = clash.other;
-    differ = clash.differ;
-    same = clash.same;
     was_read = read_seen drives clash.read clash.was_read;
-    is_hashed = clash.is_hashed;
+    clash = clash.clash;
   }
 
   clash_before : (n p : ℕ) (body print : List ℕ) (old mid : List D) → length mid ≡ length old → AtEach (λ a b. tell b ≡ tell a) old mid → FilesStay tell files count old mid
       → Clash tells_of files_of n p body print (views_of tell files mid) → Clash tells_of files_of n p body print (views_of tell files old)
   clash_before n p body print old mid same tells stays clash = record {
     read = clash.read;
-    other = clash.other;
-    differ = clash.differ;
-    same = clash.same;
     was_read = read_before old mid clash.read same tells stays clash.was_read;
-    is_hashed = clash.is_hashed;
+    clash = clash.clash;
   }
 
   -- bytes that were read after a look that changed nothing

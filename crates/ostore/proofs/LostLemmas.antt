@@ -1,8 +1,8 @@
 -- Why the data of a version wasn't read: a drive that keeps it failed.
-use Rattle.std.proofs.Common.{◌≡◌, ◌≢◌, inl, inr, ℕ, zero, suc, ◌<◌, ◌≤◌, Bool, false, IsTrue, List, [], ◌∷◌, length, map, slice_index_or, Some, None, refl, sym, ap, ◌∙◌, subst, arith}
+use Rattle.std.proofs.Common.{◌≡◌, ◌≢◌, inl, inr, ℕ, zero, suc, ◌<◌, ◌≤◌, Bool, false, IsTrue, List, [], ◌∷◌, length, map, take, drop, ◌*◌, slice_index_or, Some, None, refl, sym, ap, ◌∙◌, subst, arith}
 use Rattle.std.specs.Prelude.{slice_get}
 use Rattle.std.specs.Int.{IsBitSet}
-use Rattle.std.proofs.lemmas.List.{get_or-map, length-map}
+use Rattle.std.proofs.lemmas.List.{get_or-map, length-map, take_all}
 use Rattle.field_reader.specs.Format.{fault_at, place_of}
 use Rattle.seal_file.specs.Sealing.{sealed}
 use Rattle.seal_file.specs.declared.damage.Damage.{Damage}
@@ -23,16 +23,18 @@ use Rattle.manifest_file.specs.Spelling.{manifest_kind, spelling, file_of}
 use Rattle.manifest_file.specs.declared.manifest.Manifest.{Manifest}
 use Rattle.manifest_file.specs.declared.manifest.ManifestPart.{ManifestPart}
 use Rattle.manifest_file.proofs.LawProofs.{files_injective, spelling_found}
-use Rattle.shard_file.proofs.ShardLemmas.{length-shard}
+use Rattle.shard_file.proofs.ShardLemmas.{digests_end_the_file, length-shard, length-table_of, shard_files_have_length, shard_files_hold_blocks}
 use Rattle.shard_file.specs.Stripes.{stripe_count}
-use Rattle.shard_file.specs.Shards.{AreShardBlocks, root_of, shard_bytes, table_of}
+use Rattle.shard_file.specs.Shards.{AreShardBlocks, digest_place, root_of, shard_bytes, table_of, table_place}
 use Rattle.body_print.specs.Names.{shard_name, manifest_name}
 use Rattle.body_print.proofs.ShardLemmas.{shards_are_one, shards_have_their_blocks}
 use Rattle.put_stage.specs.Outcomes.{manifest_of}
 use Rattle.std.specs.List.{AllByRecursion}
 use Rattle.manifest_file.proofs.RootLemmas.{sha256_is_root}
-use Rattle.file_access.specs.Reading.{FailedWhile}
-use Rattle.get_read.specs.Causes.{Wanted, Fits, Serves, IsManifestDamage, IsTableDamage, IsBlockDamage, IsShardDamage, NoManifest, NoBlock, digest_in}
+use Rattle.manifest_file.proofs.Sizes.{no_longer}
+use Rattle.manifest_file.specs.declared.manifest.TheConstants.{LONGEST_FILE}
+use Rattle.file_access.specs.Reading.{FailedWhile, IsTooLong}
+use Rattle.get_read.specs.Causes.{Wanted, Fits, Serves, IsManifestDamage, IsUnserved, IsTableDamage, IsBlockDamage, IsShardDamage, NoManifest, NoBlock, digest_in}
 use Rattle.get_read.specs.Outcomes.{wanted_of, NoneServes, FewBlocks}
 use Rattle.get_read.proofs.ClashLemmas.{digest_of_block}
 use Rattle.ostore.specs.Finding.{DataCause}
@@ -66,16 +68,29 @@ no_fault m body place canonical is fault =
     let some : None ≡ Some place = sym none ∙ ap (fault_at manifest) same ∙ fault in
     cc
 
--- the file of a manifest that serves isn't damaged
-serves_undamaged : (wanted : Wanted) (m : Manifest) (damage : Damage) → IsCanonical m → Serves wanted m → IsManifestDamage wanted (file_of m) damage → ⊥
-serves_undamaged wanted m damage canonical serves (inl is) = no_damage manifest_kind (spelling m) damage refl is
-serves_undamaged wanted m damage canonical serves (inr (inl (body, place, is, fault, told))) = no_fault m body place canonical is fault
-serves_undamaged wanted m damage canonical serves (inr (inr (inl (other, good, is, differs, told)))) =
+-- a file that is as long as a lawful one isn't too long
+not_too_long : (most : ℕ) (file : List ℕ) (damage : Damage) → length file ≤ most → IsTooLong most file damage → ⊥
+not_too_long most file (Short n) fits is = is
+not_too_long most file (Digest stored computed) fits is = is
+not_too_long most file (Kind kind) fits is = is
+not_too_long most file (Spelling place) fits is = is
+not_too_long most file (Long n) fits is = let more = is.0 in let same = is.1 in omega (arith, more, same, fits)
+
+serves_unserved : (wanted : Wanted) (m : Manifest) (damage : Damage) → IsCanonical m → Serves wanted m → IsUnserved wanted (file_of m) damage → ⊥
+serves_unserved wanted m damage canonical serves (inl is) = no_damage manifest_kind (spelling m) damage refl is
+serves_unserved wanted m damage canonical serves (inr (inl (body, place, is, fault, told))) = no_fault m body place canonical is fault
+serves_unserved wanted m damage canonical serves (inr (inr (inl (other, good, is, differs, told)))) =
     let same : m ≡ other = files_injective m other canonical good is in
     differs (subst (λ (x : Manifest). wanted.print ≡ sha256 (text_under x)) same serves.print)
-serves_undamaged wanted m damage canonical serves (inr (inr (inr (other, good, is, unfit, told)))) =
+serves_unserved wanted m damage canonical serves (inr (inr (inr (other, good, is, unfit, told)))) =
     let same : m ≡ other = files_injective m other canonical good is in
     unfit (subst (Fits wanted) same serves.fits)
+
+-- the file of a manifest that serves a set of at most 16 drives isn't damaged
+serves_undamaged : (wanted : Wanted) (m : Manifest) (damage : Damage) → wanted.drives ≤ 16 → IsCanonical m → Serves wanted m → IsManifestDamage wanted (file_of m) damage → ⊥
+serves_undamaged wanted m damage few canonical serves (inl is) =
+    not_too_long LONGEST_FILE (file_of m) damage (no_longer m canonical (subst (λ (n : ℕ). n ≤ 16) (sym serves.fits.drives) few)) is
+serves_undamaged wanted m damage few canonical serves (inr (fits, is)) = serves_unserved wanted m damage canonical serves is
 
 -- a count that rose in between rose
 rose_while : (before after old new : ℕ) → FailedWhile before after old new → Rose old new
@@ -84,48 +99,63 @@ rose_while before after old new (first, (low, inr high), last) = (omega arith, i
 
 -- a drive that shows a manifest that serves gave none: its count rose
 no_manifest_rose : (wanted : Wanted) (id : VersionId) (why : Why) (out : Type 0) (tells : Bool) (files : Files) (old new : ℕ) (m : Manifest)
-    → (out → ⊥) → IsTrue tells → IsCanonical m → Serves wanted m → files.shown (manifest_name id) ≡ Some (file_of m)
+    → (out → ⊥) → wanted.drives ≤ 16 → IsTrue tells → IsCanonical m → Serves wanted m → files.shown (manifest_name id) ≡ Some (file_of m)
     → NoManifest wanted id why out tells files old new → Rose old new
-no_manifest_rose wanted id Good out tells files old new m in_use told canonical serves there cause = absurd cause
-no_manifest_rose wanted id (Failed before after) out tells files old new m in_use told canonical serves there cause = rose_while before after old new cause.1
-no_manifest_rose wanted id (Damaged damage) out tells files old new m in_use told canonical serves there cause =
+no_manifest_rose wanted id Good out tells files old new m in_use few told canonical serves there cause = absurd cause
+no_manifest_rose wanted id (Failed before after) out tells files old new m in_use few told canonical serves there cause = rose_while before after old new cause.1
+no_manifest_rose wanted id (Damaged damage) out tells files old new m in_use few told canonical serves there cause =
     let (file, shown, is) = cause.1 told in
     let same : file ≡ file_of m = (let e : Some file ≡ Some (file_of m) = sym shown ∙ there in cc) in
-    absurd (serves_undamaged wanted m damage canonical serves (subst (λ f. IsManifestDamage wanted f damage) same is))
-no_manifest_rose wanted id (Behind behind) out tells files old new m in_use told canonical serves there cause = absurd cause
-no_manifest_rose wanted id (Lacks Format) out tells files old new m in_use told canonical serves there cause = absurd (in_use cause)
-no_manifest_rose wanted id (Lacks ManifestKind) out tells files old new m in_use told canonical serves there cause =
+    absurd (serves_undamaged wanted m damage few canonical serves (subst (λ f. IsManifestDamage wanted f damage) same is))
+no_manifest_rose wanted id (Behind behind) out tells files old new m in_use few told canonical serves there cause = absurd cause
+no_manifest_rose wanted id (Lacks Format) out tells files old new m in_use few told canonical serves there cause = absurd (in_use cause)
+no_manifest_rose wanted id (Lacks ManifestKind) out tells files old new m in_use few told canonical serves there cause =
     absurd (let e : None ≡ Some (file_of m) = sym (cause.1 told) ∙ there in cc)
-no_manifest_rose wanted id (Lacks Shard) out tells files old new m in_use told canonical serves there cause = absurd cause
-no_manifest_rose wanted id (Lacks Register) out tells files old new m in_use told canonical serves there cause = absurd cause
+no_manifest_rose wanted id (Lacks Shard) out tells files old new m in_use few told canonical serves there cause = absurd cause
+no_manifest_rose wanted id (Lacks Register) out tells files old new m in_use few told canonical serves there cause = absurd cause
 
 -- ---- the shards
 
--- where a table is read, the shard file of these blocks has theirs
-table_undamaged : (n : ℕ) (blocks : List (List ℕ)) (damage : Damage) → AreShardBlocks 2 n blocks → IsTableDamage 2 n (root_of blocks) (shard_bytes blocks) damage → ⊥
-table_undamaged n blocks (Short long) are is = let low = is.0 blocks are in omega arith
-table_undamaged n blocks (Digest stored computed) are (stored_is, differs, (at, long, all, place, hashed)) =
-    differs (sym (hashed ∙ ap sha256 (place blocks are)))
-table_undamaged n blocks (Kind kind) are is = is
-table_undamaged n blocks (Spelling place) are is = is
-table_undamaged n blocks (Long size) are is = is
+-- the table of these blocks stands in their shard file where a table does
+table_there : (n : ℕ) (blocks : List (List ℕ)) → AreShardBlocks 2 n blocks → 0 < stripe_count n
+    → take (32 * stripe_count n) (drop (table_place 2 n) (shard_bytes blocks)) ≡ table_of blocks
+table_there n blocks are some =
+    let at : digest_place 2 n 0 ≡ table_place 2 n = omega arith in
+    let ends : drop (table_place 2 n) (shard_bytes blocks) ≡ table_of blocks =
+    subst (λ (m : ℕ). drop m (shard_bytes blocks) ≡ table_of blocks) at (digests_end_the_file 2 n 0 blocks are some) in
+    ap (take (32 * stripe_count n)) ends ∙ take_all (32 * stripe_count n) (table_of blocks) (omega (arith, length-table_of blocks, length-shard 2 n blocks are))
+
+table_undamaged : (n : ℕ) (blocks : List (List ℕ)) (damage : Damage) → AreShardBlocks 2 n blocks → 0 < stripe_count n
+    → IsTableDamage 2 n (root_of blocks) (shard_bytes blocks) damage → ⊥
+table_undamaged n blocks (Short told) are some is =
+    let short = is.0 in
+    let long = shard_files_have_length 2 n blocks (omega arith) are in
+    omega (arith, short, long)
+table_undamaged n blocks (Digest stored computed) are some (stored_is, differs, hashed) = differs (sym (hashed ∙ ap sha256 (table_there n blocks are some)))
+table_undamaged n blocks (Kind kind) are some is = is
+table_undamaged n blocks (Spelling place) are some is = is
+table_undamaged n blocks (Long size) are some is = is
 
 -- where the block of a stripe is read by a table that has the root and stands where a table does, it isn't damaged
 block_undamaged : (n : ℕ) (blocks : List (List ℕ)) (table : List ℕ) (i : ℕ) (damage : Damage) → AreShardBlocks 2 n blocks → i < stripe_count n
     → table ≡ table_of blocks → IsBlockDamage 2 n i table (shard_bytes blocks) damage → ⊥
-block_undamaged n blocks table i (Short long) are low same is = let short = is.0 blocks are in omega arith
-block_undamaged n blocks table i (Digest stored computed) are low same (stored_is, differs, (at, long, place, hashed)) =
+block_undamaged n blocks table i (Short told) are low same is =
+    let short = is.0 in
+    let long = shard_files_have_length 2 n blocks (omega arith) are in
+    omega (arith, short, long)
+block_undamaged n blocks table i (Digest stored computed) are low same (stored_is, differs, hashed) =
     let there : i < length blocks = (let n = length-shard 2 n blocks are in omega arith) in
-    differs (ap (λ t. digest_in t i) same ∙ digest_of_block blocks i there ∙ ap sha256 (sym (place blocks are)) ∙ sym hashed)
+    let holds = shard_files_hold_blocks 2 n i blocks are low in
+    differs (ap (λ t. digest_in t i) same ∙ digest_of_block blocks i there ∙ ap sha256 (sym holds.block) ∙ sym hashed)
 block_undamaged n blocks table i (Kind kind) are low same is = is
 block_undamaged n blocks table i (Spelling place) are low same is = is
 block_undamaged n blocks table i (Long size) are low same is = is
 
 shard_undamaged : (n i : ℕ) (blocks : List (List ℕ)) (damage : Damage) → AreShardBlocks 2 n blocks → i < stripe_count n
     → IsShardDamage 2 n i (root_of blocks) (shard_bytes blocks) damage → ⊥
-shard_undamaged n i blocks damage are low (inl is) = table_undamaged n blocks damage are is
-shard_undamaged n i blocks damage are low (inr (table, root, (at, long, place, read), is)) =
-    block_undamaged n blocks table i damage are low (read ∙ place blocks are) is
+shard_undamaged n i blocks damage are low (inl is) = table_undamaged n blocks damage are (omega (arith, low)) is
+shard_undamaged n i blocks damage are low (inr (table, root, read, is)) =
+    block_undamaged n blocks table i damage are low (read ∙ table_there n blocks are (omega (arith, low))) is
 
 -- a drive that shows the shard file of these blocks gave none of them: its count rose
 no_block_rose : (part : ManifestPart) (i : ℕ) (root : List ℕ) (why : Why) (out : Type 0) (tells : Bool) (files : Files) (old new : ℕ) (blocks : List (List ℕ))
@@ -207,7 +237,7 @@ module _ {D : Type 0} (tells : D → Bool) (files : D → Files) (count : D → 
         k,
         lt,
         λ d. no_manifest_rose (wanted_of the_set print size) id (slice_index_or whys k Good) (IsBitSet 0 k) (tells (slice_index_or old k d)) (files (slice_index_or old k d))
-            (count (slice_index_or old k d)) (count (slice_index_or new k d)) (manifest_made id held.body h.coding) (none_out k) (held.told k d lt)
+            (count (slice_index_or old k d)) (count (slice_index_or new k d)) (manifest_made id held.body h.coding) (none_out k) (omega arith) (held.told k d lt)
             (manifest_canonical id held.body h.coding few) (manifest_serves id print size held.body h.coding held.printed held.sized)
             (ap (λ (f : Named (List ℕ)). f (manifest_name id)) (held.shows k d lt) ∙ (h.holds k d lt other).manifest) (none.each k d low),
       )

@@ -2,7 +2,6 @@
 use Rattle.std.proofs.Common.{◌≡◌, inl, inr, ℕ, ◌≤◌, Bool, List, [], ◌∷◌, ◌++◌, take, Option, Some, None, refl, sym, ap, ◌∙◌, subst, arith, append_assoc, append-nil}
 use Rattle.std.specs.Io.KnownBytes.{prepend_known, append_known}
 use Rattle.fault_base.specs.Counts.{Rose}
-use Rattle.fault_base.specs.Counts.{Rose}
 use Rattle.ostore.specs.declared.connection.ConnectionEnd.{ConnectionEnd}
 use Rattle.ostore.specs.declared.connection.ConnectionEnd.TheVariants.{Over, Closed, InputCut, ReadFault, WriteFault, NoMemory}
 use Rattle.call_types.specs.declared.names.Mode.{Mode}
@@ -15,10 +14,6 @@ use Rattle.ostore.specs.Session.{Exchange, Moment, ShowOnly, Rests, Run, bytes_o
 
 pub rose_later : (a b c : ℕ) → a ≤ b → Rose b c → Rose a c
 rose_later a b c low rose = (omega arith, elim rose.1 [ inl up ↦ inl (omega arith) | inr last ↦ inr last ])
-
-pub count_rose_later : (a b c : ℕ) → a ≤ b → Rose b c → Rose a c
-count_rose_later a b c low (inl up) = inl (omega arith)
-count_rose_later a b c low (inr last) = inr last
 
 pub none_fell_same : (counts : List ℕ) → NoneFell counts counts
 none_fell_same counts = record { drives = refl; each = λ k d lt. omega arith }
@@ -82,8 +77,8 @@ pub ends_later : (mode : Mode) (end : ConnectionEnd) (exchanges : List Exchange)
     → a.read_faults ≤ b.read_faults → a.write_faults ≤ b.write_faults → EndsSo mode end exchanges tail out b c → EndsSo mode end exchanges tail out a c
 ends_later mode Over exchanges tail out a b c reads writes ends = ends
 ends_later mode InputCut exchanges tail out a b c reads writes ends = ends
-ends_later mode ReadFault exchanges tail out a b c reads writes ends = (ends.0, count_rose_later _ _ _ reads ends.1, ends.2)
-ends_later mode WriteFault exchanges tail out a b c reads writes ends = (count_rose_later _ _ _ writes ends.0, ends.1)
+ends_later mode ReadFault exchanges tail out a b c reads writes ends = (ends.0, rose_later _ _ _ reads ends.1, ends.2)
+ends_later mode WriteFault exchanges tail out a b c reads writes ends = (rose_later _ _ _ writes ends.0, ends.1)
 ends_later mode NoMemory exchanges tail out a b c reads writes ends = ends
 ends_later mode Closed exchanges tail out a b c reads writes ends = ends
 
