@@ -9,6 +9,7 @@ use crate::program::PlainRig;
 use drive_base::Drive;
 use drive_memory::{Calls, Script, ScriptedDrive, Voice};
 use std::alloc::{AllocError, Global};
+use std::process::Abort;
 use std::test::Fail;
 
 /// A PUT.
@@ -58,7 +59,8 @@ struct Row {
     get: &'static [u8],
 }
 
-/// A body needs three drives for its shards and two to be read, a key's file all four.
+/// A body needs three drives for its shards and two to be read, a key's file all four. A PUT that is answered 503 is done
+/// or not: that of row 2 is, since drive 0 took the key's file.
 const ROWS: [Row; 6] = [
     Row {
         places: [false, true, false, false],
@@ -79,7 +81,7 @@ const ROWS: [Row; 6] = [
         voice: Voice::Tells,
         script: Script::Names { front: "w" },
         put: UNAVAILABLE,
-        get: MISSING,
+        get: FOUND,
     },
     Row {
         places: [true, false, false, false],
