@@ -10,7 +10,8 @@ use Rattle.call_types.specs.declared.names.VersionName.TheVariants.{Null, Id}
 use Rattle.call_types.specs.declared.version.Version.{Version}
 use Rattle.call_types.specs.declared.version.Upload.{Upload}
 use Rattle.version_list.specs.declared.state.KeyState.{KeyState}
-use Rattle.version_list.specs.Naming.{same_name, has_name, is_named, kept, is_upload, has_id}
+use Rattle.version_list.specs.Naming.{same_name, has_name, is_named, kept, is_upload}
+use Rattle.version_list.specs.NamesId.{HasNone}
 use Rattle.version_list.specs.State.{AreDistinct, names_of, IsCanonical, IsCanonicalVersion, IsCanonicalUpload}
 use Rattle.version_list.specs.Step.{new_name, replaced}
 use Rattle.version_list.proofs.NamingLemmas.{same_name-refl}
@@ -111,7 +112,7 @@ gone_apart name (x ∷ xs) = step (has_name name x) refl (gone_apart name xs)
 
 -- Where a new version replaces those of its name, and its id is new, no other version and no upload has its name.
 pub new_apart :
-    (mode : Mode) (id : VersionId) (old : KeyState) (uploads : List Upload) → has_id id old ≡ false → Sub uploads old.uploads
+    (mode : Mode) (id : VersionId) (old : KeyState) (uploads : List Upload) → HasNone id old → Sub uploads old.uploads
     → AllByRecursion (λ y. new_name mode id ≢ y) (names_of record { versions = kept (replaced mode) old.versions; uploads = uploads })
 new_apart mode id old uploads fresh sub = step mode
   where
@@ -120,8 +121,8 @@ new_apart mode id old uploads fresh sub = step mode
 
     enabled : AllByRecursion (λ y. Id id ≢ y) (names_of record { versions = kept None old.versions; uploads = uploads })
     enabled =
-        let all = apart_versions (Id id) old.versions (or_left (list_any (has_name (Id id)) old.versions) _ fresh) in
-        let ups = apart_uploads id old.uploads (or_right (list_any (has_name (Id id)) old.versions) _ fresh) in
+        let all = apart_versions (Id id) old.versions fresh.versions in
+        let ups = apart_uploads id old.uploads fresh.uploads in
         All-append (λ y. Id id ≢ y) _ _
         (All-Sub (λ y. Id id ≢ y) _ _ (Sub-map (λ (v : Version). v.id) _ _ (Sub-filter (λ v. not (is_named None v)) old.versions)) all)
         (All-Sub (λ y. Id id ≢ y) _ _ (Sub-map (λ (u : Upload). Id u.id) uploads old.uploads sub) ups)
@@ -133,8 +134,8 @@ new_apart mode id old uploads fresh sub = step mode
     step Suspended = null
 
 -- the same of an upload that is opened
-pub opened_apart : (id : VersionId) (old : KeyState) → has_id id old ≡ false → AllByRecursion (λ y. Id id ≢ y) (names_of old)
+pub opened_apart : (id : VersionId) (old : KeyState) → HasNone id old → AllByRecursion (λ y. Id id ≢ y) (names_of old)
 opened_apart id old fresh =
     All-append (λ y. Id id ≢ y) _ _
-    (apart_versions (Id id) old.versions (or_left (list_any (has_name (Id id)) old.versions) _ fresh))
-    (apart_uploads id old.uploads (or_right (list_any (has_name (Id id)) old.versions) _ fresh))
+    (apart_versions (Id id) old.versions fresh.versions)
+    (apart_uploads id old.uploads fresh.uploads)

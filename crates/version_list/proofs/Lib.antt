@@ -9,11 +9,14 @@ pub mod Known
 pub mod LawProofs
 pub mod LeavesLemmas
 pub mod Made
+pub mod NamedLemmas
 pub mod NamingLemmas
 pub mod NoId
 pub mod ObjectText
+pub mod PlaceLemmas
 pub mod RowTexts
 pub mod SizeLemmas
 pub mod StateText
 pub mod StepLemmas
 pub mod SubLemmas
+pub mod UploadLemmas

@@ -22,7 +22,8 @@ use Rattle.version_list.specs.declared.state.KeyState.{KeyState}
 use Rattle.version_list.specs.declared.outcome.Applied.{Applied}
 use Rattle.version_list.specs.declared.outcome.ActFault.{ActFault}
 use Rattle.version_list.specs.Answers.{Answers, IsDone, state_after}
-use Rattle.version_list.specs.Naming.{is_named, kept, is_upload, still_open, has_id}
+use Rattle.version_list.specs.Naming.{is_named, kept, is_upload, still_open}
+use Rattle.version_list.specs.NamesId.{HasNone}
 use Rattle.version_list.specs.Lawful.{IsLawful, IsSized, AreSized}
 use Rattle.version_list.specs.State.{names_of, IsMoment, IsKind, IsCanonical, IsCanonicalVersion, IsCanonicalUpload}
 use Rattle.version_list.specs.Step.{new_name, replaced, told, AddsVersion, AddsMarker, Deletes, OpensUpload, WithUpload, Refuses, Does, Step}
@@ -30,15 +31,15 @@ use Rattle.version_list.proofs.SubLemmas.{Sub, Sub-refl, Sub-filter}
 use Rattle.version_list.proofs.CanonicalLemmas.{IsCanonical-Sub, IsCanonical-front, IsCanonical-opened, new_apart, opened_apart}
 
 -- what stays is part of what there was
-kept-Sub : (goes : Option VersionName) (xs : List Version) → Sub (kept goes xs) xs
+pub kept-Sub : (goes : Option VersionName) (xs : List Version) → Sub (kept goes xs) xs
 kept-Sub goes xs = Sub-filter (λ v. not (is_named goes v)) xs
 
-still_open-Sub : (id : VersionId) (xs : List Upload) → Sub (still_open id xs) xs
+pub still_open-Sub : (id : VersionId) (xs : List Upload) → Sub (still_open id xs) xs
 still_open-Sub id xs = Sub-filter (λ u. not (is_upload id u)) xs
 
 AddsVersion-canonical :
     (old : KeyState) (mode : Mode) (v : Version) (id : VersionId) (uploads : List Upload) (done reply : Reply) (new : KeyState)
-    → IsCanonical old → has_id id old ≡ false → v.id ≡ new_name mode id → IsCanonicalVersion v → Sub uploads old.uploads
+    → IsCanonical old → HasNone id old → v.id ≡ new_name mode id → IsCanonicalVersion v → Sub uploads old.uploads
     → AddsVersion old mode v uploads done reply new → IsCanonical new
 AddsVersion-canonical old mode v id uploads done reply new canonical fresh named good us (inl (full, (r, same))) =
     subst IsCanonical (sym same) canonical
@@ -60,14 +61,14 @@ marker-canonical name now moment = record { modified = moment; what = tt }
 
 AddsMarker-canonical :
     (old : KeyState) (mode : Mode) (id : VersionId) (now : ℕ) (reply : Reply) (new : KeyState)
-    → IsCanonical old → has_id id old ≡ false → IsMoment now → AddsMarker old mode id now reply new → IsCanonical new
+    → IsCanonical old → HasNone id old → IsMoment now → AddsMarker old mode id now reply new → IsCanonical new
 AddsMarker-canonical old mode id now reply new canonical fresh moment step =
     AddsVersion-canonical old mode _ id old.uploads _ reply new canonical fresh refl (marker-canonical (new_name mode id) now moment)
     (Sub-refl old.uploads) step
 
 Deletes-canonical :
     (old : KeyState) (mode : Mode) (id : VersionId) (now : ℕ) (reply : Reply) (new : KeyState)
-    → IsCanonical old → has_id id old ≡ false → IsMoment now → Deletes old mode id now reply new → IsCanonical new
+    → IsCanonical old → HasNone id old → IsMoment now → Deletes old mode id now reply new → IsCanonical new
 Deletes-canonical old Never id now reply new canonical fresh moment step =
     Does-canonical old _ _ _ reply new canonical (kept-Sub (Some Null) old.versions) (Sub-refl old.uploads) step
 Deletes-canonical old Enabled id now reply new canonical fresh moment step = AddsMarker-canonical old Enabled id now reply new canonical fresh moment step
@@ -75,7 +76,7 @@ Deletes-canonical old Suspended id now reply new canonical fresh moment step = A
 
 OpensUpload-canonical :
     (old : KeyState) (opened : Upload) (reply : Reply) (new : KeyState)
-    → IsCanonical old → has_id opened.id old ≡ false → IsCanonicalUpload opened → OpensUpload old opened reply new → IsCanonical new
+    → IsCanonical old → HasNone opened.id old → IsCanonicalUpload opened → OpensUpload old opened reply new → IsCanonical new
 OpensUpload-canonical old opened reply new canonical fresh good (inl (full, (r, same))) = subst IsCanonical (sym same) canonical
 OpensUpload-canonical old opened reply new canonical fresh good (inr (few, (r, same))) =
     subst IsCanonical (sym same) (IsCanonical-opened old opened canonical few good (opened_apart opened.id old fresh))
@@ -121,7 +122,7 @@ object-canonical name now data_id print size md5 parts upload kind moment sized 
 -- A step from a canonical state leaves one.
 pub IsCanonical-Step :
     (old : KeyState) (mode : Mode) (act : Act) (id : VersionId) (now : ℕ) (reply : Reply) (new : KeyState)
-    → IsCanonical old → has_id id old ≡ false → IsMoment now → IsLawful act → IsSized act
+    → IsCanonical old → HasNone id old → IsMoment now → IsLawful act → IsSized act
     → Step old mode act id now reply new → IsCanonical new
 IsCanonical-Step old mode (act.Put data_id print size md5 kind) id now reply new canonical fresh moment lawful sized step =
     AddsVersion-canonical old mode _ id old.uploads _ reply new canonical fresh refl

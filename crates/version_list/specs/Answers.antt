@@ -4,28 +4,13 @@ use Rattle.call_types.specs.declared.act.Brief.{Brief}
 use Rattle.call_types.specs.declared.act.Brief.TheVariants.{Answer}
 use Rattle.call_types.specs.declared.reply.Reply.{Reply}
 use Rattle.call_types.specs.declared.reply.Reply.TheVariants as reply
-use Rattle.call_types.specs.declared.refusal.Refusal.{Refusal}
-use Rattle.call_types.specs.declared.refusal.Refusal.TheVariants as call
-use Rattle.call_types.specs.declared.refusal.KeyRefusal.{KeyRefusal}
-use Rattle.call_types.specs.declared.refusal.KeyRefusal.TheVariants.{NoSuchKey, NoSuchVersion, MarkerNamed, VersionLimit, NoSuchUpload, InvalidPart, PartOrder, PartSmall, UploadLimit}
+use Rattle.call_types.specs.Refusals.{refusal_of}
 use Rattle.version_list.specs.declared.state.KeyState.{KeyState}
 use Rattle.version_list.specs.declared.outcome.Applied.{Applied}
 use Rattle.version_list.specs.declared.outcome.Outcome.{Outcome}
 use Rattle.version_list.specs.declared.outcome.ActFault.{ActFault}
 use Rattle.version_list.specs.declared.outcome.ActFault.TheVariants as fault
 use Rattle.version_list.specs.Gone.{gone_bytes}
-
--- a refusal of a key as that of a call
-abbrev pub refusal_of : KeyRefusal → Refusal
-refusal_of (NoSuchKey marker) = call.NoSuchKey marker
-refusal_of NoSuchVersion = call.NoSuchVersion
-refusal_of (MarkerNamed id modified) = call.MarkerNamed id modified
-refusal_of VersionLimit = call.VersionLimit
-refusal_of NoSuchUpload = call.NoSuchUpload
-refusal_of InvalidPart = call.InvalidPart
-refusal_of PartOrder = call.PartOrder
-refusal_of PartSmall = call.PartSmall
-refusal_of UploadLimit = call.UploadLimit
 
 -- the reply is no refusal
 abbrev pub IsServed : Reply → Type 0

@@ -5,7 +5,8 @@ pub mod Lawful
 pub mod Laws
 pub mod Layout
 pub mod Naming
-pub mod Plain
+pub mod NamesId
+pub mod Places
 pub mod Reads
 pub mod Rows
 pub mod Spelling

@@ -1,6 +1,5 @@
 -- Which versions and uploads of a key a name is about.
-use Rattle.std.specs.Prelude.{◌≡◌, ◌↔◌, Bool, true, false, ◌&&◌, ◌||◌, not, List, Option, Some, None, filter, nat_eq}
-use Rattle.std.specs.List.{list_any}
+use Rattle.std.specs.Prelude.{◌≡◌, ◌↔◌, ℕ, Bool, true, false, ◌&&◌, not, List, Option, Some, None, filter, slice_get, nat_eq}
 use Rattle.stamp_id.specs.declared.version.VersionId.{VersionId}
 use Rattle.call_types.specs.declared.names.VersionName.{VersionName}
 use Rattle.call_types.specs.declared.names.VersionName.TheVariants.{Null, Id}
@@ -8,7 +7,6 @@ use Rattle.call_types.specs.declared.version.Version.{Version}
 use Rattle.call_types.specs.declared.version.Upload.{Upload}
 use Rattle.call_types.specs.declared.version.What.{What}
 use Rattle.call_types.specs.declared.version.What.TheVariants.{Marker, Object}
-use Rattle.version_list.specs.declared.state.KeyState.{KeyState}
 
 -- whether two ids are the same
 abbrev pub same_id : VersionId → VersionId → Bool
@@ -55,6 +53,8 @@ is_upload id u = same_id u.id id
 abbrev pub still_open : VersionId → List Upload → List Upload
 still_open id uploads = filter (λ u. not (is_upload id u)) uploads
 
--- whether a version or an upload of the key has this id
-abbrev pub has_id : VersionId → KeyState → Bool
-has_id id state = list_any (has_name (Id id)) state.versions || list_any (is_upload id) state.uploads
+-- the upload at this place has this id
+pub record HasUploadAt (id : VersionId) (uploads : List Upload) (place : ℕ) : Type 0 where
+  pub upload : Upload
+  pub at : slice_get uploads place ≡ Some upload
+  pub has_id : upload.id ≡ id

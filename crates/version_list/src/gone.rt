@@ -7,6 +7,7 @@ ghost use Rattle.version_list.specs.Naming.{kept};
 ghost use Rattle.version_list.specs.Gone.{data_of, is_data, has_data, gone_bytes};
 
 use crate::edit::is_named;
+use crate::state::KeyState;
 use call_types::{Version, VersionName, What};
 use fault_base::NoMemory;
 use seal_file::Bytes;
@@ -34,7 +35,7 @@ pub fn gone(
 }
 
 /// Appends the id of the data of a version that goes, unless a new version has that data.
-pub fn push_gone(bytes: &mut Vec<u8>, version: &Version, new: &[Version]) -> Result<(), NoMemory>
+fn push_gone(bytes: &mut Vec<u8>, version: &Version, new: &[Version]) -> Result<(), NoMemory>
     ensures { OnOk result (bytes.new.items ≡ bytes.old.items ++ gone_bytes (version.now ∷ []) new.now) }
 {
     if let Some(id) = data_id(&version.what) {
@@ -43,6 +44,13 @@ pub fn push_gone(bytes: &mut Vec<u8>, version: &Version, new: &[Version]) -> Res
         }
     }
     Ok(())
+}
+
+/// Whether a version of the key has the data of this id.
+pub fn has_data(state: &KeyState, id: VersionId) -> bool
+    ensures { result ≡ list_any (has_data id) state.now.versions }
+{
+    any_has_data(state.versions.as_slice(), id)
 }
 
 fn data_id(what: &What) -> Option<VersionId>
@@ -57,10 +65,10 @@ fn data_id(what: &What) -> Option<VersionId>
 fn any_has_data(versions: &[Version], id: VersionId) -> bool
     ensures { result ≡ list_any (has_data id) versions.now }
 {
-    versions.iter().any(|version| has_data(&version.what, id))
+    versions.iter().any(|version| is_data(&version.what, id))
 }
 
-fn has_data(what: &What, id: VersionId) -> bool
+fn is_data(what: &What, id: VersionId) -> bool
     ensures { result ≡ is_data id what.now }
 {
     match what {

@@ -3,7 +3,7 @@
 ghost use Rattle.std.specs.Prelude.{◌≡◌, true, false, ◌||◌, IfOk, MatchOption};
 ghost use Rattle.std.specs.Bool.{OnTrue};
 ghost use Rattle.field_reader.specs.Format.{field, with_rule};
-ghost use Rattle.field_reader.specs.Reading.{Gives};
+ghost use Rattle.field_reader.specs.Reading.{Gives, Takes};
 ghost use Rattle.version_list.specs.Rows.{no_id, name_field, upload_field};
 ghost use Rattle.stamp_id.specs.VersionId.{id_bytes};
 ghost use Rattle.stamp_id.specs.IdField.{is_id, id_field};
@@ -12,7 +12,7 @@ ghost use Rattle.version_list.specs.Known.{is_known, AddsName};
 
 use crate::names::Names;
 use call_types::VersionName;
-use field_reader::{Fields, ReadFault, refuse_unless};
+use field_reader::{Fields, Misspelled, ReadFault, refuse_unless};
 use stamp_id::{VersionId, take_id};
 
 /// Whether these bytes are zeros.
@@ -46,8 +46,8 @@ fn name_of(bytes: [u8; 16]) -> Option<VersionName>
 }
 
 /// Takes 16 zero bytes.
-fn take_no_id(fields: &mut Fields) -> Result<(), ReadFault>
-    ensures { Gives (λ none. no_id) result fields.new (with_rule is_no_id (field 16) fields.old) }
+fn take_no_id(fields: &mut Fields) -> Result<(), Misspelled>
+    ensures { Takes (λ none. no_id) result fields.new (with_rule is_no_id (field 16) fields.old) }
 {
     let start = fields.at();
     let bytes = fields.take_bytes()?;
@@ -55,8 +55,8 @@ fn take_no_id(fields: &mut Fields) -> Result<(), ReadFault>
 }
 
 /// Takes the id of the upload that made an object of so many parts.
-pub fn take_upload_id(fields: &mut Fields, parts: u16) -> Result<Option<VersionId>, ReadFault>
-    ensures { Gives upload_field result fields.new (upload_id parts fields.old) }
+pub fn take_upload_id(fields: &mut Fields, parts: u16) -> Result<Option<VersionId>, Misspelled>
+    ensures { Takes upload_field result fields.new (upload_id parts fields.old) }
 {
     if parts == 0 {
         take_no_id(fields)?;

@@ -3,7 +3,7 @@
 ghost use Rattle.std.specs.Prelude.{◌≡◌, List, ℕ, false, map, IfOk};
 ghost use Rattle.std.specs.Int.{w8, w32, w64};
 ghost use Rattle.field_reader.specs.Format.{number, short_text, with_rule, value_of, fault_at};
-ghost use Rattle.field_reader.specs.Reading.{Gives, GivesWhole};
+ghost use Rattle.field_reader.specs.Reading.{Gives, GivesWhole, Takes};
 ghost use Rattle.version_list.specs.Rows.{object_row, version_row, upload_row, rows_of};
 ghost use Rattle.version_list.specs.Layout.{is_moment, is_class, object, object_of_class, version, version_names, versions, upload, uploads, is_among, is_version_count, is_upload_count, long_state, key_state};
 ghost use Rattle.version_list.specs.Known.{is_known, AddsName};
@@ -16,14 +16,14 @@ use crate::ids::{take_name, take_new_id, take_upload_id};
 use crate::names::Names;
 use crate::state::{KeyState, MOMENT_LIMIT, MOST_UPLOADS, MOST_VERSIONS};
 use call_types::{ListRead, Upload, Uploads, Version, Versions, What};
-use field_reader::{Fields, ReadFault, refuse_unless};
+use field_reader::{Fields, Misspelled, ReadFault, refuse_unless};
 use seal_file::Text;
 use stamp_id::take_id;
 use std::alloc::Global;
 
 /// Takes a moment in Unix seconds, which must be before the year 10000.
-fn take_moment(fields: &mut Fields) -> Result<u64, ReadFault>
-    ensures { Gives (λ moment. moment) result fields.new (with_rule is_moment (number w64) fields.old) }
+fn take_moment(fields: &mut Fields) -> Result<u64, Misspelled>
+    ensures { Takes (λ moment. moment) result fields.new (with_rule is_moment (number w64) fields.old) }
 {
     let start = fields.at();
     let moment = fields.take_u64()?;
@@ -32,8 +32,8 @@ fn take_moment(fields: &mut Fields) -> Result<u64, ReadFault>
 }
 
 /// Takes the class of a version: 0 for a marker, 1 for an object.
-fn take_class(fields: &mut Fields) -> Result<u8, ReadFault>
-    ensures { Gives (λ class. class) result fields.new (with_rule is_class (number w8) fields.old) }
+fn take_class(fields: &mut Fields) -> Result<u8, Misspelled>
+    ensures { Takes (λ class. class) result fields.new (with_rule is_class (number w8) fields.old) }
 {
     let start = fields.at();
     let class = fields.take_u8()?;
@@ -145,8 +145,8 @@ fn take_uploads(
 }
 
 /// Takes the number of versions.
-fn take_version_count(fields: &mut Fields) -> Result<u32, ReadFault>
-    ensures { Gives (λ count. count) result fields.new (with_rule is_version_count (number w32) fields.old) }
+fn take_version_count(fields: &mut Fields) -> Result<u32, Misspelled>
+    ensures { Takes (λ count. count) result fields.new (with_rule is_version_count (number w32) fields.old) }
 {
     let start = fields.at();
     let count = fields.take_u32()?;
@@ -155,8 +155,8 @@ fn take_version_count(fields: &mut Fields) -> Result<u32, ReadFault>
 }
 
 /// Takes the number of uploads, which is not 0 where there is no version.
-fn take_upload_count(fields: &mut Fields, versions: u32) -> Result<u32, ReadFault>
-    ensures { Gives (λ count. count) result fields.new (with_rule (is_upload_count versions) (number w32) fields.old) }
+fn take_upload_count(fields: &mut Fields, versions: u32) -> Result<u32, Misspelled>
+    ensures { Takes (λ count. count) result fields.new (with_rule (is_upload_count versions) (number w32) fields.old) }
 {
     let start = fields.at();
     let count = fields.take_u32()?;

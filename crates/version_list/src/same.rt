@@ -72,14 +72,14 @@ fn is_same_upload(a: Option<VersionId>, b: Option<VersionId>) -> bool
 }
 
 /// Whether the ids are the same.
-pub fn is_same_id(a: VersionId, b: VersionId) -> bool
+fn is_same_id(a: VersionId, b: VersionId) -> bool
     ensures { IsTrue result ↔ (a ≡ b) }
 {
     a == b
 }
 
 /// Whether the texts are the same.
-pub fn is_same_text(a: &Text, b: &Text) -> bool
+fn is_same_text(a: &Text, b: &Text) -> bool
     ensures { IsTrue result ↔ (a.now ≡ b.now) }
 {
     a == b

@@ -19,7 +19,7 @@ const OBJECT_BYTES: usize = 91;
 const UPLOAD_BYTES: usize = 25;
 
 /// The bytes of a version.
-fn version_size(version: &Version) -> usize
+pub fn version_size(version: &Version) -> usize
     requires { IsCanonicalVersion version.now }
     ensures value { result ≡ length (version_bytes (version_row version.now)) }
     ensures bound { result ≤ 400 }
@@ -31,7 +31,7 @@ fn version_size(version: &Version) -> usize
 }
 
 /// The bytes of versions.
-fn versions_size(versions: &[Version]) -> usize
+pub fn versions_size(versions: &[Version]) -> usize
     requires few { length versions.now ≤ 10000 }
     requires canonical { AllByRecursion IsCanonicalVersion versions.now }
     ensures value { result ≡ length (flat_map version_bytes (map version_row versions.now)) }
@@ -45,7 +45,7 @@ fn versions_size(versions: &[Version]) -> usize
 }
 
 /// The bytes of an upload.
-fn upload_size(upload: &Upload) -> usize
+pub fn upload_size(upload: &Upload) -> usize
     requires { IsCanonicalUpload upload.now }
     ensures value { result ≡ length (upload_bytes (upload_row upload.now)) }
     ensures bound { result ≤ 400 }

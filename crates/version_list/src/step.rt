@@ -5,13 +5,14 @@ ghost use Rattle.version_list.specs.Answers.{Answers};
 ghost use Rattle.version_list.specs.Lawful.{IsLawful, IsSized, AreSized};
 ghost use Rattle.version_list.specs.State.{IsCanonical, IsMoment};
 ghost use Rattle.version_list.specs.Step.{Step, AddsMarker, AddsVersion, RemovesVersion, Deletes, Does, OpensUpload, WithUpload, replaced, told};
-ghost use Rattle.version_list.specs.Naming.{has_id, is_named, is_upload, still_open};
+ghost use Rattle.version_list.specs.Naming.{is_named, is_upload, still_open};
+ghost use Rattle.version_list.specs.NamesId.{names_id};
 
 use crate::change::{add_version, close_upload, complete_upload, open_upload, remove_version};
 use crate::edit::{any_marker_named, count_kept, new_name, replaced, told};
 use crate::outcome::{ActFault, Applied};
 use crate::state::{KeyState, MOST_UPLOADS, MOST_VERSIONS};
-use crate::uploads::find_upload;
+use crate::uploads::upload_of;
 use call_types::{Act, Etag, KeyRefusal, Mode, Pick, Reply, Upload, Version, VersionName, What};
 use seal_file::Text;
 use stamp_id::VersionId;
@@ -29,7 +30,7 @@ pub struct Call {
 }
 
 /// Does `act` to the state of a key in a bucket of this mode, in the Unix second `now`. `id` is the id that the call
-/// drew: a version or an upload that is made has it. What is answered has no `state` where the act changes nothing.
+/// drew, which the state doesn't name: a version or an upload that is made has it. What is answered has no `state` where the act changes nothing.
 ///
 /// Refused are, with `ActFault::Refused`: a Put, and a Delete that would put a marker in front, with `VersionLimit` where
 /// 10,000 versions stay; a Create with `UploadLimit` where 1,000 uploads are open; a Complete and an Abort with
@@ -43,7 +44,7 @@ pub fn apply(
     now: u64,
 ) -> Result<Applied, ActFault>
     requires canonical { IsCanonical state.now }
-    requires fresh { has_id id state.now ≡ false }
+    requires fresh { names_id id state.now ≡ false }
     requires moment { IsMoment now }
     requires lawful { IsLawful act.now }
     ensures step { Answers (Step state.now mode act.now id now) state.now result }
@@ -125,7 +126,7 @@ fn complete(
     ensures step { Answers (Step state.now call.mode (Act.Complete upload parts data_id print length md5) call.id call.moment) state.now result }
     ensures sized { OnOk result (AreSized print length md5 parts) }
 {
-    let Some(opened) = find_upload(state.uploads.as_slice(), upload) else {
+    let Some(opened) = upload_of(state.uploads.as_slice(), upload) else {
         return Err(ActFault::Refused(KeyRefusal::NoSuchUpload));
     };
     let kind = opened.kind.clone()?;
@@ -296,7 +297,7 @@ fn abort(alloc: Global, state: &KeyState, upload: VersionId) -> Result<Applied, 
         (WithUpload state.now upload (λ opened. Does Reply.Plain state.now.versions (still_open upload state.now.uploads)))
         state.now result }
 {
-    if find_upload(state.uploads.as_slice(), upload).is_none() {
+    if upload_of(state.uploads.as_slice(), upload).is_none() {
         return Err(ActFault::Refused(KeyRefusal::NoSuchUpload));
     }
     let outcome = close_upload(alloc, state, upload)?;

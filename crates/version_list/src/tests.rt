@@ -1,6 +1,7 @@
 use super::*;
 use call_types::{ListRead, VersionName, What};
 use field_reader::{put_u8, put_u32, put_u64};
+use stamp_id::{Ballot, ChangeId, VersionId};
 use std::alloc::{AllocError, Global};
 use std::test::Fail;
 
@@ -20,14 +21,16 @@ const PAST_MOMENT: &str = "0000003afff44180";
 const ID: &str = "00000000000180058000000000000007";
 
 const OTHER_ID: &str = "00000000000280008000000000000001";
-/// The first id with version 7, variant 11, slot 64, term 0 and seq 0.
-const BAD_IDS: [&str; 5] = [
-    "00000000000170058000000000000007",
-    "0000000000018005c000000000000007",
-    "00000000000180408000000000000007",
-    "00000000000080058000000000000007",
-    "00000000000180058000000000000000",
-];
+/// The first id with version 7, with variant 11, with slot 64, with term 0 and with seq 0.
+const VERSION_7: &str = "00000000000170058000000000000007";
+
+const VARIANT_11: &str = "0000000000018005c000000000000007";
+
+const SLOT_64: &str = "00000000000180408000000000000007";
+
+const TERM_0: &str = "00000000000080058000000000000007";
+
+const SEQ_0: &str = "00000000000180058000000000000000";
 
 const PRINT: &str = "1111111111111111111111111111111111111111111111111111111111111111";
 
@@ -156,75 +159,119 @@ fn reads_fields(rt: HostRuntime) -> Result<(), Fail> {
     Ok(())
 }
 
-/// The place of the first fault of these bytes, if there is one.
-fn fault(alloc: Global, pieces: &[&str]) -> Result<Option<u64>, Fail> {
-    let content = bytes(alloc, pieces)?;
-    match read(alloc, content.as_slice()) {
-        Ok(_) => Ok(None),
-        Err(ListRead::NotCanonical(place)) => Ok(Some(place)),
-        Err(ListRead::NoMemory) => Err(Fail::new("no memory")),
-    }
-}
+/// Contents that are no spellings, each with the place of its first fault: counts, names, classes and moments, ids, the
+/// fields of objects, and uploads.
+const REFUSED: [(&[&str], u64); 27] = [
+    (&["000000"], 3),
+    (&[NONE], 4),
+    (&[NONE, NONE], 4),
+    (&["00002711", NONE], 0),
+    (&[NONE, "000003e9"], 4),
+    (&[ONE, NULL, MARKER, MOMENT], 29),
+    (&[ONE, NULL, MARKER, MOMENT, NONE, "00"], 33),
+    (&[ONE, NULL, "02", MOMENT, NONE], 20),
+    (&[ONE, NULL, MARKER, PAST_MOMENT, NONE], 21),
+    (&[TWO, NULL, MARKER, MOMENT, NULL, MARKER, MOMENT, NONE], 29),
+    (&[TWO, ID, MARKER, MOMENT, ID, MARKER, MOMENT, NONE], 29),
+    (&[ONE, ID, MARKER, MOMENT, ONE, ID, MOMENT, "00"], 33),
+    (&[NONE, TWO, ID, MOMENT, "00", ID, MOMENT, "00"], 33),
+    (&[NONE, ONE, NULL, MOMENT, "00"], 8),
+    (&[NONE, ONE, ID, PAST_MOMENT, "00"], 24),
+    (&[ONE, VERSION_7, MARKER, MOMENT, NONE], 4),
+    (&[ONE, VARIANT_11, MARKER, MOMENT, NONE], 4),
+    (&[ONE, SLOT_64, MARKER, MOMENT, NONE], 4),
+    (&[ONE, TERM_0, MARKER, MOMENT, NONE], 4),
+    (&[ONE, SEQ_0, MARKER, MOMENT, NONE], 4),
+    (&[ONE, NULL, OBJECT, MOMENT, NULL, PRINT], 29),
+    (&[ONE, NULL, OBJECT, MOMENT, ID, PRINT, "00"], 78),
+    (
+        &[
+            ONE, NULL, OBJECT, MOMENT, ID, PRINT, LENGTH, MD5, "0000", ID,
+        ],
+        103,
+    ),
+    (
+        &[
+            ONE, NULL, OBJECT, MOMENT, ID, PRINT, LENGTH, MD5, "0001", NULL,
+        ],
+        103,
+    ),
+    (
+        &[
+            ONE, NULL, OBJECT, MOMENT, ID, PRINT, LENGTH, MD5, "0001", TERM_0,
+        ],
+        103,
+    ),
+    (
+        &[
+            ONE, NULL, OBJECT, MOMENT, ID, PRINT, LENGTH, MD5, "0000", NULL, "03612f",
+        ],
+        122,
+    ),
+    (
+        &[
+            ONE, NULL, OBJECT, MOMENT, ID, PRINT, LENGTH, MD5, "0000", NULL, "00",
+        ],
+        120,
+    ),
+];
 
-/// Contents of counts, names, classes and moments that are no spellings, each with the place of its first fault.
 #[test]
-fn refuses_versions(rt: HostRuntime) -> Result<(), Fail> {
-    let refused: [(&[&str], u64); 14] = [
-        (&["000000"], 3),
-        (&[NONE], 4),
-        (&[NONE, NONE], 4),
-        (&["00002711", NONE], 0),
-        (&[NONE, "000003e9"], 4),
-        (&[ONE, NULL, MARKER, MOMENT], 29),
-        (&[ONE, NULL, MARKER, MOMENT, NONE, "00"], 33),
-        (&[ONE, NULL, "02", MOMENT, NONE], 20),
-        (&[ONE, NULL, MARKER, PAST_MOMENT, NONE], 21),
-        (&[TWO, NULL, MARKER, MOMENT, NULL, MARKER, MOMENT, NONE], 29),
-        (&[TWO, ID, MARKER, MOMENT, ID, MARKER, MOMENT, NONE], 29),
-        (&[ONE, ID, MARKER, MOMENT, ONE, ID, MOMENT, "00"], 33),
-        (&[NONE, TWO, ID, MOMENT, "00", ID, MOMENT, "00"], 33),
-        (&[NONE, ONE, NULL, MOMENT, "00"], 8),
-    ];
-    for (pieces, place) in refused {
-        assert!(rt; fault(rt.alloc(), pieces)? == Some(place), "at {place}");
-    }
-    for id in BAD_IDS {
+fn refuses_what_spells_nothing(rt: HostRuntime) -> Result<(), Fail> {
+    for (pieces, place) in REFUSED {
+        let content = bytes(rt.alloc(), pieces)?;
         assert!(rt;
-            fault(rt.alloc(), &[ONE, id, MARKER, MOMENT, NONE])? == Some(4),
-            "{id}"
-        );
-    }
-    Ok(())
-}
-
-/// Objects and uploads that are no spellings, each with the place of its first fault.
-#[test]
-fn refuses_objects(rt: HostRuntime) -> Result<(), Fail> {
-    let refused: [(&[&str], u64); 7] = [
-        (&[NULL, PRINT, LENGTH, MD5, "0000", NULL, "00", NONE], 29),
-        (&[OTHER_ID, PRINT, LENGTH, MD5, "0000", ID, "00", NONE], 103),
-        (
-            &[OTHER_ID, PRINT, LENGTH, MD5, "0001", NULL, "00", NONE],
-            103,
-        ),
-        (
-            &[OTHER_ID, PRINT, LENGTH, MD5, "0001", BAD_IDS[0], "00", NONE],
-            103,
-        ),
-        (&[OTHER_ID, PRINT, LENGTH, MD5, "0000", NULL, "03612f"], 122),
-        (&[OTHER_ID, PRINT, LENGTH, MD5, "0000", NULL, "00"], 120),
-        (&[OTHER_ID, PRINT, "00"], 78),
-    ];
-    for (pieces, place) in refused {
-        let mut content = bytes(rt.alloc(), &[ONE, NULL, OBJECT, MOMENT])?;
-        content.extend_from_slice(&bytes(rt.alloc(), pieces)?)?;
-        assert!(rt;
-            read(rt.alloc(), &content).err() == Some(ListRead::NotCanonical(place)),
+            read(rt.alloc(), content.as_slice()).err() == Some(ListRead::NotCanonical(place)),
             "at {place}"
         );
     }
-    assert!(rt; fault(rt.alloc(), &[NONE, ONE, ID, PAST_MOMENT, "00"])? == Some(24));
     Ok(())
+}
+
+/// The ids of term 1, slot 5 and the seqs after these, as a state names them: of a version, of its data, of the upload that made it,
+/// and of an open upload. Each with the first place in the spelling.
+const NAMED: [(u64, u64); 4] = [(6, 4), (7, 29), (8, 103), (9, 127)];
+
+#[test]
+fn ids_have_their_places(rt: HostRuntime) -> Result<(), Fail> {
+    let content = bytes(
+        rt.alloc(),
+        &[
+            ONE,
+            ID,
+            OBJECT,
+            MOMENT,
+            "00000000000180058000000000000008",
+            PRINT,
+            LENGTH,
+            MD5,
+            "0002",
+            "00000000000180058000000000000009",
+            KIND,
+            ONE,
+            "0000000000018005800000000000000a",
+            MOMENT,
+            "00",
+        ],
+    )?;
+    let state = read(rt.alloc(), content.as_slice())?;
+    for (seq, place) in NAMED {
+        assert!(rt; names_id(&state, id(seq)), "{seq}");
+        assert!(rt; place_of_id(&state, id(seq)) == Some(place), "{seq}");
+        assert!(rt; has_data(&state, id(seq)) == (seq == 7), "{seq}");
+        assert!(rt;
+            find_upload(&state, id(seq)).is_some() == (seq == 9),
+            "{seq}"
+        );
+    }
+    assert!(rt; !names_id(&state, id(10)));
+    assert!(rt; place_of_id(&state, id(10)).is_none());
+    Ok(())
+}
+
+fn id(seq: u64) -> VersionId {
+    let seq = seq % 1_000 + 1;
+    VersionId::from_parts(ChangeId(Ballot { term: 1, seq }), 5)
 }
 
 /// So many markers and so many uploads, each with an id of its own.

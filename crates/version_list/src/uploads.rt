@@ -1,17 +1,32 @@
 //! Changes of a list of open uploads.
 
-ghost use Rattle.std.specs.Prelude.{◌≡◌, [], ◌∷◌, ◌++◌, find, IfOk};
+ghost use Rattle.std.specs.Prelude.{◌≡◌, false, [], ◌∷◌, ◌++◌, find, position, IfOk, MatchOption};
 ghost use Rattle.std.specs.List.{list_any};
 ghost use Rattle.std.specs.Option.{option_copied};
-ghost use Rattle.version_list.specs.Naming.{is_upload, still_open};
+ghost use Rattle.version_list.specs.Naming.{is_upload, still_open, HasUploadAt};
 
+use crate::state::KeyState;
 use call_types::{Upload, Uploads};
 use fault_base::NoMemory;
 use stamp_id::VersionId;
 use std::alloc::Global;
 
+/// The place in `state.uploads` of the open upload of this id. There is none exactly where no open upload has it.
+pub fn find_upload(state: &KeyState, id: VersionId) -> Option<usize>
+    ensures value { result ≡ position (is_upload id) state.now.uploads }
+    ensures found { MatchOption result (list_any (is_upload id) state.now.uploads ≡ false) (HasUploadAt id state.now.uploads) }
+{
+    place_of(state.uploads.as_slice(), id)
+}
+
+fn place_of(uploads: &[Upload], id: VersionId) -> Option<usize>
+    ensures { result ≡ position (is_upload id) uploads.now }
+{
+    uploads.iter().position(|upload| upload.id == id)
+}
+
 /// The first upload of this id.
-pub fn find_upload(uploads: &[Upload], id: VersionId) -> Option<&Upload>
+pub fn upload_of(uploads: &[Upload], id: VersionId) -> Option<&Upload>
     ensures { option_copied result ≡ find (is_upload id) uploads.now }
 {
     uploads.iter().find(|upload| upload.id == id)

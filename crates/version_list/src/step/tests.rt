@@ -1,12 +1,10 @@
-//! Tests of what no clause says: that calls succeed, and that the tables are those of S3. Each act is done by the step
-//! and by the plain program of the tables.
+//! Tests of what no clause says: that calls succeed, and that the tables are those of S3.
 
 ghost use Rattle.std.specs.Prelude.{◌<◌};
 
 use super::{Call, apply, do_act};
-use crate::naming::has_id;
+use crate::naming::names_id;
 use crate::outcome::{ActFault, Applied};
-use crate::plain;
 use crate::reading::read;
 use crate::reads::find;
 use crate::state::KeyState;
@@ -52,17 +50,6 @@ fn put(alloc: Global, seq: u64) -> Result<Act, Fail> {
     })
 }
 
-fn complete(seq: u64) -> Act {
-    Act::Complete {
-        upload: id(seq),
-        parts: 2,
-        data_id: id(seq.wrapping_add(500)),
-        print: [8; 32],
-        length: 9,
-        md5: [6; 16],
-    }
-}
-
 fn after(old: KeyState, applied: Applied) -> KeyState {
     let Applied {
         state,
@@ -75,48 +62,6 @@ fn after(old: KeyState, applied: Applied) -> KeyState {
     }
 }
 
-fn is_same_change(a: &Option<KeyState>, b: &Option<KeyState>) -> bool {
-    match (a, b) {
-        (None, None) => true,
-        (Some(a), Some(b)) => plain::is_same_state(a, b),
-        _ => false,
-    }
-}
-
-fn is_same_answer(a: &Result<Applied, ActFault>, b: &Result<Applied, ActFault>) -> bool {
-    match (a, b) {
-        (Ok(a), Ok(b)) => {
-            a.done == b.done && a.gone == b.gone && is_same_change(&a.state, &b.state)
-        }
-        (Err(a), Err(b)) => a == b,
-        _ => false,
-    }
-}
-
-fn acts(alloc: Global) -> Result<Vec<Act>, Fail> {
-    let mut acts = Vec::new(alloc);
-    acts.push(Act::Delete(Pick::Current))?;
-    acts.push(put(alloc, 1)?)?;
-    acts.push(put(alloc, 1)?)?;
-    acts.push(put(alloc, 2)?)?;
-    acts.push(Act::Delete(Pick::Current))?;
-    acts.push(Act::Delete(Pick::Current))?;
-    acts.push(Act::Delete(Pick::Id(id(1))))?;
-    acts.push(Act::Delete(Pick::Id(id(77))))?;
-    acts.push(Act::Delete(Pick::Null))?;
-    acts.push(Act::Create {
-        kind: Text::from_slice(alloc, b"image/png")?,
-    })?;
-    acts.push(complete(77))?;
-    acts.push(complete(9))?;
-    acts.push(Act::Abort { upload: id(9) })?;
-    acts.push(Act::Create {
-        kind: Text::from_slice(alloc, b"image/png")?,
-    })?;
-    acts.push(Act::Abort { upload: id(13) })?;
-    Ok(acts)
-}
-
 /// The state that a DELETE leaves in mode Enabled: one marker, with the sixth id and the moment NOW.
 const ONE_MARKER: [u8; 33] = [
     0, 0, 0, 1, 0, 0, 0, 0, 0, 1, 0x80, 0x1c, 0x80, 0, 0, 0, 0, 0, 0, 7, 0, 0, 0, 0, 0, 0x2e, 0xbc,
@@ -127,33 +72,15 @@ const ONE_MARKER: [u8; 33] = [
 fn a_state_that_is_read_is_changed_and_written(rt: HostRuntime) -> Result<(), Fail> {
     let state = read(rt.alloc(), b"").ok().ok_or("read")?;
     let id = id(6);
-    assert!(rt; !has_id(&state, id));
+    assert!(rt; !names_id(&state, id));
     let act = Act::Delete(Pick::Current);
     let applied = apply(rt.alloc(), &state, Mode::Enabled, &act, id, NOW);
     let applied = applied.ok().ok_or("apply")?;
     let Applied { state: made, .. } = applied;
     let made = made.ok_or("a new state")?;
-    assert!(rt; has_id(&made, id));
+    assert!(rt; names_id(&made, id));
     let written = write(rt.alloc(), &made)?;
     assert_eq!(rt; written.as_slice(), ONE_MARKER.as_slice());
-    Ok(())
-}
-
-#[test]
-fn the_tables_answer_alike(rt: HostRuntime) -> Result<(), Fail> {
-    let acts = acts(rt.alloc())?;
-    for mode in [Mode::Never, Mode::Enabled, Mode::Suspended] {
-        let mut state = nothing(rt.alloc());
-        for (k, act) in acts.iter().enumerate() {
-            let call = call(mode, id(k as u64));
-            let step = do_act(rt.alloc(), &state, call, act);
-            let plain = plain::apply(rt.alloc(), &state, call, act);
-            assert!(rt; is_same_answer(&step, &plain), "{mode:?} {k}");
-            if let Ok(applied) = step {
-                state = after(state, applied);
-            }
-        }
-    }
     Ok(())
 }
 
@@ -233,6 +160,35 @@ fn one_marker_stands_where_versioning_is_suspended(rt: HostRuntime) -> Result<()
         }]
         .as_slice()
     );
+    Ok(())
+}
+
+#[test]
+fn an_upload_is_completed_or_aborted(rt: HostRuntime) -> Result<(), Fail> {
+    let mut state = nothing(rt.alloc());
+    let acts = [
+        Act::Create {
+            kind: Text::from_slice(rt.alloc(), b"image/png")?,
+        },
+        Act::Create {
+            kind: Text::from_slice(rt.alloc(), b"image/png")?,
+        },
+        Act::Complete {
+            upload: id(0),
+            parts: 2,
+            data_id: id(9),
+            print: [8; 32],
+            length: 9,
+            md5: [6; 16],
+        },
+        Act::Abort { upload: id(1) },
+    ];
+    for (k, act) in acts.iter().enumerate() {
+        let made = do_act(rt.alloc(), &state, call(Mode::Enabled, id(k as u64)), act);
+        state = after(state, made.ok().ok_or("done")?);
+    }
+    assert_eq!(rt; state.versions.len(), 1);
+    assert!(rt; state.uploads.is_empty());
     Ok(())
 }
 
