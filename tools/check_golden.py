@@ -17,6 +17,8 @@ GOLDEN = [
     (["golden_register.py"], "crates/register_file/src/tests.rt"),
     (["golden_manifest.py"], "crates/manifest_file/src/tests.rt"),
     (["golden_shards.py"], "crates/shard_file/src/tests.rt"),
+    (["golden_book.py"], "crates/bucket_book/src/tests.rt"),
+    (["golden_book.py", "parts"], "crates/upload_book/src/tests.rt"),
     (["golden_stage.py"], "crates/put_stage/src/tests/golden.rt"),
     (["golden_stage.py", "read"], "crates/get_read/src/tests/golden.rt"),
 ]

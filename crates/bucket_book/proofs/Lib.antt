@@ -1,0 +1,4 @@
+pub mod ContentLemmas
+pub mod Lawful
+pub mod NameLemmas
+pub mod StepLemmas

@@ -1,0 +1,5 @@
+pub mod Content
+pub mod Laws
+pub mod Name
+pub mod Step
+pub mod Table

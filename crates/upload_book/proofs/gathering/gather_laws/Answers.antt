@@ -1,0 +1,8 @@
+use Rattle.upload_book.proofs.GatherLemmas.{rising_few, checks_first}
+use Rattle.upload_book.proofs.gathering.gather_laws.Goals as goal
+
+pub returns-clause-few : goal.returns-clause-few
+returns-clause-few c = rising_few
+
+pub returns-clause-first : goal.returns-clause-first
+returns-clause-first c = checks_first

@@ -1,0 +1,6 @@
+pub mod Content
+pub mod Gathering
+pub mod Joining
+pub mod Laws
+pub mod Storing
+pub mod Table
