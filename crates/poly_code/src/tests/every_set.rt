@@ -53,7 +53,7 @@ fn is_lost(lost: u32, row: u8) -> bool {
 }
 
 // Whether each lost block of a stripe is rebuilt from the others.
-fn comes_back(alloc: Global, set: SetPlan, stripe: &[u8], lost: u32) -> Result<bool, AllocError> {
+fn comes_back(alloc: Global, set: &SetPlan, stripe: &[u8], lost: u32) -> Result<bool, AllocError> {
     let kept = kept_of(alloc, stripe, lost)?;
     for (row, block) in (0..16u8).zip(stripe.chunks(2)) {
         if is_lost(lost, row) && !is_rebuilt(alloc, set, &kept, row, block) {
@@ -63,10 +63,10 @@ fn comes_back(alloc: Global, set: SetPlan, stripe: &[u8], lost: u32) -> Result<b
     Ok(true)
 }
 
-fn is_rebuilt(alloc: Global, set: SetPlan, kept: &Kept, row: u8, block: &[u8]) -> bool {
+fn is_rebuilt(alloc: Global, set: &SetPlan, kept: &Kept, row: u8, block: &[u8]) -> bool {
     let made = rebuilt(
         alloc,
-        set,
+        *set,
         kept.rows.as_slice(),
         kept.blocks.as_slice(),
         row,
@@ -81,13 +81,14 @@ fn holds(alloc: Global, drives: u8, parity: u8) -> Result<bool, AllocError>
     requires some { 1 ≤ parity }
     requires half { parity + parity ≤ drives }
 {
-    let set = SetPlan::new([7; 16], drives, parity);
+    let plan = SetPlan::new([7; 16], drives, parity);
+    let set = &plan;
     let stripe = stripe_of(alloc, drives, set.read_quorum() as usize)?;
     let (blocks, rest) = stripe
         .as_slice()
         .split_at_checked(2 * set.read_quorum() as usize)
         .unwrap_or((&[], &[]));
-    if !encoded(alloc, set, blocks, 2).is_some_and(|made| made.as_slice() == rest) {
+    if !encoded(alloc, *set, blocks, 2).is_some_and(|made| made.as_slice() == rest) {
         return Ok(false);
     }
     for lost in 0..1u32 << drives {
