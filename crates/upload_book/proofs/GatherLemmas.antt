@@ -1,5 +1,5 @@
 -- Lists of parts.
-use Rattle.std.proofs.Common.{◌≡◌, ℕ, ◌+◌, ◌<◌, ◌≤◌, Bool, true, false, ◌&&◌, List, [], ◌∷◌, length, ◌++◌, map, take, drop, get_or, Option, Some, None, Result, Ok, Err, refl, ap, subst, ◌∙◌, arith}
+use Rattle.std.proofs.Common.{◌≡◌, ℕ, ◌+◌, ◌<◌, ◌≤◌, Bool, true, false, List, [], ◌∷◌, length, ◌++◌, map, take, get_or, Option, Some, None, Result, Ok, Err, refl, ap, subst, ◌∙◌, arith}
 use Rattle.std.specs.Prelude.{MatchBool, nat_lt}
 use Rattle.std.specs.List.{AllByRecursion, filter_map, list_all, cons_option}
 use Rattle.std.proofs.lemmas.Bool.{ltb-true}
@@ -7,14 +7,12 @@ use Rattle.std.proofs.lemmas.List.{take_more}
 use Rattle.std.proofs.lemmas.List.Elements.{filter_map-append}
 use Rattle.std.specs.Option.{option_to_list}
 use Rattle.stamp_id.proofs.IdTests.{both_true}
-use Rattle.stamp_id.specs.declared.version.VersionId.{VersionId}
 use Rattle.call_types.specs.declared.version.PartRecord.{PartRecord}
 use Rattle.call_types.specs.declared.refusal.KeyRefusal.{KeyRefusal}
 use Rattle.call_types.specs.declared.refusal.KeyRefusal.TheVariants.{NoSuchUpload, PartOrder}
-use Rattle.version_list.specs.declared.state.KeyState.{KeyState}
 use Rattle.upload_book.specs.declared.gathering.ListedPart.{ListedPart}
 use Rattle.upload_book.specs.Storing.{is_open}
-use Rattle.upload_book.specs.Gathering.{number_of, part_of, listed_number, found_of, is_rising_above, has_md5, is_found, parts_of, Checks, Gathers}
+use Rattle.upload_book.specs.Gathering.{number_of, part_of, listed_number, found_of, is_rising_above, has_md5, is_found, parts_of}
 use Rattle.upload_book.specs.Laws.{RisingAreFew, ChecksAreFirst, FoundAreAll}
 
 few_above : (limit before : ℕ) (numbers : List ℕ) → before ≤ limit → AllByRecursion (λ (n : ℕ). n ≤ limit) numbers → is_rising_above before numbers ≡ true → before + length numbers ≤ limit
