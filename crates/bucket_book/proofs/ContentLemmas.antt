@@ -3,11 +3,11 @@ use Rattle.std.proofs.Common.{◌≡◌, ℕ, Bool, true, cond, ◌==◌, List, 
 use Rattle.std.proofs.Math.Dec.{eqb-suc-zero}
 use Rattle.std.proofs.lemmas.Bool.{eqb-true}
 use Rattle.field_reader.specs.Format.{place_of, fault_at}
-use Rattle.field_reader.specs.Spelling.{IsBytes, number_bytes}
+use Rattle.field_reader.specs.Spelling.{number_bytes}
 use Rattle.sealed_record.specs.Table.{spelling_of}
 use Rattle.sealed_record.proofs.LawProofs.{faultless, injective}
 use Rattle.bucket_book.specs.declared.record.BucketRecord.{BucketRecord}
-use Rattle.bucket_book.specs.Table.{IsCanonical, bucket, bucket_table}
+use Rattle.bucket_book.specs.Table.{bucket, bucket_table}
 use Rattle.bucket_book.specs.Content.{content_of, content_fault, IsCanonicalRow}
 use Rattle.bucket_book.specs.Laws.{ContentsHaveNoFault, FaultlessIsContent, ContentIsInjective}
 use Rattle.bucket_book.proofs.Lawful.{bucket_lawful}

@@ -9,7 +9,6 @@ use Rattle.sealed_record.proofs.Chains.{then_field, told, ruled}
 use Rattle.sealed_record.proofs.Rows.{Matches, lawful_table}
 use Rattle.call_types.specs.declared.names.Mode.{Mode}
 use Rattle.call_types.specs.declared.names.Mode.TheVariants.{Never, Enabled, Suspended}
-use Rattle.bucket_book.specs.declared.record.BucketRecord.{BucketRecord}
 use Rattle.bucket_book.specs.Table.{BucketRow, mode_number, row_of, is_moment, is_mode, bucket, bytes_of, IsCanonical, bucket_table}
 
 record IsRow (r : BucketRow) : Type 0 where

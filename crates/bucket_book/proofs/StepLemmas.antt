@@ -1,12 +1,10 @@
 -- The laws of steps, act by act.
-use Rattle.std.proofs.Common.{◌≡◌, ◌≢◌, ℕ, Option, Some, None, refl, sym, ap, ◌∙◌}
-use Rattle.call_types.specs.declared.names.Mode.{Mode}
+use Rattle.std.proofs.Common.{◌≡◌, Option, Some, None, refl, sym, ◌∙◌}
 use Rattle.call_types.specs.declared.names.Mode.TheVariants.{Never, Enabled, Suspended}
 use Rattle.call_types.specs.declared.reply.Reply.{Reply}
 use Rattle.bucket_book.specs.declared.record.BucketRecord.{BucketRecord}
-use Rattle.bucket_book.specs.declared.step.BucketAct.{BucketAct}
 use Rattle.bucket_book.specs.declared.step.BucketAct.TheVariants as act
-use Rattle.bucket_book.specs.Step.{Step, IsLawful, Leaves, with_mode}
+use Rattle.bucket_book.specs.Step.{Leaves, with_mode}
 use Rattle.bucket_book.specs.Laws.{IsLater, BucketsStay, StepsAreOne}
 
 -- what leaves a reply and a row leaves no others

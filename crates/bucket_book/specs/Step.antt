@@ -5,7 +5,6 @@ use Rattle.call_types.specs.declared.names.Mode.{Mode}
 use Rattle.call_types.specs.declared.names.Mode.TheVariants.{Never, Enabled, Suspended}
 use Rattle.call_types.specs.declared.reply.Reply.{Reply}
 use Rattle.call_types.specs.declared.reply.Reply.TheVariants as reply
-use Rattle.call_types.specs.declared.refusal.Refusal.{Refusal}
 use Rattle.call_types.specs.declared.refusal.Refusal.TheVariants.{NoSuchBucket, BucketThere}
 use Rattle.bucket_book.specs.declared.record.BucketRecord.{BucketRecord}
 use Rattle.bucket_book.specs.declared.step.BucketAct.{BucketAct}

@@ -1,7 +1,7 @@
 //! Rows as contents of registers.
 
 ghost use Rattle.std.specs.Prelude.{◌≡◌, IfOk};
-ghost use Rattle.bucket_book.specs.Content.{content_of, content_fault, IsCanonicalRow, ReadsContent, ReadsRows};
+ghost use Rattle.bucket_book.specs.Content.{content_of, IsCanonicalRow, ReadsContent, ReadsRows};
 ghost use Rattle.bucket_book.specs.Laws.{ContentsHaveNoFault, FaultlessIsContent, ContentIsInjective};
 
 use crate::record::BucketRecord;

@@ -1,6 +1,6 @@
 //! Ranges and their spans.
 
-ghost use Rattle.std.specs.Prelude.{◌≡◌, ◌↔◌, ◌≤◌, IsTrue};
+ghost use Rattle.std.specs.Prelude.{◌≡◌, ◌↔◌, IsTrue};
 ghost use Rattle.call_types.specs.declared.refusal.Refusal.TheVariants as refusal;
 ghost use Rattle.call_types.specs.declared.names.RangeAsk.TheVariants.{FromTo, Last};
 ghost use Rattle.span_plan.specs.Span.{Plans, IsPartial};

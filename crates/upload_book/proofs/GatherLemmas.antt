@@ -1,21 +1,19 @@
 -- Lists of parts.
-use Rattle.std.proofs.Common.{◌≡◌, ℕ, ◌+◌, ◌<◌, ◌≤◌, Bool, true, false, ◌&&◌, List, [], ◌∷◌, length, ◌++◌, map, take, drop, get_or, Option, Some, None, Result, Ok, Err, refl, ap, subst, ◌∙◌, arith}
+use Rattle.std.proofs.Common.{◌≡◌, ℕ, ◌+◌, ◌<◌, ◌≤◌, Bool, true, false, List, [], ◌∷◌, length, ◌++◌, map, take, get_or, Option, Some, None, Result, Ok, Err, refl, ap, subst, ◌∙◌, arith}
 use Rattle.std.specs.Prelude.{MatchBool, nat_lt}
-use Rattle.std.specs.List.{AllByRecursion, filter_map}
+use Rattle.std.specs.List.{AllByRecursion, filter_map, list_all, cons_option}
 use Rattle.std.proofs.lemmas.Bool.{ltb-true}
 use Rattle.std.proofs.lemmas.List.{take_more}
 use Rattle.std.proofs.lemmas.List.Elements.{filter_map-append}
 use Rattle.std.specs.Option.{option_to_list}
 use Rattle.stamp_id.proofs.IdTests.{both_true}
-use Rattle.stamp_id.specs.declared.version.VersionId.{VersionId}
 use Rattle.call_types.specs.declared.version.PartRecord.{PartRecord}
 use Rattle.call_types.specs.declared.refusal.KeyRefusal.{KeyRefusal}
 use Rattle.call_types.specs.declared.refusal.KeyRefusal.TheVariants.{NoSuchUpload, PartOrder}
-use Rattle.version_list.specs.declared.state.KeyState.{KeyState}
 use Rattle.upload_book.specs.declared.gathering.ListedPart.{ListedPart}
 use Rattle.upload_book.specs.Storing.{is_open}
-use Rattle.upload_book.specs.Gathering.{number_of, part_of, listed_number, found_of, is_rising_above, parts_of, Checks, Gathers}
-use Rattle.upload_book.specs.Laws.{RisingAreFew, ChecksAreFirst}
+use Rattle.upload_book.specs.Gathering.{number_of, part_of, listed_number, found_of, is_rising_above, has_md5, is_found, parts_of}
+use Rattle.upload_book.specs.Laws.{RisingAreFew, ChecksAreFirst, FoundAreAll}
 
 few_above : (limit before : ℕ) (numbers : List ℕ) → before ≤ limit → AllByRecursion (λ (n : ℕ). n ≤ limit) numbers → is_rising_above before numbers ≡ true → before + length numbers ≤ limit
 few_above limit before [] fits all e = omega arith
@@ -65,3 +63,14 @@ one_part l = some_part l.found
 pub more_parts : (listed : List ListedPart) (i : ℕ) (d : ListedPart) → i < length listed → parts_of (take (i + 1) listed) ≡ parts_of (take i listed) ++ option_to_list (get_or listed i d).found
 more_parts listed i d lt =
     ap parts_of (take_more listed i d lt) ∙ filter_map-append found_of (take i listed) (get_or listed i d ∷ []) ∙ ap (λ (ps : List PartRecord). parts_of (take i listed) ++ ps) (one_part (get_or listed i d))
+
+-- what is found is among the parts
+found_more : (md5 : List ℕ) (o : Option PartRecord) (ps : List PartRecord) → has_md5 md5 o ≡ true → map (λ (p : PartRecord). Some p) (cons_option o ps) ≡ o ∷ map (λ (p : PartRecord). Some p) ps
+found_more md5 None ps e = absurd cc
+found_more md5 (Some p) ps e = refl
+
+pub found_all : FoundAreAll
+found_all [] e = refl
+found_all (l ∷ ls) e =
+    let both = both_true (is_found l) (list_all is_found ls) e in
+    found_more l.part.md5 l.found (parts_of ls) both.0 ∙ ap (λ (os : List (Option PartRecord)). l.found ∷ os) (found_all ls both.1)

@@ -1,6 +1,6 @@
 -- What reading, writing and the steps of parts promise of each other.
-use Rattle.std.specs.Prelude.{◌≡◌, ℕ, ◌≤◌, List, length, map, Option, None, true, Err}
-use Rattle.std.specs.List.{AllByRecursion}
+use Rattle.std.specs.Prelude.{◌≡◌, ℕ, ◌≤◌, List, length, map, Option, Some, None, true, Err}
+use Rattle.std.specs.List.{AllByRecursion, list_all}
 use Rattle.field_reader.specs.Spelling.{IsBytes}
 use Rattle.stamp_id.specs.declared.version.VersionId.{VersionId}
 use Rattle.call_types.specs.declared.version.PartRecord.{PartRecord}
@@ -8,7 +8,7 @@ use Rattle.call_types.specs.declared.refusal.KeyRefusal.{KeyRefusal}
 use Rattle.version_list.specs.declared.state.KeyState.{KeyState}
 use Rattle.upload_book.specs.declared.gathering.ListedPart.{ListedPart}
 use Rattle.upload_book.specs.Content.{content_of, content_fault, IsCanonicalRow}
-use Rattle.upload_book.specs.Gathering.{part_of, is_rising_above, Checks, Gathers}
+use Rattle.upload_book.specs.Gathering.{part_of, found_of, is_rising_above, is_found, parts_of, Checks, Gathers}
 
 -- The content of a row has no fault.
 abbrev pub ContentsHaveNoFault : Type 0
@@ -29,3 +29,7 @@ RisingAreFew = (limit : ℕ) (numbers : List ℕ) → AllByRecursion (λ n. n �
 -- A refusal that needs no part's register is the one that is due, whatever the registers hold.
 abbrev pub ChecksAreFirst : Type 0
 ChecksAreFirst = (key : KeyState) (upload : VersionId) (listed : List ListedPart) (why : KeyRefusal) → Checks key upload (map part_of listed) (Err why) → Gathers key upload listed (Err why)
+
+-- Where each listed part is found, the parts are what was found, in the order listed.
+abbrev pub FoundAreAll : Type 0
+FoundAreAll = (listed : List ListedPart) → list_all is_found listed ≡ true → map (λ (p : PartRecord). Some p) (parts_of listed) ≡ map found_of listed

@@ -5,7 +5,7 @@ ghost use Rattle.std.specs.List.{list_all};
 ghost use Rattle.std.specs.Option.{option_to_list};
 ghost use Rattle.upload_book.specs.Gathering.{number_of, listed_number, is_rising_above, is_found, is_large, all_but_last, parts_of, Checks, AnswersGather};
 ghost use Rattle.upload_book.specs.declared.gathering.GatherFault.TheVariants.{Refused, NoMemory};
-ghost use Rattle.upload_book.specs.Laws.{RisingAreFew, ChecksAreFirst};
+ghost use Rattle.upload_book.specs.Laws.{RisingAreFew, ChecksAreFirst, FoundAreAll};
 
 use crate::storing::is_open;
 use call_types::{KeyRefusal, Listing, PartRecord, PartRef};
@@ -169,9 +169,10 @@ fn are_large(parts: &[PartRecord]) -> bool
     others.iter().all(|part| part.length >= PART_LEAST)
 }
 
-/// The laws of lists of parts, for a caller's proof: rising numbers up to a limit are no more than that many, and a
-/// refusal of `check_listed` is that of `gather`. It does nothing.
+/// The laws of lists of parts, for a caller's proof: rising numbers up to a limit are no more than that many, a refusal
+/// of `check_listed` is that of `gather`, and parts that are all found are gathered as found. It does nothing.
 pub fn gather_laws()
     ensures few { RisingAreFew }
     ensures first { ChecksAreFirst }
+    ensures all { FoundAreAll }
 {}

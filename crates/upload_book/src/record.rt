@@ -1,6 +1,5 @@
 //! The record of a part as it is spelled.
 
-ghost use Rattle.std.specs.Prelude.{◌≡◌};
 ghost use Rattle.std.specs.Int.{w64};
 ghost use Rattle.field_reader.specs.Format.{number, with_rule};
 ghost use Rattle.field_reader.specs.Reading.{Takes};
