@@ -3,8 +3,8 @@
 
     tools/measure_gate.py COMMAND..      runs the command, as `rt ci`, and prints a table when it has ended
 
-It looks each second at the provers that run, and adds up the processor time that each of them had used when it was last
-seen. Of a crate that an earlier run kept nothing is seen, so measure where nothing is kept. Start no other prover beside it.
+It looks each second at the provers that the command has started, and adds up the processor time that each of them had used
+when it was last seen. Of a crate that an earlier run kept nothing is seen, so measure where nothing is kept.
 """
 
 import collections
@@ -21,10 +21,24 @@ def words_of(process):
     return (process / "cmdline").read_bytes().decode(errors="replace").split("\0")
 
 
+def fields_of(process):
+    """The fields of a process's line from its state on (proc(5))."""
+    return (process / "stat").read_text().rpartition(")")[2].split()
+
+
 def seconds_of(process):
     """The processor seconds of a process and of its children that have ended."""
-    fields = (process / "stat").read_text().rpartition(")")[2].split()
-    return sum(int(field) for field in fields[11:15]) / TICKS
+    return sum(int(field) for field in fields_of(process)[11:15]) / TICKS
+
+
+def is_below(process, ancestor):
+    """Whether a process was started by another, or by one that it started."""
+    number = int(process.name)
+    while number > 1:
+        if number == ancestor:
+            return True
+        number = int(fields_of(pathlib.Path("/proc") / str(number))[1])
+    return False
 
 
 def kind_of(words, folder):
@@ -35,14 +49,16 @@ def kind_of(words, folder):
     return "proof"
 
 
-def look(seen):
-    """Notes the processor time of each prover that runs now."""
+def look(seen, ancestor):
+    """Notes the processor time of each prover that runs now for the command."""
     for process in pathlib.Path("/proc").iterdir():
         if not process.name.isdigit():
             continue
         try:
             words = words_of(process)
             if not words[0].endswith("/rattle") or "--crate-name" not in words:
+                continue
+            if not is_below(process, ancestor):
                 continue
             crate = words[words.index("--crate-name") + 1]
             kind = kind_of(words, os.readlink(process / "cwd"))
@@ -69,7 +85,7 @@ def main():
     seen = {}
     run = subprocess.Popen(sys.argv[1:])
     while run.poll() is None:
-        look(seen)
+        look(seen, run.pid)
         time.sleep(1)
     print_table(seen)
     return run.returncode
