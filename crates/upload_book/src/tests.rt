@@ -2,7 +2,7 @@ ghost use Rattle.std.specs.Prelude.{IfSome};
 ghost use Rattle.upload_book.specs.Content.{IsCanonicalRow};
 
 use super::*;
-use call_types::{KeyRefusal, ListRead, Listing, PartRecord, PartRef, Reply, Upload};
+use call_types::{Etag, KeyRefusal, ListRead, Listing, PartRecord, PartRef, Reply, Upload};
 use seal_file::Text;
 use stamp_id::{Ballot, ChangeId, VersionId};
 use std::alloc::Global;
@@ -179,10 +179,14 @@ fn stores_parts(rt: HostRuntime) -> Result<(), Fail> {
         assert!(rt; false, "the upload is open");
         return Ok(());
     };
-    assert!(rt; stored.part == part(3, PART_MD5, 11));
-    assert!(rt;
-        matches!(stored.reply, Reply::Stored { etag, id: None } if etag.md5 == PART_MD5 && etag.parts == 0)
-    );
+    let want = Reply::Stored {
+        etag: Etag {
+            md5: PART_MD5,
+            parts: 0,
+        },
+        id: None,
+    };
+    assert!(rt; stored.part == part(3, PART_MD5, 11) && stored.reply == want);
     assert!(rt; store_part(&key, id(9), &given, 11).err() == Some(KeyRefusal::NoSuchUpload));
     Ok(())
 }
