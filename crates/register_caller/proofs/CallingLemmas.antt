@@ -1,5 +1,5 @@
 -- What a caller of the register concludes: lanes that a look left, and the premises of a forward.
-use Rattle.std.proofs.Common.{◌≡◌, ◌<◌, ◌∙◌, ℕ, List, Option, Some, None, length, map, ap, subst, sym, refl, inl, inr, arith}
+use Rattle.std.proofs.Common.{◌≡◌, ◌<◌, ◌≤◌, ◌+◌, ◌∙◌, ℕ, List, Option, Some, None, length, map, ap, subst, sym, refl, inl, inr, arith}
 use Rattle.std.specs.Prelude.{Bool, IsTrue, Contains, slice_index_or}
 use Rattle.std.proofs.lemmas.List.Elements.{Contains-get_or}
 use Rattle.call_types.specs.Good.{is_good}
@@ -20,11 +20,14 @@ use Rattle.register_caller.specs.Calling.{IsDrawnAfter, IsSettled, IsValueIfOk, 
 use Rattle.register_core.specs.Keeping.{IsMarked, MarkMoves, MayPropose}
 use Rattle.register_core.specs.Loose.{loose_name}
 use Rattle.register_core.specs.OnLanes.{AllTell, AreLanes, AreUnused}
-use Rattle.register_core.specs.Proposing.{quorum_of}
+use Rattle.register_core.specs.Proposing.{Marks, Proposes, quorum_of}
 use Rattle.register_core.specs.Records.{HasLane, again_of, base_of, marked_base, next_of}
 use Rattle.register_core.specs.Seen.{FindsValueOr}
 use Rattle.register_core.specs.declared.drafts.Draft.{Draft}
+use Rattle.register_core.specs.declared.faults.QuorumFault.{QuorumFault}
+use Rattle.register_core.specs.declared.faults.QuorumFault.TheVariants.{ReadQuorum, WriteQuorum, Undecided, NoMemory}
 use Rattle.register_core.specs.declared.looked.Looked.{Looked}
+use Rattle.register_core.specs.declared.proposing.Prepared.{Prepared}
 use Rattle.std.specs.Prelude.{Result, Ok, Err}
 
 module _ {D : Type 0} (tells : D → Bool) (files : D → Files) where
@@ -50,6 +53,28 @@ module _ {D : Type 0} (tells : D → Bool) (files : D → Files) where
   unused_after_look out term number old new long stay told unused k d later below in_use from fits =
       let low : k < length old = omega arith in
       ap (λ (f : Files). f.loose (loose_name term later)) (stay k d low (told k d low in_use)) ∙ unused k d later low in_use from fits
+
+module _ {D : Type 0} (tells : D → Bool) (files : D → Files) (faults : D → ℕ) where
+  -- a proposal uses up at most one number for each lane
+  pub propose_few : (draft : Draft) (out term from to : ℕ) (result : Result Prepared QuorumFault) (old new : List D)
+      → Proposes tells files faults draft out term from to result old new → to ≤ from + length old
+  propose_few draft out term from to (Ok took) old new is = is.2.few
+  propose_few draft out term from to (Err (ReadQuorum whys)) old new is = absurd is
+  propose_few draft out term from to (Err (WriteQuorum whys)) old new is = elim is [
+    | inl unbegun ↦ let used = unbegun.none_used in omega arith
+    | inr refused ↦ refused.2.few
+  ]
+  propose_few draft out term from to (Err (Undecided k u whys)) old new is = absurd is
+  propose_few draft out term from to (Err NoMemory) old new is = absurd is
+
+  -- and so does a mark
+  pub mark_few : (draft : Draft) (took : Prepared) (term from to : ℕ) (result : Result (List Why) QuorumFault) (later : Draft) (old new : List D)
+      → Marks tells files faults draft took term from to result later old new → to ≤ from + length old
+  mark_few draft took term from to (Ok whys) later old new is = is.2.few
+  mark_few draft took term from to (Err (ReadQuorum whys)) later old new is = absurd is
+  mark_few draft took term from to (Err (WriteQuorum whys)) later old new is = is.2.few
+  mark_few draft took term from to (Err (Undecided k u whys)) later old new is = absurd is
+  mark_few draft took term from to (Err NoMemory) later old new is = absurd is
 
 -- lanes that were left as they are
 pub left_settled : {E : Type 0} → DrawingKeeps → (w last later c : ℕ) (content : List ℕ) (result : Result Base E) (lanes : List Lane) → last < later
@@ -138,7 +163,7 @@ module _ {D : Type 0} (tells : D → Bool) (files : D → Files) where
       let here : HoldsValue (quorum_of draft) last lanes c content =
       subst (λ (s : SetPlan). HoldsValue (write_drives s.drives s.parity) last lanes c content) (sym plan) holds in
       subst (λ (s : SetPlan). MarkMoves result (write_drives s.drives s.parity) (rank_of ballot) c content (next_of (again_of looked.base ballot found)) wrote.after) plan
-      (wrote.value last (rank_of ballot) c content
+      (wrote.leaves.value last (rank_of ballot) c content
       (may_forward above (quorum_of draft) last c content lanes looked found ballot draft.letters here low finds (ap (map is_good) letters ∙ on)))
 
 -- a forward that was marked

@@ -1,12 +1,12 @@
 -- What a caller of the register concludes from its contracts.
-use Rattle.std.specs.Prelude.{◌≡◌, ◌⊎◌, ◌<◌, ◌≤◌, ℕ, Bool, List, Contains, Result, Ok, Err, string_bytes}
+use Rattle.std.specs.Prelude.{◌≡◌, ◌≢◌, ◌⊎◌, ◌<◌, ◌≤◌, ℕ, Bool, List, Contains, Result, Ok, Err, string_bytes}
 use Rattle.call_types.specs.declared.why.Why.{Why}
 use Rattle.drive_base.specs.Files.{Files}
 use Rattle.register_file.specs.declared.record.Base.{Base}
 use Rattle.register_file.specs.declared.record.Next.{Next}
 use Rattle.stamp_id.specs.Rank.{change_of}
 use Rattle.vote_core.specs.Lane.{Lane, HasNext, Base as LaneBase, Next as LaneNext}
-use Rattle.vote_core.specs.Loops.{Stands, marked}
+use Rattle.vote_core.specs.Loops.{IsFreshChange, Stands, marked}
 use Rattle.vote_core.specs.Sound.{HoldsValue, IsLive}
 use Rattle.register_core.specs.Keeping.{IsMarked, MarkMoves, MayPropose}
 use Rattle.register_core.specs.OnLanes.{AllTell, AreLanes, AreUnused}
@@ -23,6 +23,24 @@ pub record IsLateStep (lanes : List Lane) (c now : ℕ) (shows : List ℕ) : Typ
   pub live : IsLive lanes c lane next
   pub change_is : now ≡ next.change
   pub content_is : shows ≡ next.content
+
+-- what may become the value after writes could so before
+abbrev pub LiveIsLate : List Lane → ℕ → List Lane → ℕ → Type 0
+LiveIsLate lanes c after now = (a : Lane) (next : LaneNext) → Contains after a → HasNext a next → IsLive after now a next
+    → IsLateStep lanes c next.change next.content
+
+-- it could so before, or it is the change that was written
+abbrev pub LiveIsLateOr : List Lane → ℕ → List Lane → ℕ → ℕ → List ℕ → Type 0
+LiveIsLateOr lanes c after now change content = (a : Lane) (next : LaneNext) → Contains after a → HasNext a next → IsLive after now a next
+    → IsLateStep lanes c next.change next.content ⊎ ((next.change ≡ change) × (next.content ≡ content))
+
+-- what both writes of a change leave of lanes on which it may be proposed: the value moves by the result, what may become the value then could so before
+-- or is this change, and a change that is fresh stays so
+pub record BothLeave {T E : Type 0} (w : ℕ) (letters : List Why) (base : LaneBase) (next : LaneNext) (result : Result T E) (lanes after : List Lane) : Type 0 where
+  pub value : (last later c : ℕ) (content : List ℕ) → MayPropose w last later lanes c content letters base next → MarkMoves result w later c content next after
+  pub live : (last later c now : ℕ) (content shows : List ℕ) → MayPropose w last later lanes c content letters base next → HoldsValue w later after now shows
+      → LiveIsLateOr lanes c after now next.change next.content
+  pub fresh : (other : ℕ) → IsFreshChange lanes other → base.change ≢ other → next.change ≢ other → IsFreshChange after other
 
 -- the numbers of a change of one's own over the value's change c were drawn after the last one, the change before its ballot
 pub record IsDrawnAfter (last later c : ℕ) (next : LaneNext) : Type 0 where
@@ -67,8 +85,7 @@ module _ {D : Type 0} (tells : D → Bool) (files : D → Files) where
     pub tell : AllTell tells out new
     pub unused : AreUnused files out term to new
     pub are : AreLanes files out (string_bytes draft.name) new after
-    pub value : (last later c : ℕ) (content : List ℕ) → MayPropose (quorum_of draft) last later lanes c content draft.letters (base_of base) (next_of next)
-        → MarkMoves result (quorum_of draft) later c content (next_of next) after
+    pub leaves : BothLeave (quorum_of draft) draft.letters (base_of base) (next_of next) result lanes after
 
   -- the lanes after a settlement
   pub record Settles {E : Type 0} (out : ℕ) (name : List ℕ) (w later c : ℕ) (content : List ℕ) (result : Result Base E) (new : List D) (lanes : List Lane) : Type 0 where

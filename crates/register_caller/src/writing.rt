@@ -11,6 +11,7 @@ ghost use Rattle.register_caller.specs.Calling.{WroteBoth};
 use call_types::Whys;
 use drive_base::{Drive, DriveSet};
 use register_core::{Draft, QuorumFault, mark, propose};
+use vote_core::{fresh_laws, live_laws, value_laws};
 
 /// Writes both files of a draft: proposes the change, and marks it where enough lanes took it.
 pub fn write_both<D: Drive>(
@@ -28,7 +29,11 @@ pub fn write_both<D: Drive>(
         → AreUnused D.files out term count.old lanes.old → AreLanes D.files out (string_bytes draft.old.name) lanes.old recorded
         → WroteBoth D.tells D.files draft.old out term count.new base next result lanes.new recorded }
     ensures value { draft.new.value ≡ draft.old.value }
+    ensures count { count.new ≤ count.old + 2 * draft.old.set.drives }
 {
+    live_laws();
+    fresh_laws();
+    value_laws();
     let prepared = match propose(lanes, out, draft, term, count) {
         Ok(prepared) => prepared,
         Err(fault) => return Err(fault),

@@ -1,8 +1,11 @@
 use Rattle.std.proofs.Common.{◌≡◌, ℕ, List, string_bytes, ap, inl, refl, subst, sym, arith}
+use Rattle.std.specs.Prelude.{Ok, Err}
 use Rattle.register_core.specs.OnLanes.{AllTell, AreLanes, AreUnused}
-use Rattle.register_core.specs.Records.{base_of}
+use Rattle.register_core.specs.Records.{base_of, next_of}
 use Rattle.register_core.specs.declared.drafts.Draft.{Draft}
-use Rattle.register_caller.proofs.CallingLemmas.{tell_after}
+use Rattle.register_core.specs.Proposing.{quorum_of}
+use Rattle.register_caller.proofs.LiveLemmas.{fresh_after_mark, fresh_after_prepare, live_after_both, live_refused}
+use Rattle.register_caller.proofs.CallingLemmas.{mark_few, propose_few, tell_after}
 use Rattle.register_caller.proofs.writing.write_both.Goals as goal
 
 pub returns-in-Err : goal.returns-in-Err
@@ -14,9 +17,18 @@ returns-in-Err g c = record {
         tell = tell_after g.D.Drive.tells g.D.Drive.files c.args.out c.args.lanes.now c.propose.new.lanes (omega (arith, c.propose.auto.lanes)) c.in-Err.ensures.tells told;
         unused = (c.in-Err.ensures.drives told unused).unused;
         are = kept.are;
-        value = λ last later change content may. inl ((kept.leaves.value last later change content may).holds);
+        leaves = record {
+          value = λ last later change content may. inl ((kept.leaves.value last later change content may).holds);
+          live = λ last later change now content shows may here. live_refused c.live_laws.ensures.old_or_own c.value_laws.ensures.one
+              (quorum_of c.args.draft.now) last later change now content shows recorded kept.after (base_of base) (next_of next) may.holds
+              (kept.leaves.value last later change content may).holds kept.left here;
+          fresh = λ other is_fresh base_else next_else. fresh_after_prepare c.fresh_laws.ensures.change other recorded kept.after (base_of base) (next_of next)
+              is_fresh base_else next_else kept.left;
+        };
       };
   value = refl;
+  count = (let one = propose_few g.D.Drive.tells g.D.Drive.files g.D.Drive.count c.args.draft.now c.args.out c.args.term c.args.count.now c.propose.new.count
+      (Err c.in-Err.fault) c.args.lanes.now c.propose.new.lanes c.in-Err.ensures.outcome in let long = c.requires.drives in omega arith);
 }
 
 pub returns : goal.returns
@@ -42,9 +54,25 @@ returns g c = record {
         tell = tell_after tells files out mid new (omega (arith, c.mark.auto.lanes)) c.mark.ensures.tells tell;
         unused = subst (λ (o : ℕ). AreUnused files o c.args.term c.mark.new.count new) same (c.mark.ensures.drives tell_took unused_took).unused;
         are = subst (λ (o : ℕ). AreLanes files o name new marks.after) same marks.are;
-        value = λ last later change content may.
-            let stays = kept.leaves.value last later change content may in
-            marks.value (base_of base) later change content (record { holds = stays.holds; ready = stays.ready; took = kept.took });
+        leaves = record {
+          value = λ last later change content may.
+              let stays = kept.leaves.value last later change content may in
+              marks.value (base_of base) later change content (record { holds = stays.holds; ready = stays.ready; took = kept.took });
+          live = λ last later change now content shows may here.
+              let stays = kept.leaves.value last later change content may in
+              live_after_both c.live_laws.ensures.old_or_own c.live_laws.ensures.marked c.value_laws.ensures.one c.mark.result
+              (quorum_of c.args.draft.now) last later change now content shows recorded kept.after marks.after (base_of base) (next_of next)
+              may.holds stays.holds stays.ready kept.left marks.left
+              (marks.value (base_of base) later change content (record { holds = stays.holds; ready = stays.ready; took = kept.took })) here;
+          fresh = λ other is_fresh base_else next_else. fresh_after_mark c.fresh_laws.ensures.change other kept.after marks.after (next_of next)
+              (fresh_after_prepare c.fresh_laws.ensures.change other recorded kept.after (base_of base) (next_of next) is_fresh base_else next_else kept.left)
+              next_else marks.left;
+        };
       };
   value = ap (λ (d : Draft). d.value) c.mark.ensures.draft;
+  count = (let one = propose_few g.D.Drive.tells g.D.Drive.files g.D.Drive.count c.args.draft.now c.args.out c.args.term c.args.count.now c.propose.new.count
+      (Ok c.in-Ok.prepared) c.args.lanes.now c.propose.new.lanes c.in-Ok.ensures.outcome in
+      let two = mark_few g.D.Drive.tells g.D.Drive.files g.D.Drive.count c.args.draft.now c.in-Ok.prepared c.args.term c.propose.new.count c.mark.new.count
+      c.mark.result c.mark.new.draft c.propose.new.lanes c.mark.new.lanes c.mark.ensures.outcome in
+      let long = c.requires.drives in let same = c.propose.auto.lanes in omega arith);
 }
