@@ -1,3 +1,4 @@
+pub mod Feeds
 pub mod Good
 pub mod Letters
 pub mod Refusals

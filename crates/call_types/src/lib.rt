@@ -10,6 +10,7 @@
 
 mod act;
 mod clones;
+mod feed;
 mod list;
 mod names;
 mod refusal;
@@ -18,6 +19,7 @@ mod version;
 mod why;
 
 pub use act::{Act, Brief};
+pub use feed::{Cut, Feed};
 pub use list::Listing;
 pub use names::{Etag, Key, Mode, Pick, RangeAsk, Span, VersionName};
 pub use refusal::{KeyRefusal, ListRead, Refusal};
