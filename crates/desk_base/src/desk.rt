@@ -1,0 +1,58 @@
+//! What serves calls.
+
+ghost use Rattle.std.specs.Prelude.{◌≡◌, ◌<◌, ℕ, Result};
+ghost use Rattle.call_types.specs.Feeds.{FeedView};
+ghost use Rattle.call_types.specs.declared.feed.Cut.{Cut};
+ghost use Rattle.desk_base.specs.Calls.{IsFeedOf, IsLawful};
+ghost use Rattle.desk_base.specs.Answering.{CallTells, CutCause, Task, TellerView, teller_of};
+
+use crate::call::Call;
+use crate::teller::Teller;
+use call_types::{Cut, Feed};
+use std::alloc::Global;
+
+/// Is told between two steps of a call, where nothing is held and others may work.
+pub trait Gate {
+    /// A step of a call was done: of the slot of its key, of that of its bucket where it has no key, and of 0 where it has neither.
+    fn between(&self, slot: u8);
+}
+
+/// Serves calls. It says by `answers` what each call does.
+pub trait Desk {
+    /// The way of one caller to what the desk serves.
+    type Pass;
+
+    /// What a call gives beside its reply: what was done for it.
+    type Receipt;
+
+    /// What a pass holds that no call changes, as plain data.
+    ghost Holds: { Type 0 };
+
+    /// That of a pass.
+    ghost holds: { Self.Pass → Holds };
+
+    /// What a call comes to: the desk, the call and its moment, the pass before and after, what was taken of the body and what was told, and the
+    /// receipt, or why it was cut.
+    ghost answers: { Self → Task → Self.Pass → Self.Pass → FeedView → FeedView → TellerView → TellerView → Result Self.Receipt Cut → Type 0 };
+
+    /// Serves a call: takes its body from the feed, which states the call's length and has given nothing yet, and tells the whole reply to the
+    /// teller. `now` is the Unix second of the call, one that the clock gave before it. The answer is the receipt, or why the call was cut:
+    /// the feed's error or the teller's, want of memory, or `ShardCut` for a body of which too few drives had a shard after its head was told.
+    fn call<F: Feed, T: Teller>(
+        &self,
+        alloc: Global,
+        pass: &mut Self::Pass,
+        call: &Call,
+        now: u64,
+        feed: &mut F,
+        teller: &mut T,
+    ) -> Result<Self::Receipt, Cut>
+        requires lawful { IsLawful call.now }
+        requires feed { IsFeedOf (F.seen feed.old) call.now }
+        requires moment { now < 253402300800 }
+        ensures tells { CallTells call.now result (T.tale teller.old) (T.tale teller.new) }
+        ensures cause { CutCause result (F.seen feed.new) (F.faults feed.old) (F.faults feed.new) (T.faults teller.old) (T.faults teller.new) }
+        ensures holds { holds pass.new ≡ holds pass.old }
+        ensures answers { answers self.now (record { call = call.now; now = now }) pass.old pass.new (F.seen feed.old) (F.seen feed.new)
+            (teller_of (T.tale teller.old) (T.faults teller.old)) (teller_of (T.tale teller.new) (T.faults teller.new)) result };
+}
