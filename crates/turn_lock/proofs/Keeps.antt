@@ -198,7 +198,7 @@ module _ {T N : Type 0} (turn : T → ℕ) (name : T → N) (of : T) where
 
     -- where one pass has all parts and no turn, the value is at home, and it drew all tickets
     pub closes : v.parts ≡ 65536 → v.ticket ≡ None → v.out ≡ false
-        → (value : T) × (home ≡ maybe.some (Some value)) × (name value ≡ name of) × (v.seen ≤ turn value) × ((x : ℕ) → times x v.drawn ≡ between (turn of) (turn value) x)
+        → (value : T) × (home ≡ maybe.some (Some value)) × (name value ≡ name of) × (v.seen ≤ turn value) × ((x : ℕ) → times x v.drawn ≡ between (turn of) (turn value) x) × (v.looked ≤ turn value)
     closes all none not_out =
         let others : (i : ℕ) (u : View T) → i ≢ me → get_elem? vs i ≡ maybe.some u → (u.ticket ≡ None) × (u.drawn ≡ []) = λ i u ne e. (o.each i u e).idle (omega (arith, terms_le (λ (w : View T). w.parts) vs me i v u ne at e, o.whole)) in
         let over : next ≡ serving = dite (dec_le next serving) (λ h. let ahead = o.ahead in omega arith)
@@ -211,4 +211,5 @@ module _ {T N : Type 0} (turn : T → ℕ) (name : T → N) (of : T) where
           is_home.3,
           (let s = mine.seen in let e = is_home.2 in omega arith),
           λ x. sym (total_only (λ (w : View T). times x w.drawn) vs me v at (λ i u ne e. ap (times x) (others i u ne e).1)) ∙ (o.drawn x ∙ ap (λ n. between (turn of) n x) (over ∙ sym is_home.2)),
+          (let l = mine.looked in let e = is_home.2 in omega (arith, over)),
         )

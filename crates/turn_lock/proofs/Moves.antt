@@ -132,14 +132,14 @@ module _ {T N : Type 0} (turn : T → ℕ) (name : T → N) (of : T) where
   -- what is known of a value that a pass with all parts got at the end: its name, that the pass saw no more turns than it had, and that
   -- the pass drew all tickets
   abbrev pub Closing : View T → T → Type 0
-  Closing v value = (name value ≡ name of) × (v.seen ≤ turn value) × ((x : ℕ) → times x v.drawn ≡ between (turn of) (turn value) x)
+  Closing v value = (name value ≡ name of) × (v.seen ≤ turn value) × ((x : ℕ) → times x v.drawn ≡ between (turn of) (turn value) x) × (v.looked ≤ turn value)
 
   pub closes : (id : ℕ) (v : View T) (words : List ℕ) (slots : List (Option T)) (taken : Option T) → v.parts ≡ 65536 → v.ticket ≡ None → v.out ≡ false
       → Final (Seen Rule id v) words slots → get_elem? slots 0 ≡ maybe.some taken → (value : T) × (taken ≡ Some value) × Closing v value
   closes id v words slots taken all none not_out f is = let s = f.0 in let g = f.1.0 in
       let c = keep.closes turn name of g.0 g.1 g.2 s.views g.5 id v f.1.1 all none not_out in
       let there : get_elem? s.homes 0 ≡ maybe.some (maybe.some (Some c.0)) = ap (λ (hs : List (maybe.Option (Option T))). get_elem? hs 0) g.4 ∙ ap (λ (h : maybe.Option (Option T)). maybe.some h) c.1 in
-      (c.0, maybe.some-injective taken (Some c.0) (sym is ∙ f.4 0 (Some c.0) there), (c.2, c.3, c.4))
+      (c.0, maybe.some-injective taken (Some c.0) (sym is ∙ f.4 0 (Some c.0) there), (c.2, c.3, c.4, c.5))
 
   -- of this value
   pub closes_with : (v : View T) (taken : Option T) (value : T) → taken ≡ Some value → ((other : T) × (taken ≡ Some other) × Closing v other) → Closing v value

@@ -1,6 +1,6 @@
 //! A lock's begin and end.
 
-ghost use Rattle.std.specs.Prelude.{◌≡◌, ℕ, ◌<◌, ◌≤◌, [], ◌∷◌, Some, false, IfOk, IfErr};
+ghost use Rattle.std.specs.Prelude.{◌≡◌, ℕ, ◌<◌, ◌≤◌, [], ◌∷◌, Some, true, false, IfOk, IfErr};
 ghost use Rattle.turn_lock.specs.Passes.{IsPassOf, made_with, parts_of, seen_by, is_spent, drawn_by};
 ghost use Rattle.turn_lock.specs.Tickets.{times, between};
 
@@ -41,10 +41,11 @@ impl<T: Turned> TurnLock<T> {
         }
     }
 
-    /// Ends the lock, and gives the value. `Err` exactly where the pass has fewer than all parts, since another pass isn't joined.
+    /// Ends the lock, and gives the value. A pass that is spent tells that all tickets were used up. `Err` exactly where the pass has fewer than all parts, since another pass isn't joined.
     pub fn close(self, pass: Pass<T>) -> Result<T, (TurnLock<T>, Pass<T>)>
         requires { IsPassOf self pass }
         ensures ok { IfOk result (λ value. (parts_of pass ≡ 65536) × (T.name value ≡ T.name (made_with self)) × (seen_by pass ≤ T.turn value)) }
+        ensures spent { IfOk result (λ value. is_spent pass ≡ true → 18446744073709551615 ≤ T.turn value) }
         ensures drawn { IfOk result (λ value. (ticket : ℕ) → times ticket (drawn_by pass) ≡ between (T.turn (made_with self)) (T.turn value) ticket) }
         ensures err { IfErr result (λ back. (parts_of pass < 65536) × (back.0 ≡ self) × (back.1 ≡ pass)) }
     {

@@ -1,6 +1,6 @@
 //! What the parts of an upload make together.
 
-ghost use Rattle.std.specs.Prelude.{◌≡◌, ◌<◌, ◌^◌, length};
+ghost use Rattle.std.specs.Prelude.{◌≡◌, ◌≤◌, length};
 ghost use Rattle.md5.specs.Md5.{md5};
 ghost use Rattle.upload_book.specs.Joining.{joined_length, joined_md5s, Joins};
 
@@ -16,9 +16,10 @@ pub struct Joined {
     pub etag: Etag,
 }
 
-/// The object of these parts, in their order. A length that fits no `u64` stands still at its last value.
+/// The object of these parts, in their order, of which there are 1 to 10,000. A length that fits no `u64` stands still at its last value.
 pub fn join(parts: &[PartRecord]) -> Joined
-    requires { length parts.now < 2 ^ 16 }
+    requires some { 1 ≤ length parts.now }
+    requires few { length parts.now ≤ 10000 }
     ensures { Joins parts.now result }
 {
     Joined {
