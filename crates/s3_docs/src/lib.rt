@@ -4,8 +4,8 @@
 //! trees with their bytes, after the S3 API reference: an optional declaration and the root, whose start tag may name a
 //! name space; white space beside the tags; elements of other names are passed over where they hold text alone.
 //! It promises that both readers answer what a document says exactly where the bytes are one, and else MalformedXML with
-//! the first byte at which no document goes on, or the length where a document ends early. Each byte is read once, but
-//! for the names and the digits of ETags, which are read twice. Only `read_complete` takes memory, for its parts.
+//! the first byte at which no document goes on, or the length where a document ends early. Its time is linear, which no clause
+//! says. Only `read_complete` takes memory, for its parts.
 #![tactic(auto)]
 
 ghost use Rattle.std.specs.Prelude.{◌≡◌, ◌⊎◌, ℕ, List, IfOk, IfErr, Ok, Err};
