@@ -1,2 +1,4 @@
 pub mod CallingLemmas
 pub mod LiveLemmas
+pub mod PuttingLemmas
+pub mod StepLemmas
