@@ -1,13 +1,13 @@
 -- What a put leaves, by what both writes of its changes leave.
-use Rattle.std.proofs.Common.{◌≡◌, ◌≢◌, ◌<◌, ◌≤◌, ℕ, List, Option, Some, None, Result, Ok, Err, Contains, ◌∙◌, sym, ap, subst, refl, inl, inr, arith}
+use Rattle.std.proofs.Common.{◌≡◌, ◌≢◌, ◌<◌, ◌≤◌, ℕ, List, Option, Some, None, Ok, Err, ◌∙◌, sym, ap, subst, refl, inl, inr, arith}
 use Rattle.call_types.specs.declared.why.Why.{Why}
 use Rattle.register_file.specs.declared.record.Next.{Next}
-use Rattle.vote_core.specs.Lane.{Lane, HasNext, Base as LaneBase, Next as LaneNext}
+use Rattle.vote_core.specs.Lane.{Lane, Base as LaneBase, Next as LaneNext}
 use Rattle.vote_core.specs.Laws.{AboveLastIsFresh, DrawingKeeps}
 use Rattle.vote_core.specs.Calm.{IsCalm}
 use Rattle.vote_core.specs.Loops.{IsFreshChange, Stands}
-use Rattle.vote_core.specs.Sound.{HoldsValue, IsLive}
-use Rattle.register_core.specs.Keeping.{MarkMoves, MayPropose}
+use Rattle.vote_core.specs.Sound.{HoldsValue}
+use Rattle.register_core.specs.Keeping.{MayPropose}
 use Rattle.register_core.specs.Records.{next_of}
 use Rattle.register_core.specs.Seen.{FindsValueOr, IsOnItsWay}
 use Rattle.register_core.specs.declared.looked.Looked.{Looked}

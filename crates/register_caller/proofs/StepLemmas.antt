@@ -1,6 +1,6 @@
 -- What several calls of a put leave of the drives together.
 use Rattle.std.proofs.Common.{◌≡◌, ◌<◌, ◌≤◌, ◌∙◌, ℕ, List, Result, Ok, Err, length, ap, subst, sym, refl, inl, inr, arith}
-use Rattle.std.specs.Prelude.{Bool, IsTrue, Option, slice_index_or, string_bytes}
+use Rattle.std.specs.Prelude.{Bool, Option, string_bytes}
 use Rattle.call_types.specs.declared.why.Why.{Why}
 use Rattle.drive_base.specs.Files.{Files}
 use Rattle.drive_base.specs.Plan.{write_drives}

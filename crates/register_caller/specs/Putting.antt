@@ -1,5 +1,5 @@
 -- What a put writes, answers and leaves.
-use Rattle.std.specs.Prelude.{◌≡◌, ◌⊎◌, ◌<◌, ◌≤◌, ℕ, Bool, List, Option, None, Result, Ok, Err, string_bytes}
+use Rattle.std.specs.Prelude.{◌≡◌, ◌⊎◌, ◌<◌, ◌≤◌, ⊤, ℕ, Bool, List, Option, None, Result, Ok, Err, string_bytes}
 use Rattle.std.specs.Int.{IsBitSet}
 use Rattle.drive_base.specs.Files.{Files}
 use Rattle.drive_base.specs.Plan.{write_drives}
@@ -62,9 +62,16 @@ IsPut (Ok _) w later c value change content lanes after = HoldsValue w later aft
 IsPut (Err (NotBegun _)) w later c value change content lanes after = IsNotBegun w later c value change lanes after
 IsPut (Err (NotMarked _)) w later c value change content lanes after = IsNotMarked w later c value change content lanes after
 
+-- one's own change was not refused
+abbrev pub IsNotRefused : {T : Type 0} → Result T PutFault → Type 0
+IsNotRefused (Ok _) = ⊤
+IsNotRefused (Err (NotBegun _)) = ⊤
+IsNotRefused (Err (NotMarked _)) = ⊥
+
 module _ {D : Type 0} (files : D → Files) where
   -- the lanes after a put; whatever a lane that is out has, it keeps
-  pub record Puts {T : Type 0} (out : ℕ) (name : List ℕ) (w : ℕ) (numbers : Numbers) (c : ℕ) (value content : List ℕ) (result : Result T PutFault) (new : List D) (lanes : List Lane) : Type 0 where
+  pub record Puts {T : Type 0} (out : ℕ) (name : List ℕ) (w : ℕ) (numbers : Numbers) (c : ℕ) (value content : List ℕ) (result : Result T PutFault)
+      (new : List D) (lanes : List Lane) : Type 0 where
     pub after : List Lane
     pub are : AreLanes files out name new after
     pub stay : (k : ℕ) → IsBitSet out k → lane_at after k ≡ lane_at lanes k
@@ -73,7 +80,8 @@ module _ {D : Type 0} (files : D → Files) where
 module _ {D : Type 0} (tells : D → Bool) (files : D → Files) where
   -- what the rest of a put leaves of lanes that a look saw
   abbrev pub PutsOnSeen : {T : Type 0} → ℕ → ℕ → ℕ → Looked → Numbers → List ℕ → Result T PutFault → List D → List D → Type 0
-  PutsOnSeen out term from looked numbers content result old new = (found : List (Option RegFile)) (recorded : List Lane) (last c : ℕ) (value : List ℕ)
+  PutsOnSeen out term from looked numbers content result old new =
+      (found : List (Option RegFile)) (recorded : List Lane) (last c : ℕ) (value : List ℕ)
       → AllTell tells out old → AreUnused files out term from old → AreLanes files out (string_bytes looked.name) old recorded
       → LookedSeen (write_drives looked.set.drives looked.set.parity) found looked recorded
       → HoldsValue (write_drives looked.set.drives looked.set.parity) last recorded c value → AreDrawn last recorded numbers

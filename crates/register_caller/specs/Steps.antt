@@ -21,7 +21,8 @@ use Rattle.register_caller.specs.declared.putting.PutFault.TheVariants.{NotBegun
 module _ {D : Type 0} (tells : D → Bool) (files : D → Files) (count : D → ℕ) where
   -- the files of each drive that tells are as before
   abbrev pub FilesStay : List D → List D → Type 0
-  FilesStay old new = (k : ℕ) (d : D) → k < length old → IsTrue (tells (slice_index_or old k d)) → files (slice_index_or new k d) ≡ files (slice_index_or old k d)
+  FilesStay old new = (k : ℕ) (d : D) → k < length old → IsTrue (tells (slice_index_or old k d))
+      → files (slice_index_or new k d) ≡ files (slice_index_or old k d)
 
   -- enough lanes took the first file of a draft, and the mark after it answered
   pub record MarksTaken (draft : Draft) (out term from to : ℕ) (result : Result (List Why) QuorumFault) (old new : List D) : Type 0 where
@@ -39,14 +40,16 @@ module _ {D : Type 0} (tells : D → Bool) (files : D → Files) (count : D → 
       ⊎ MarksTaken draft out term from to (Err fault) old new
 
   -- one's own change was written over a settled look
-  pub record OwnAfterLook (out term : ℕ) (looked : Looked) (numbers : Numbers) (content : List ℕ) (from to : ℕ) (result : Result (List Why) QuorumFault) (old new : List D) : Type 0 where
+  pub record OwnAfterLook (out term : ℕ) (looked : Looked) (numbers : Numbers) (content : List ℕ) (from to : ℕ)
+      (result : Result (List Why) QuorumFault) (old new : List D) : Type 0 where
     pub settled : looked.pending ≡ None
     pub draft : Draft
     pub drafted : IsDraftAfterLook looked (own_of numbers looked.base.change content) draft
     pub writes : WritesBoth draft out term from to result old new
 
   -- what was pending was completed, and one's own change was written over it
-  pub record OwnAfterForward (out term : ℕ) (looked : Looked) (numbers : Numbers) (content : List ℕ) (from to : ℕ) (result : Result (List Why) QuorumFault) (old new : List D) : Type 0 where
+  pub record OwnAfterForward (out term : ℕ) (looked : Looked) (numbers : Numbers) (content : List ℕ) (from to : ℕ)
+      (result : Result (List Why) QuorumFault) (old new : List D) : Type 0 where
     pub found : Next
     pub pending : looked.pending ≡ Some found
     pub drafts : Drafts
@@ -58,7 +61,8 @@ module _ {D : Type 0} (tells : D → Bool) (files : D → Files) (count : D → 
     pub writes : WritesBoth drafts.own out term middle to result mid new
 
   -- the writes of what was pending were refused, and those of one's own change not begun
-  pub record ForwardIsRefused (out term : ℕ) (looked : Looked) (numbers : Numbers) (content : List ℕ) (from to : ℕ) (fault : QuorumFault) (old new : List D) : Type 0 where
+  pub record ForwardIsRefused (out term : ℕ) (looked : Looked) (numbers : Numbers) (content : List ℕ) (from to : ℕ)
+      (fault : QuorumFault) (old new : List D) : Type 0 where
     pub found : Next
     pub pending : looked.pending ≡ Some found
     pub drafts : Drafts
@@ -81,8 +85,8 @@ module _ {D : Type 0} (tells : D → Bool) (files : D → Files) (count : D → 
       ⊎ OwnAfterForward out term looked numbers content from to (Err fault) old new
 
   -- a look could conclude, and the put went on
-  pub record PutsAfterLook (set : SetPlan) (out term : ℕ) (name : List ℕ) (rule : List ℕ → Option ℕ) (longest : ℕ) (numbers : Numbers) (content : List ℕ) (from to : ℕ)
-      (result : Result (List Why) PutFault) (old new disks disks_after : List D) : Type 0 where
+  pub record PutsAfterLook (set : SetPlan) (out term : ℕ) (name : List ℕ) (rule : List ℕ → Option ℕ) (longest : ℕ) (numbers : Numbers)
+      (content : List ℕ) (from to : ℕ) (result : Result (List Why) PutFault) (old new disks disks_after : List D) : Type 0 where
     pub looked : Looked
     pub mid : List D
     pub looks : IsLooked tells files count set out name rule longest looked old mid disks disks_after
@@ -90,13 +94,15 @@ module _ {D : Type 0} (tells : D → Bool) (files : D → Files) (count : D → 
     pub goes_on : GoesOn out term looked numbers content from to result mid new
 
   -- the look was refused, and nothing was written
-  pub record LookIsRefused (set : SetPlan) (out : ℕ) (name : List ℕ) (rule : List ℕ → Option ℕ) (longest from to : ℕ) (fault : QuorumFault) (old new disks disks_after : List D) : Type 0 where
+  pub record LookIsRefused (set : SetPlan) (out : ℕ) (name : List ℕ) (rule : List ℕ → Option ℕ) (longest from to : ℕ)
+      (fault : QuorumFault) (old new disks disks_after : List D) : Type 0 where
     pub looks : Looks tells files count set out name rule longest (Err fault) old new disks disks_after
     pub none_used : to ≡ from
     pub stay : FilesStay old new
 
   -- the calls of a put, by its answer: each cause is one that the register told
-  abbrev pub PutCalls : SetPlan → ℕ → ℕ → List ℕ → (List ℕ → Option ℕ) → ℕ → Numbers → List ℕ → ℕ → ℕ → Result (List Why) PutFault → List D → List D → List D → List D → Type 0
+  abbrev pub PutCalls : SetPlan → ℕ → ℕ → List ℕ → (List ℕ → Option ℕ) → ℕ → Numbers → List ℕ → ℕ → ℕ → Result (List Why) PutFault
+      → List D → List D → List D → List D → Type 0
   PutCalls set out term name rule longest numbers content from to (Ok whys) old new disks disks_after =
       PutsAfterLook set out term name rule longest numbers content from to (Ok whys) old new disks disks_after
   PutCalls set out term name rule longest numbers content from to (Err (NotBegun fault)) old new disks disks_after =

@@ -1,14 +1,18 @@
 //! The rest of a put, after its look.
 
-ghost use Rattle.std.specs.Prelude.{◌≡◌, ◌+◌, ◌*◌, ◌<◌, ◌≤◌, ◌^◌, None, Some, length, map, string_bytes, string_len};
+ghost use Rattle.std.specs.Prelude.{◌≡◌, ◌+◌, ◌*◌, ◌<◌, ◌≤◌, ◌^◌, ℕ, None, Some, length, map, replicate, string_bytes, string_len};
 ghost use Rattle.call_types.specs.Good.{is_good};
+ghost use Rattle.call_types.specs.declared.why.Why.TheVariants.{Good};
+ghost use Rattle.drive_base.specs.DriveSet.{count_in};
+ghost use Rattle.drive_base.specs.Plan.{write_drives};
 ghost use Rattle.register_file.specs.Record.{IsContent};
 ghost use Rattle.register_file.specs.declared.record.Next.{Next};
 ghost use Rattle.vote_core.specs.Row.{is_good as is_good_row};
 ghost use Rattle.register_core.specs.Found.{IsLawfulPending, content_of};
 ghost use Rattle.register_core.specs.Loops.{CountsRise, KeepsDrives, TellsStay};
 ghost use Rattle.register_core.specs.OnLanes.{AllTell, AreUnused};
-ghost use Rattle.register_caller.specs.Putting.{PutsOnSeen};
+ghost use Rattle.register_core.specs.Serving.{AllServe};
+ghost use Rattle.register_caller.specs.Putting.{IsNotRefused, PutsOnSeen};
 ghost use Rattle.register_caller.specs.Steps.{GoesOn};
 
 use crate::changes::{Numbers, draft_both, draft_own};
@@ -40,6 +44,8 @@ pub(crate) fn put_settled<D: Drive>(
     requires within { length content.now ≤ looked.now.longest }
     ensures puts { PutsOnSeen D.tells D.files at.now.out at.now.term count.old looked.now numbers.now content.now result lanes.old lanes.new }
     ensures calls { GoesOn D.tells D.files D.count at.now.out at.now.term looked.now numbers.now content.now count.old count.new result lanes.old lanes.new }
+    ensures served { (serving : ℕ) → AllServe D.tells D.count at.now.out serving (replicate looked.now.set.drives Good) lanes.old lanes.new
+        → write_drives looked.now.set.drives looked.now.set.parity ≤ count_in serving looked.now.set.drives → IsNotRefused result }
     ensures drives { AllTell D.tells at.now.out lanes.old → AreUnused D.files at.now.out at.now.term count.old lanes.old
         → KeepsDrives D.tells D.files D.count at.now.out (string_bytes looked.now.name) at.now.term count.old count.new lanes.old lanes.new }
     ensures tells { TellsStay D.tells D.files D.count lanes.old lanes.new }
@@ -82,6 +88,8 @@ pub(crate) fn put_over_pending<D: Drive>(
     requires within { length content.now ≤ looked.now.longest }
     ensures puts { PutsOnSeen D.tells D.files at.now.out at.now.term count.old looked.now numbers.now content.now result lanes.old lanes.new }
     ensures calls { GoesOn D.tells D.files D.count at.now.out at.now.term looked.now numbers.now content.now count.old count.new result lanes.old lanes.new }
+    ensures served { (serving : ℕ) → AllServe D.tells D.count at.now.out serving (replicate looked.now.set.drives Good) lanes.old lanes.new
+        → write_drives looked.now.set.drives looked.now.set.parity ≤ count_in serving looked.now.set.drives → IsNotRefused result }
     ensures drives { AllTell D.tells at.now.out lanes.old → AreUnused D.files at.now.out at.now.term count.old lanes.old
         → KeepsDrives D.tells D.files D.count at.now.out (string_bytes looked.now.name) at.now.term count.old count.new lanes.old lanes.new }
     ensures tells { TellsStay D.tells D.files D.count lanes.old lanes.new }

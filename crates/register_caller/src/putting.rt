@@ -1,13 +1,16 @@
 //! A change of one's own, after what is pending.
 
-ghost use Rattle.std.specs.Prelude.{◌≡◌, ◌+◌, ◌*◌, ◌<◌, ◌≤◌, ◌^◌, ℕ, List, length};
+ghost use Rattle.std.specs.Prelude.{◌≡◌, ◌+◌, ◌*◌, ◌<◌, ◌≤◌, ◌^◌, ℕ, List, length, replicate};
+ghost use Rattle.call_types.specs.declared.why.Why.TheVariants.{Good};
+ghost use Rattle.drive_base.specs.DriveSet.{count_in};
 ghost use Rattle.drive_base.specs.Plan.{write_drives};
 ghost use Rattle.register_file.specs.Record.{IsContent};
 ghost use Rattle.vote_core.specs.Lane.{Lane};
 ghost use Rattle.vote_core.specs.Sound.{HoldsValue};
 ghost use Rattle.register_core.specs.Loops.{CountsRise, KeepsDrives, TellsStay};
 ghost use Rattle.register_core.specs.OnLanes.{AllTell, AreHonest, AreLanes, AreUnused};
-ghost use Rattle.register_caller.specs.Putting.{AreDrawn, Puts};
+ghost use Rattle.register_core.specs.Serving.{AllServe};
+ghost use Rattle.register_caller.specs.Putting.{AreDrawn, IsNotRefused, Puts};
 ghost use Rattle.register_caller.specs.Steps.{FilesStay, PutCalls};
 
 use crate::changes::Numbers;
@@ -54,6 +57,8 @@ pub fn put<D: Drive, R: ContentRule>(
         → Puts D.files at.now.out at.now.name.now (write_drives at.now.set.drives at.now.set.parity) numbers.now c value content.now result lanes.new recorded }
     ensures calls { PutCalls D.tells D.files D.count at.now.set at.now.out at.now.term at.now.name.now (R.fault_in rule.old) (R.most_bytes rule.old) numbers.now content.now
         count.old count.new result lanes.old lanes.new disks.old disks.new }
+    ensures served { (serving : ℕ) → AllServe D.tells D.count at.now.out serving (replicate at.now.set.drives Good) lanes.old lanes.new
+        → write_drives at.now.set.drives at.now.set.parity ≤ count_in serving at.now.set.drives → IsNotRefused result }
     ensures drives { AllTell D.tells at.now.out lanes.old → AreUnused D.files at.now.out at.now.term count.old lanes.old
         → KeepsDrives D.tells D.files D.count at.now.out at.now.name.now at.now.term count.old count.new lanes.old lanes.new }
     ensures tells { TellsStay D.tells D.files D.count lanes.old lanes.new }

@@ -1,10 +1,11 @@
-use Rattle.std.proofs.Common.{◌≡◌, ◌∙◌, ◌+◌, ◌*◌, ◌≤◌, ◌<◌, ℕ, List, length, map, string_bytes, ap, subst, sym, refl, inl, inr, arith}
-use Rattle.std.specs.Prelude.{Option, Some, Ok, Err}
+use Rattle.std.proofs.Common.{◌≡◌, ◌∙◌, ◌+◌, ◌*◌, ◌≤◌, ℕ, List, length, map, string_bytes, ap, subst, sym, refl, inl, inr, arith}
+use Rattle.std.specs.Prelude.{Option, Ok, Err, replicate}
 use Rattle.std.proofs.lemmas.List.{length-replicate}
 use Rattle.call_types.specs.Good.{is_good}
 use Rattle.call_types.specs.declared.why.Why.{Why}
 use Rattle.call_types.specs.declared.why.Why.TheVariants.{Good}
 use Rattle.call_types.specs.declared.why.Whys.{Whys}
+use Rattle.drive_base.specs.DriveSet.{count_in}
 use Rattle.drive_base.specs.Plan.{write_drives}
 use Rattle.drive_base.specs.declared.plan.SetPlan.{SetPlan}
 use Rattle.register_file.specs.declared.record.Base.{Base}
@@ -13,6 +14,7 @@ use Rattle.stamp_id.specs.Rank.{rank_of, change_of}
 use Rattle.vote_core.specs.Loops.{Stands}
 use Rattle.register_core.specs.Drafts.{letters_for}
 use Rattle.register_core.specs.Loops.{KeepsDrives}
+use Rattle.register_core.specs.Serving.{AllServe}
 use Rattle.register_core.specs.OnLanes.{AreLanes}
 use Rattle.register_core.specs.Records.{again_of, base_of, marked_base, next_of}
 use Rattle.register_core.specs.declared.faults.QuorumFault.{QuorumFault}
@@ -20,6 +22,7 @@ use Rattle.register_caller.specs.Calling.{BothLeave}
 use Rattle.register_caller.specs.Putting.{own_of}
 use Rattle.register_caller.proofs.CallingLemmas.{found_steps, may_forward, pending_found, tell_after}
 use Rattle.register_caller.proofs.PuttingLemmas.{base_else, left_put, live_after_forward, marked_own, may_put, pending_else, refused_forward, refused_own}
+use Rattle.register_caller.proofs.ServingLemmas.{not_ok, serve_after}
 use Rattle.register_caller.proofs.StepLemmas.{counts_twice, keeps_same, keeps_twice, tells_twice}
 use Rattle.register_caller.proofs.over_look.put_over_pending.Goals as goal
 
@@ -35,6 +38,7 @@ returns-in-Err g c = record {
             (change_of c.args.numbers.now.change) recorded (let again = drawn.again in let own = drawn.own in omega arith) holds drawn.change;
       };
   calls = inl (record { fault_is = refl; none_used = refl; stays = refl });
+  served = λ serving serve many. tt;
   drives = λ told unused. keeps_same g.D.Drive.tells g.D.Drive.files g.D.Drive.count c.args.at.now.out (string_bytes c.args.looked.now.name) c.args.at.now.term c.args.count.now
       c.args.lanes.now unused;
   tells = λ k d low. refl;
@@ -83,6 +87,7 @@ returns-in-Err-write_both g c = record {
     drafted = c.in-Ok.ensures c.requires.pending.0 c.requires.pending.1;
     forward = c.in-Err-write_both.ensures.calls;
   });
+  served = λ serving serve many. tt;
   drives = λ told unused.
       let T : Type 0 = g.row.D.Denot in
       let D = g.D.Drive in
@@ -155,6 +160,7 @@ returns-in-Ok-write_both-2 g c = record {
     forward = c.in-Ok-write_both.ensures.calls;
     writes = c.in-Ok-write_both-2.ensures.calls;
   });
+  served = λ serving serve many. tt;
   drives = λ told unused.
       let T : Type 0 = g.row.D.Denot in
       let D = g.D.Drive in
@@ -243,6 +249,21 @@ returns g c = record {
     forward = c.in-Ok-write_both.ensures.calls;
     writes = c.in-Err-write_both-2.ensures.calls;
   });
+  served = λ serving serve many.
+      let T : Type 0 = g.row.D.Denot in
+      let D = g.D.Drive in
+      let at = c.args.at.now in
+      let looked = c.args.looked.now in
+      let drafts = c.in-Ok.ensures c.requires.pending.0 c.requires.pending.1 in
+      let mid : List T = c.write_both.new.lanes in
+      let new : List T = c.write_both-2.new.lanes in
+      let plan = drafts.after.set ∙ drafts.forward.set in
+      let letters = drafts.after.letters ∙ ap (λ (s : SetPlan). replicate s.drives Good) drafts.forward.set in
+      not_ok (c.in-Err-write_both-2.ensures.enough serving
+      (subst (λ (l : List Why). AllServe {D = T} D.tells D.count at.out serving l mid new) (sym letters)
+      (serve_after {D = T} D.tells D.files D.count at.out serving (replicate looked.set.drives Good) c.args.lanes.now mid new (omega (arith, c.write_both.auto.lanes))
+      c.in-Ok-write_both.ensures.tells c.in-Ok-write_both.ensures.counts serve))
+      (subst (λ (s : SetPlan). write_drives s.drives s.parity ≤ count_in serving s.drives) (sym plan) many));
   drives = λ told unused.
       let T : Type 0 = g.row.D.Denot in
       let D = g.D.Drive in

@@ -1,10 +1,14 @@
-use Rattle.std.proofs.Common.{◌≡◌, ◌∙◌, ◌+◌, ◌*◌, ◌≤◌, ◌<◌, ℕ, List, length, string_bytes, subst, sym, refl, inl, inr, arith}
-use Rattle.std.specs.Prelude.{Option, None, Ok, Err}
+use Rattle.std.proofs.Common.{◌≡◌, ◌∙◌, ◌+◌, ◌*◌, ◌≤◌, ◌<◌, ℕ, List, string_bytes, ap, subst, sym, refl, inl, arith}
+use Rattle.std.specs.Prelude.{Option, Ok, Err}
 use Rattle.call_types.specs.declared.why.Whys.{Whys}
+use Rattle.call_types.specs.declared.why.Why.{Why}
+use Rattle.drive_base.specs.DriveSet.{count_in}
 use Rattle.drive_base.specs.Plan.{write_drives}
 use Rattle.drive_base.specs.declared.plan.SetPlan.{SetPlan}
 use Rattle.register_file.specs.declared.record.Next.{Next}
 use Rattle.stamp_id.specs.Rank.{rank_of, change_of}
+use Rattle.register_core.specs.Drafts.{letters_for}
+use Rattle.register_core.specs.Serving.{AllServe}
 use Rattle.register_core.specs.OnLanes.{AreLanes}
 use Rattle.register_core.specs.Records.{base_of, next_of}
 use Rattle.register_core.specs.declared.faults.QuorumFault.{QuorumFault}
@@ -13,6 +17,7 @@ use Rattle.register_caller.specs.Calling.{BothLeave}
 use Rattle.register_caller.specs.Putting.{own_of}
 use Rattle.register_caller.proofs.LiveLemmas.{left_live}
 use Rattle.register_caller.proofs.PuttingLemmas.{left_put, marked_own, may_put, refused_own, settled_found}
+use Rattle.register_caller.proofs.ServingLemmas.{not_ok}
 use Rattle.register_caller.proofs.StepLemmas.{keeps_same}
 use Rattle.register_caller.proofs.over_look.put_settled.Goals as goal
 
@@ -28,6 +33,7 @@ returns-in-Err g c = record {
             (change_of c.args.numbers.now.change) recorded (let again = drawn.again in let own = drawn.own in omega arith) holds drawn.change;
       };
   calls = inl (record { fault_is = refl; none_used = refl; stays = refl });
+  served = λ serving serve many. tt;
   drives = λ told unused. keeps_same g.D.Drive.tells g.D.Drive.files g.D.Drive.count c.args.at.now.out (string_bytes c.args.looked.now.name) c.args.at.now.term c.args.count.now
       c.args.lanes.now unused;
   tells = λ k d low. refl;
@@ -66,6 +72,7 @@ returns-in-Ok-write_both g c = record {
             c.in-Ok-write_both.whys may drawn.change both;
       };
   calls = inl (record { settled = c.requires.settled; draft = c.in-Ok.own; drafted = c.in-Ok.ensures; writes = c.in-Ok-write_both.ensures.calls });
+  served = λ serving serve many. tt;
   drives = λ told unused.
       let T : Type 0 = g.row.D.Denot in
       let D = g.D.Drive in
@@ -108,6 +115,16 @@ returns g c = record {
             c.in-Err-write_both.fault may (inl (refl, refl)) (left_live recorded change) both;
       };
   calls = inl (record { settled = c.requires.settled; draft = c.in-Ok.own; drafted = c.in-Ok.ensures; writes = c.in-Err-write_both.ensures.calls });
+  served = λ serving serve many.
+      let T : Type 0 = g.row.D.Denot in
+      let D = g.D.Drive in
+      let at = c.args.at.now in
+      let looked = c.args.looked.now in
+      let drafted = c.in-Ok.ensures in
+      not_ok (c.in-Err-write_both.ensures.enough serving
+      (subst (λ (letters : List Why). AllServe {D = T} D.tells D.count at.out serving letters c.args.lanes.now c.write_both.new.lanes)
+      (sym (drafted.letters ∙ ap (λ (p : Option Next). letters_for p looked.whys looked.set.drives) c.requires.settled)) serve)
+      (subst (λ (s : SetPlan). write_drives s.drives s.parity ≤ count_in serving s.drives) (sym drafted.set) many));
   drives = λ told unused.
       let T : Type 0 = g.row.D.Denot in
       let D = g.D.Drive in

@@ -1,4 +1,9 @@
-use Rattle.std.proofs.Common.{◌≡◌, ◌≤◌, ℕ, List, length, string_bytes, subst, refl, arith}
+use Rattle.std.proofs.Common.{◌≤◌, ℕ, List, subst, sym, refl, arith}
+use Rattle.std.specs.Prelude.{replicate}
+use Rattle.call_types.specs.declared.why.Why.TheVariants.{Good}
+use Rattle.drive_base.specs.DriveSet.{count_in}
+use Rattle.drive_base.specs.declared.plan.SetPlan.{SetPlan}
+use Rattle.register_core.specs.Serving.{AllServe}
 use Rattle.drive_base.specs.Plan.{write_drives}
 use Rattle.stamp_id.specs.Rank.{rank_of, change_of}
 use Rattle.register_core.specs.Loops.{KeepsDrives}
@@ -6,6 +11,7 @@ use Rattle.register_core.specs.OnLanes.{AllTell, AreUnused}
 use Rattle.call_types.specs.declared.why.Whys.{Whys}
 use Rattle.register_caller.proofs.CallingLemmas.{lanes_after_look}
 use Rattle.register_caller.proofs.PuttingLemmas.{left_put}
+use Rattle.register_caller.proofs.ServingLemmas.{serve_after}
 use Rattle.register_caller.proofs.StepLemmas.{counts_twice, keeps_after_look, keeps_looked, looked_calls, looked_puts, tells_twice}
 use Rattle.register_caller.proofs.putting.put.Goals as goal
 
@@ -125,3 +131,27 @@ pub returns-in-None-clause-counts : goal.returns-in-None-clause-counts
 returns-in-None-clause-counts g c =
     counts_twice g.D.Drive.tells g.D.Drive.files g.D.Drive.count c.args.lanes.now c.look.new.lanes c.put_settled.new.lanes (omega (arith, c.look.auto.lanes))
     c.in-Ok.ensures.counts c.put_settled.ensures.counts
+
+pub returns-in-None-clause-served : goal.returns-in-None-clause-served
+returns-in-None-clause-served g c serving serve many =
+    let T : Type 0 = g.row.D.Denot in
+    let D = g.D.Drive in
+    let at = c.args.at.now in
+    let plan = c.in-Ok.ensures.outcome.plan in
+    c.put_settled.ensures.served serving
+    (subst (λ (s : SetPlan). AllServe {D = T} D.tells D.count at.out serving (replicate s.drives Good) c.look.new.lanes c.put_settled.new.lanes) (sym plan)
+    (serve_after {D = T} D.tells D.files D.count at.out serving (replicate at.set.drives Good) c.args.lanes.now c.look.new.lanes c.put_settled.new.lanes
+    (omega (arith, c.look.auto.lanes)) c.in-Ok.ensures.tells c.in-Ok.ensures.counts serve))
+    (subst (λ (s : SetPlan). write_drives s.drives s.parity ≤ count_in serving s.drives) (sym plan) many)
+
+pub returns-clause-served : goal.returns-clause-served
+returns-clause-served g c serving serve many =
+    let T : Type 0 = g.row.D.Denot in
+    let D = g.D.Drive in
+    let at = c.args.at.now in
+    let plan = c.in-Ok.ensures.outcome.plan in
+    c.put_over_pending.ensures.served serving
+    (subst (λ (s : SetPlan). AllServe {D = T} D.tells D.count at.out serving (replicate s.drives Good) c.look.new.lanes c.put_over_pending.new.lanes) (sym plan)
+    (serve_after {D = T} D.tells D.files D.count at.out serving (replicate at.set.drives Good) c.args.lanes.now c.look.new.lanes c.put_over_pending.new.lanes
+    (omega (arith, c.look.auto.lanes)) c.in-Ok.ensures.tells c.in-Ok.ensures.counts serve))
+    (subst (λ (s : SetPlan). write_drives s.drives s.parity ≤ count_in serving s.drives) (sym plan) many)

@@ -2,12 +2,14 @@ use Rattle.std.proofs.Common.{◌≡◌, ◌∙◌, ℕ, List, length, string_by
 use Rattle.std.specs.Prelude.{Ok, Err}
 use Rattle.std.specs.Int.{IsBitSet}
 use Rattle.register_core.specs.Loops.{KeepsDrives}
+use Rattle.register_core.specs.Serving.{AllServe}
 use Rattle.register_core.specs.OnLanes.{AllTell, AreLanes, AreUnused}
 use Rattle.register_core.specs.Records.{base_of, next_of}
 use Rattle.register_core.specs.declared.drafts.Draft.{Draft}
 use Rattle.register_core.specs.Proposing.{quorum_of}
 use Rattle.register_caller.proofs.LiveLemmas.{fresh_after_mark, fresh_after_prepare, live_after_both, live_refused}
 use Rattle.register_caller.proofs.CallingLemmas.{mark_few, propose_few, tell_after}
+use Rattle.register_caller.proofs.ServingLemmas.{serve_mark}
 use Rattle.register_caller.proofs.StepLemmas.{both_taken, counts_twice, keeps_twice, mark_rises, propose_rises, tells_twice}
 use Rattle.register_caller.proofs.writing.write_both.Goals as goal
 
@@ -32,6 +34,7 @@ returns-in-Err g c = record {
       };
   value = refl;
   calls = inl c.in-Err.ensures.outcome;
+  enough = c.in-Err.ensures.enough;
   drives = c.in-Err.ensures.drives;
   tells = c.in-Err.ensures.tells;
   counts = c.in-Err.ensures.counts;
@@ -91,6 +94,17 @@ returns g c = record {
         proposes = c.in-Ok.ensures.outcome;
         marks = c.mark.ensures.outcome;
       });
+  enough = λ serving serve many.
+      let D : Type 0 = g.row.D.Denot in
+      let tells = g.D.Drive.tells in
+      let took = c.in-Ok.prepared in
+      let draft = c.args.draft.now in
+      c.mark.ensures.enough serving
+      (subst (λ (o : ℕ). AllServe {D = D} tells g.D.Drive.count o serving took.whys c.propose.new.lanes c.mark.new.lanes) (sym c.in-Ok.ensures.outcome.0)
+      (serve_mark {D = D} tells g.D.Drive.files g.D.Drive.count c.args.out serving (string_bytes draft.name) draft.first.items c.args.term c.args.count.now c.propose.new.count
+      draft.letters took.whys c.args.lanes.now c.propose.new.lanes c.mark.new.lanes (omega (arith, c.propose.auto.lanes)) c.in-Ok.ensures.outcome.2
+      c.in-Ok.ensures.tells c.in-Ok.ensures.counts c.mark.ensures.counts serve))
+      many;
   drives = λ told unused.
       let D : Type 0 = g.row.D.Denot in
       let tells = g.D.Drive.tells in
