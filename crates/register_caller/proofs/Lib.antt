@@ -1,2 +1,5 @@
 pub mod CallingLemmas
 pub mod LiveLemmas
+pub mod PuttingLemmas
+pub mod ServingLemmas
+pub mod StepLemmas

@@ -1,10 +1,10 @@
 -- What may become the value after both writes of a change.
-use Rattle.std.proofs.Common.{◌≡◌, ◌≢◌, ℕ, List, Option, Some, None, Result, Ok, Err, Contains, ◌∙◌, sym, ap, subst, refl, inl, inr}
+use Rattle.std.proofs.Common.{◌≡◌, ◌≢◌, ℕ, List, Some, None, Result, Ok, Err, ◌∙◌, sym, ap, subst, refl, inl, inr}
 use Rattle.std.proofs.lemmas.Bool.{cases_eq}
 use Rattle.vote_core.specs.Lane.{Base, Lane, Next, HasNext}
 use Rattle.vote_core.specs.Laws.{FreshChangeStays, LiveIsOldOrOwn, MarkLeavesNoneLive, OneValue}
 use Rattle.vote_core.specs.Loops.{IsFreshChange, IsPrepared, Leaves, marked, prepared}
-use Rattle.vote_core.specs.Sound.{HoldsValue, IsLive}
+use Rattle.vote_core.specs.Sound.{HoldsValue}
 use Rattle.register_core.specs.Keeping.{MarkMoves}
 use Rattle.register_caller.specs.Calling.{IsLateStep, LiveIsLate, LiveIsLateOr, StaysOrSteps}
 

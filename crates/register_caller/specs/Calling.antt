@@ -1,11 +1,12 @@
 -- What a caller of the register concludes from its contracts.
 use Rattle.std.specs.Prelude.{◌≡◌, ◌≢◌, ◌⊎◌, ◌<◌, ◌≤◌, ℕ, Bool, List, Contains, Result, Ok, Err, string_bytes}
+use Rattle.std.specs.Int.{IsBitSet}
 use Rattle.call_types.specs.declared.why.Why.{Why}
 use Rattle.drive_base.specs.Files.{Files}
 use Rattle.register_file.specs.declared.record.Base.{Base}
 use Rattle.register_file.specs.declared.record.Next.{Next}
 use Rattle.stamp_id.specs.Rank.{change_of}
-use Rattle.vote_core.specs.Lane.{Lane, HasNext, Base as LaneBase, Next as LaneNext}
+use Rattle.vote_core.specs.Lane.{Lane, HasNext, lane_at, Base as LaneBase, Next as LaneNext}
 use Rattle.vote_core.specs.Loops.{IsFreshChange, Stands, marked}
 use Rattle.vote_core.specs.Sound.{HoldsValue, IsLive}
 use Rattle.register_core.specs.Keeping.{IsMarked, MarkMoves, MayPropose}
@@ -79,12 +80,13 @@ pub record IsSettled {E : Type 0} (w later c : ℕ) (content : List ℕ) (result
   pub value : IsValueIfOk result now shows
 
 module _ {D : Type 0} (tells : D → Bool) (files : D → Files) where
-  -- the lanes after both writes of a change
+  -- the lanes after both writes of a change; whatever a lane that is out has, it keeps
   pub record WroteBoth {T E : Type 0} (draft : Draft) (out term to : ℕ) (base : Base) (next : Next) (result : Result T E) (new : List D) (lanes : List Lane) : Type 0 where
     pub after : List Lane
     pub tell : AllTell tells out new
     pub unused : AreUnused files out term to new
     pub are : AreLanes files out (string_bytes draft.name) new after
+    pub stay : (k : ℕ) → IsBitSet out k → lane_at after k ≡ lane_at lanes k
     pub leaves : BothLeave (quorum_of draft) draft.letters (base_of base) (next_of next) result lanes after
 
   -- the lanes after a settlement

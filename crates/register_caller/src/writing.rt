@@ -1,12 +1,18 @@
 //! Both writes of a change.
 
-ghost use Rattle.std.specs.Prelude.{◌≡◌, ◌+◌, ◌*◌, ◌<◌, ◌≤◌, ◌^◌, List, length, string_bytes, string_len};
+ghost use Rattle.std.specs.Prelude.{◌≡◌, ◌+◌, ◌*◌, ◌<◌, ◌≤◌, ◌^◌, ℕ, List, length, string_bytes, string_len};
+ghost use Rattle.std.specs.Result.{IsOk};
+ghost use Rattle.drive_base.specs.DriveSet.{count_in};
+ghost use Rattle.drive_base.specs.Plan.{write_drives};
 ghost use Rattle.register_file.specs.declared.record.Base.{Base};
 ghost use Rattle.register_file.specs.declared.record.Next.{Next};
 ghost use Rattle.vote_core.specs.Lane.{Lane};
 ghost use Rattle.register_core.specs.Drafts.{IsDraftOf};
+ghost use Rattle.register_core.specs.Loops.{CountsRise, KeepsDrives, TellsStay};
 ghost use Rattle.register_core.specs.OnLanes.{AllTell, AreLanes, AreUnused};
+ghost use Rattle.register_core.specs.Serving.{AllServe};
 ghost use Rattle.register_caller.specs.Calling.{WroteBoth};
+ghost use Rattle.register_caller.specs.Steps.{WritesBoth};
 
 use call_types::Whys;
 use drive_base::{Drive, DriveSet};
@@ -29,6 +35,14 @@ pub fn write_both<D: Drive>(
         → AreUnused D.files out term count.old lanes.old → AreLanes D.files out (string_bytes draft.old.name) lanes.old recorded
         → WroteBoth D.tells D.files draft.old out term count.new base next result lanes.new recorded }
     ensures value { draft.new.value ≡ draft.old.value }
+    ensures calls { WritesBoth D.tells D.files D.count draft.old out term count.old count.new result lanes.old lanes.new }
+    ensures enough { (serving : ℕ) → AllServe D.tells D.count out serving draft.old.letters lanes.old lanes.new
+        → write_drives draft.old.set.drives draft.old.set.parity ≤ count_in serving draft.old.set.drives → IsOk result }
+    ensures drives { AllTell D.tells out lanes.old → AreUnused D.files out term count.old lanes.old
+        → KeepsDrives D.tells D.files D.count out (string_bytes draft.old.name) term count.old count.new lanes.old lanes.new }
+    ensures tells { TellsStay D.tells D.files D.count lanes.old lanes.new }
+    ensures counts { CountsRise D.tells D.files D.count lanes.old lanes.new }
+    ensures rises { count.old ≤ count.new }
     ensures count { count.new ≤ count.old + 2 * draft.old.set.drives }
 {
     live_laws();

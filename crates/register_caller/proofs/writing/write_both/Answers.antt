@@ -1,11 +1,16 @@
-use Rattle.std.proofs.Common.{◌≡◌, ℕ, List, string_bytes, ap, inl, refl, subst, sym, arith}
+use Rattle.std.proofs.Common.{◌≡◌, ◌∙◌, ℕ, List, length, string_bytes, ap, inl, refl, subst, sym, arith}
 use Rattle.std.specs.Prelude.{Ok, Err}
+use Rattle.std.specs.Int.{IsBitSet}
+use Rattle.register_core.specs.Loops.{KeepsDrives}
+use Rattle.register_core.specs.Serving.{AllServe}
 use Rattle.register_core.specs.OnLanes.{AllTell, AreLanes, AreUnused}
 use Rattle.register_core.specs.Records.{base_of, next_of}
 use Rattle.register_core.specs.declared.drafts.Draft.{Draft}
 use Rattle.register_core.specs.Proposing.{quorum_of}
 use Rattle.register_caller.proofs.LiveLemmas.{fresh_after_mark, fresh_after_prepare, live_after_both, live_refused}
 use Rattle.register_caller.proofs.CallingLemmas.{mark_few, propose_few, tell_after}
+use Rattle.register_caller.proofs.ServingLemmas.{serve_mark}
+use Rattle.register_caller.proofs.StepLemmas.{both_taken, counts_twice, keeps_twice, mark_rises, propose_rises, tells_twice}
 use Rattle.register_caller.proofs.writing.write_both.Goals as goal
 
 pub returns-in-Err : goal.returns-in-Err
@@ -17,6 +22,7 @@ returns-in-Err g c = record {
         tell = tell_after g.D.Drive.tells g.D.Drive.files c.args.out c.args.lanes.now c.propose.new.lanes (omega (arith, c.propose.auto.lanes)) c.in-Err.ensures.tells told;
         unused = (c.in-Err.ensures.drives told unused).unused;
         are = kept.are;
+        stay = kept.stay;
         leaves = record {
           value = λ last later change content may. inl ((kept.leaves.value last later change content may).holds);
           live = λ last later change now content shows may here. live_refused c.live_laws.ensures.old_or_own c.value_laws.ensures.one
@@ -27,6 +33,13 @@ returns-in-Err g c = record {
         };
       };
   value = refl;
+  calls = inl c.in-Err.ensures.outcome;
+  enough = c.in-Err.ensures.enough;
+  drives = c.in-Err.ensures.drives;
+  tells = c.in-Err.ensures.tells;
+  counts = c.in-Err.ensures.counts;
+  rises = propose_rises g.D.Drive.tells g.D.Drive.files g.D.Drive.count c.args.draft.now c.args.out c.args.term c.args.count.now c.propose.new.count
+      (Err c.in-Err.fault) c.args.lanes.now c.propose.new.lanes c.in-Err.ensures.outcome;
   count = (let one = propose_few g.D.Drive.tells g.D.Drive.files g.D.Drive.count c.args.draft.now c.args.out c.args.term c.args.count.now c.propose.new.count
       (Err c.in-Err.fault) c.args.lanes.now c.propose.new.lanes c.in-Err.ensures.outcome in let long = c.requires.drives in omega arith);
 }
@@ -54,6 +67,7 @@ returns g c = record {
         tell = tell_after tells files out mid new (omega (arith, c.mark.auto.lanes)) c.mark.ensures.tells tell;
         unused = subst (λ (o : ℕ). AreUnused files o c.args.term c.mark.new.count new) same (c.mark.ensures.drives tell_took unused_took).unused;
         are = subst (λ (o : ℕ). AreLanes files o name new marks.after) same marks.are;
+        stay = λ k bit. marks.stay k (subst (λ (o : ℕ). IsBitSet o k) (sym same) bit) ∙ kept.stay k bit;
         leaves = record {
           value = λ last later change content may.
               let stays = kept.leaves.value last later change content may in
@@ -70,6 +84,55 @@ returns g c = record {
         };
       };
   value = ap (λ (d : Draft). d.value) c.mark.ensures.draft;
+  calls = both_taken g.D.Drive.tells g.D.Drive.files g.D.Drive.count c.args.draft.now c.args.out c.args.term c.args.count.now c.mark.new.count c.mark.result
+      c.args.lanes.now c.mark.new.lanes
+      (record {
+        took = c.in-Ok.prepared;
+        middle = c.propose.new.count;
+        mid = c.propose.new.lanes;
+        later = c.mark.new.draft;
+        proposes = c.in-Ok.ensures.outcome;
+        marks = c.mark.ensures.outcome;
+      });
+  enough = λ serving serve many.
+      let D : Type 0 = g.row.D.Denot in
+      let tells = g.D.Drive.tells in
+      let took = c.in-Ok.prepared in
+      let draft = c.args.draft.now in
+      c.mark.ensures.enough serving
+      (subst (λ (o : ℕ). AllServe {D = D} tells g.D.Drive.count o serving took.whys c.propose.new.lanes c.mark.new.lanes) (sym c.in-Ok.ensures.outcome.0)
+      (serve_mark {D = D} tells g.D.Drive.files g.D.Drive.count c.args.out serving (string_bytes draft.name) draft.first.items c.args.term c.args.count.now c.propose.new.count
+      draft.letters took.whys c.args.lanes.now c.propose.new.lanes c.mark.new.lanes (omega (arith, c.propose.auto.lanes)) c.in-Ok.ensures.outcome.2
+      c.in-Ok.ensures.tells c.in-Ok.ensures.counts c.mark.ensures.counts serve))
+      many;
+  drives = λ told unused.
+      let D : Type 0 = g.row.D.Denot in
+      let tells = g.D.Drive.tells in
+      let files = g.D.Drive.files in
+      let out = c.args.out in
+      let name : List ℕ = string_bytes c.args.draft.now.name in
+      let took = c.in-Ok.prepared in
+      let mid : List D = c.propose.new.lanes in
+      let new : List D = c.mark.new.lanes in
+      let same : took.out ≡ out = c.in-Ok.ensures.outcome.0 in
+      let long : length mid ≡ length c.args.lanes.now = omega (arith, c.propose.auto.lanes) in
+      let tell : AllTell tells out mid = tell_after tells files out c.args.lanes.now mid long c.in-Ok.ensures.tells told in
+      let first = c.in-Ok.ensures.drives told unused in
+      let second = c.mark.ensures.drives (subst (λ (o : ℕ). AllTell tells o mid) (sym same) tell)
+      (subst (λ (o : ℕ). AreUnused files o c.args.term c.propose.new.count mid) (sym same) first.unused) in
+      keeps_twice {D = D} tells files g.D.Drive.count out name c.args.term c.args.count.now c.propose.new.count c.mark.new.count c.args.lanes.now mid new long
+      (propose_rises tells files g.D.Drive.count c.args.draft.now out c.args.term c.args.count.now c.propose.new.count (Ok took) c.args.lanes.now mid c.in-Ok.ensures.outcome)
+      (mark_rises tells files g.D.Drive.count c.args.draft.now took c.args.term c.propose.new.count c.mark.new.count c.mark.result c.mark.new.draft mid new c.mark.ensures.outcome)
+      first
+      (subst (λ (o : ℕ). KeepsDrives {D = D} tells files g.D.Drive.count o name c.args.term c.propose.new.count c.mark.new.count mid new) same second);
+  tells = tells_twice g.D.Drive.tells g.D.Drive.files g.D.Drive.count c.args.lanes.now c.propose.new.lanes c.mark.new.lanes (omega (arith, c.propose.auto.lanes))
+      c.in-Ok.ensures.tells c.mark.ensures.tells;
+  counts = counts_twice g.D.Drive.tells g.D.Drive.files g.D.Drive.count c.args.lanes.now c.propose.new.lanes c.mark.new.lanes (omega (arith, c.propose.auto.lanes))
+      c.in-Ok.ensures.counts c.mark.ensures.counts;
+  rises = (let one = propose_rises g.D.Drive.tells g.D.Drive.files g.D.Drive.count c.args.draft.now c.args.out c.args.term c.args.count.now c.propose.new.count
+      (Ok c.in-Ok.prepared) c.args.lanes.now c.propose.new.lanes c.in-Ok.ensures.outcome in
+      let two = mark_rises g.D.Drive.tells g.D.Drive.files g.D.Drive.count c.args.draft.now c.in-Ok.prepared c.args.term c.propose.new.count c.mark.new.count
+      c.mark.result c.mark.new.draft c.propose.new.lanes c.mark.new.lanes c.mark.ensures.outcome in omega arith);
   count = (let one = propose_few g.D.Drive.tells g.D.Drive.files g.D.Drive.count c.args.draft.now c.args.out c.args.term c.args.count.now c.propose.new.count
       (Ok c.in-Ok.prepared) c.args.lanes.now c.propose.new.lanes c.in-Ok.ensures.outcome in
       let two = mark_few g.D.Drive.tells g.D.Drive.files g.D.Drive.count c.args.draft.now c.in-Ok.prepared c.args.term c.propose.new.count c.mark.new.count
