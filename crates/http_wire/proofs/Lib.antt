@@ -9,3 +9,4 @@ mod NameLemmas
 mod FramingLemmas
 mod ExclusionLemmas
 mod StayLemmas
+mod OrderLemmas

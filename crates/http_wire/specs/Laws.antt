@@ -1,7 +1,12 @@
 -- That what decides of a text decides one way.
-use Rattle.std.specs.Prelude.{◌≡◌, ℕ, List, ◌++◌, take}
-use Rattle.httparse.specs.Grammar.{RequestHead, EndsInTarget}
+use Rattle.std.specs.Prelude.{◌≡◌, ℕ, List, ◌++◌, take, Option}
+use Rattle.std.specs.Io.KnownBytes.{prepend_known, IsAtEnd}
+use Rattle.httparse.specs.Grammar.{RequestHead, print_request, EndsInTarget}
 use Rattle.http_wire.specs.Heads.{BeginsHead, IsOpen, IsBad, IsTooLong, most_bytes}
+use Rattle.http_wire.specs.declared.fault.WireFault.{WireFault}
+use Rattle.http_wire.specs.declared.reading.Reading.TheVariants.{Whole, End, Refused}
+use Rattle.http_wire.specs.Parts.{HeadParts, parts_of}
+use Rattle.http_wire.specs.Answers.{Wired, ReadsNext, GivesPart}
 
 -- a text begins with one head at most, and then it is neither open nor refused; one that is open is not refused, and one
 -- that is bad has reached no limit, but for a text that ends inside a target, where the test for UTF-8 may come later
@@ -21,3 +26,18 @@ pub record HeadsStay : Type 0 where
   pub bad_more : (text more : List ℕ) → IsBad (take most_bytes text) → IsBad (take most_bytes (text ++ more))
   pub long_more : (text more : List ℕ) → IsTooLong (take most_bytes text) → IsTooLong (take most_bytes (text ++ more))
   pub open_before : (text more : List ℕ) → IsOpen (text ++ more) → IsOpen text
+
+-- what a wire gives is what was unread, in order, where the unread bytes are those that wait and then those that are left
+-- of the source: a head is all its bytes, a refusal and the end are none
+pub record GivesInOrder : Type 0 where
+  pub head : (head : HeadParts) (n : ℕ) (before waits : List ℕ) (left after : Option (List ℕ)) (faults faults_after : ℕ)
+      → ReadsNext (Whole head n) before waits left after faults faults_after
+      → (tree : RequestHead) × (head ≡ parts_of tree) × (prepend_known before left ≡ prepend_known (print_request tree) (prepend_known waits after))
+  pub refused : (fault : WireFault) (before waits : List ℕ) (left after : Option (List ℕ)) (faults faults_after : ℕ)
+      → ReadsNext (Refused fault) before waits left after faults faults_after → prepend_known before left ≡ prepend_known waits after
+  pub end : (before waits : List ℕ) (left after : Option (List ℕ)) (faults faults_after : ℕ)
+      → ReadsNext End before waits left after faults faults_after
+      → (prepend_known before left ≡ prepend_known waits after) × IsAtEnd (prepend_known before left)
+  pub part : (n : ℕ) (into : List ℕ) (old new : Wired) (left after : Option (List ℕ)) (faults faults_after : ℕ)
+      → GivesPart n into old new left after faults faults_after
+      → prepend_known old.waits left ≡ prepend_known (take n into) (prepend_known new.waits after)

@@ -8,7 +8,8 @@
 //! which bytes come change nothing.
 //!
 //! Nothing is taken from the source while what is at hand decides, and what is behind a head waits for its body and for
-//! the next head. After a refusal the wire gives the same one again and takes nothing more.
+//! the next head; [`wire_laws`] says that what is given is what was unread, in order. After a refusal the wire gives the
+//! same one again and takes nothing more.
 //!
 //! A head that comes in single bytes is parsed anew at each: its cost is bounded by 65,536 such judgements.
 #![tactic(auto)]
@@ -29,4 +30,4 @@ mod wire;
 pub use fault::WireFault;
 pub use head::Head;
 pub use judging::head_laws;
-pub use wire::Wire;
+pub use wire::{Wire, wire_laws};

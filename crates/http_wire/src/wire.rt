@@ -2,6 +2,7 @@
 
 ghost use Rattle.std.specs.Prelude.{◌≡◌, [], None, Some, Err, IfOk, IfErr};
 ghost use Rattle.http_wire.specs.Answers.{Answers, GivesBody};
+ghost use Rattle.http_wire.specs.Laws.{GivesInOrder};
 ghost use Rattle.http_wire.specs.Seen.{seen};
 
 use crate::fault::WireFault;
@@ -113,3 +114,8 @@ impl<S: Source + Drop> Wire<S> {
         self.body_left
     }
 }
+
+/// The law that a wire gives what was unread, in order, for a caller's proof. It does nothing.
+pub fn wire_laws()
+    ensures { GivesInOrder }
+{}
