@@ -1,0 +1,9 @@
+pub mod Answers
+pub mod Framing
+pub mod Heads
+pub mod Laws
+pub mod Lines
+pub mod Names
+pub mod Parts
+pub mod Seen
+pub mod Taking
