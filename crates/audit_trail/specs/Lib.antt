@@ -1,0 +1,4 @@
+pub mod Entries
+pub mod LineAudit
+pub mod Lines
+pub mod MemAudit
