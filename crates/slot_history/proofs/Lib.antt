@@ -1,0 +1,15 @@
+pub mod AgainLemmas
+pub mod DigitLemmas
+pub mod DoesLemmas
+pub mod LawfulLemmas
+pub mod MemberLemmas
+pub mod MoveLemmas
+pub mod NameLemmas
+pub mod OwnLemmas
+pub mod RestLemmas
+pub mod RunLemmas
+pub mod StandLemmas
+pub mod StayLemmas
+pub mod StepLemmas
+pub mod TakenLemmas
+pub mod WroteLemmas

@@ -1,0 +1,11 @@
+pub mod Committing
+pub mod Contents
+pub mod Doing
+pub mod Laws
+pub mod Moving
+pub mod Names
+pub mod Sections
+pub mod Standing
+pub mod State
+pub mod Waiting
+pub mod Writing
