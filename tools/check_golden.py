@@ -15,6 +15,7 @@ TOP = pathlib.Path(__file__).resolve().parent.parent
 # A generator with its arguments, and the file that has what it prints.
 GOLDEN = [
     (["golden_register.py"], "crates/register_file/src/tests.rt"),
+    (["golden_format.py"], "crates/term_gate/src/tests.rt"),
     (["golden_manifest.py"], "crates/manifest_file/src/tests.rt"),
     (["golden_shards.py"], "crates/shard_file/src/tests.rt"),
     (["golden_book.py"], "crates/bucket_book/src/tests.rt"),

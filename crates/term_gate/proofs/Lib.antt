@@ -1,0 +1,10 @@
+mod ClearLemmas
+mod CompleteLemmas
+mod DecidingLemmas
+mod EachLemmas
+mod FormatLemmas
+mod LooseLemmas
+mod OpenLemmas
+mod ServeLemmas
+mod StayLemmas
+mod TermLemmas

@@ -1,0 +1,9 @@
+use Rattle.term_gate.proofs.CompleteLemmas.{complete}
+use Rattle.term_gate.proofs.StayLemmas.{terms_stay}
+use Rattle.term_gate.proofs.laws.opening_laws.Goals as goal
+
+pub returns-clause-complete : goal.returns-clause-complete
+returns-clause-complete c = complete
+
+pub returns-clause-terms : goal.returns-clause-terms
+returns-clause-terms c = terms_stay

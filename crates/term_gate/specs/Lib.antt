@@ -1,0 +1,10 @@
+pub mod Complete
+pub mod Deciding
+pub mod Formats
+pub mod Laws
+pub mod Opening
+pub mod Reading
+pub mod Surveying
+pub mod Table
+pub mod Terms
+pub mod Writing
