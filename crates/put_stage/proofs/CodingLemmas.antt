@@ -3,7 +3,7 @@ use Rattle.std.proofs.Common.{◌≡◌, ℕ, ◌+◌, ◌-◌, ◌*◌, ◌<◌
 use Rattle.std.proofs.Math.Nat.{mul-le-mul_left}
 use Rattle.std.proofs.lemmas.Bool.{cases_lt}
 use Rattle.std.proofs.lemmas.Grind.{same_number_lists}
-use Rattle.std.proofs.lemmas.List.{drop-append-le, get_or-append_right, get_or-drop, get_or-map, get_or-take, get_or_append_left, length-append, length-drop, length-map, same_lists, take-append-le, take_all}
+use Rattle.std.proofs.lemmas.List.{drop-append-le, get_or-append_right, get_or-drop, get_or-map, get_or-take, get_or_append_left, length-append, length-drop, length-map, same_lists, take-append-le, take_all, take_at}
 use Rattle.std.proofs.lemmas.List.FromFn.{take-map-range_with_len}
 use Rattle.poly_code.proofs.CodewordLemmas.{column-at, length-column}
 use Rattle.poly_code.specs.Codeword.{Codeword}
@@ -142,3 +142,11 @@ is_coded n d p stripe front out coded whole some sized padded_is blocks_are long
 -- a product by an equal number, turned around
 pub turned : (a b c : ℕ) → b ≡ c → a * b ≡ c * a
 turned a b c e = ap (λ (m : ℕ). a * m) e ∙ omega arith
+
+-- the data blocks stay in front of what is filled up with more
+pub front_stays : (d size all : ℕ) (stripe held more : List ℕ) → 0 < d → size ≡ block_size d (length stripe) → held ≡ padded d stripe → size * d ≤ all
+    → take (size * d) (take all held ++ more) ≡ padded d stripe
+front_stays d size all stripe held more some sized is fits =
+    let times : d * size ≡ d * block_size d (length stripe) = ap (λ (m : ℕ). d * m) sized in
+    let long : length held ≡ size * d = ap (length {A = ℕ}) is ∙ omega (arith, length-padded d stripe some) in
+    ap (λ (bytes : List ℕ). take (size * d) (bytes ++ more)) (take_all all held (omega arith)) ∙ take_at held more (size * d) long ∙ is

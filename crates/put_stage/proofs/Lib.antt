@@ -1,5 +1,12 @@
+pub mod BeginLemmas
+pub mod CallLemmas
 pub mod CodingLemmas
+pub mod FillLemmas
+pub mod FinishLemmas
 pub mod HolderLemmas
+pub mod LawProofs
 pub mod ManifestLemmas
 pub mod NameLemmas
 pub mod ShardLemmas
+pub mod SparesLemmas
+pub mod StepLemmas

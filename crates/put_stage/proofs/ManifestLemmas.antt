@@ -1,5 +1,5 @@
 -- The manifest of a body that is one part is canonical, and the parts of a canonical one have a number of bytes that fits.
-use Rattle.std.proofs.Common.{◌≡◌, ℕ, ◌+◌, ◌*◌, ◌^◌, ◌<◌, ◌≤◌, ◌∙◌, List, [], ◌∷◌, length, take, slice_index_or, subst, sym, ap, arith}
+use Rattle.std.proofs.Common.{◌≡◌, ℕ, ◌+◌, ◌*◌, ◌^◌, ◌<◌, ◌≤◌, ◌∙◌, List, [], ◌∷◌, length, take, slice_index_or, subst, sym, ap, arith, refl}
 use Rattle.std.specs.Prelude.{map, sum_by}
 use Rattle.std.specs.List.{AllByRecursion}
 use Rattle.std.proofs.lemmas.List.{length-map}
@@ -11,7 +11,15 @@ use Rattle.manifest_file.specs.Canonical.{IsCanonical, IsCanonicalPart, IsRoot}
 use Rattle.manifest_file.specs.declared.manifest.Manifest.{Manifest}
 use Rattle.manifest_file.specs.declared.manifest.ManifestPart.{ManifestPart}
 use Rattle.shard_file.specs.Shards.{root_of, table_of}
+use Rattle.manifest_file.specs.Print.{cut_of, print_of_parts}
+use Rattle.manifest_file.specs.Spelling.{file_of}
+use Rattle.md5.specs.Md5.{md5}
+use Rattle.sha2.specs.Sha256.{sha256}
+use Rattle.std.specs.String.{string_bytes}
 use Rattle.put_stage.specs.Coding.{IsSharded}
+use Rattle.put_stage.specs.Taking.{IsMadeOf}
+use Rattle.put_stage.specs.declared.stage.Load.{Load}
+use Rattle.put_stage.specs.declared.stage.Made.{Made}
 use Rattle.put_stage.specs.Manifests.{part_size}
 use Rattle.put_stage.specs.Outcomes.{manifest_of}
 
@@ -67,3 +75,42 @@ canonical set id name body size d files roots m is short few sharded =
       parts = (part, tt);
     } in
     subst IsCanonical (sym is) made
+
+-- digests are roots
+digests_are_roots : (tables : List (List ℕ)) → AllByRecursion IsRoot (map sha256 tables)
+digests_are_roots [] = tt
+digests_are_roots (table ∷ tables) = (sha256_is_root table, digests_are_roots tables)
+
+-- so is the manifest with the roots of these digest tables, one for each drive
+pub canonical_of_tables : (set : SetPlan) (id : VersionId) (name : List ℕ) (size : ℕ) (tables roots : List (List ℕ)) (m : Manifest)
+    → m ≡ manifest_of set id name size roots → length name < 2 ^ 16 → size ≤ 5368709120 → roots ≡ map sha256 tables → length tables ≡ set.drives → IsCanonical m
+canonical_of_tables set id name size tables roots m is short few roots_are counted =
+    let part : IsCanonicalPart set.drives (record { id = id; length = size; roots = roots }) = record {
+      size = few;
+      counted = ap length roots_are ∙ length-map tables sha256 ∙ counted;
+      roots = subst (AllByRecursion IsRoot) (sym roots_are) (digests_are_roots tables);
+    } in
+    let made : IsCanonical (manifest_of set id name size roots) = record {
+      name = short;
+      drives = omega arith;
+      parity = omega arith;
+      some = omega arith;
+      few = omega arith;
+      parts = (part, tt);
+    } in
+    subst IsCanonical (sym is) made
+
+-- the roots of shards that have these tables
+pub roots_of_tables : (shards : List (List (List ℕ))) → map sha256 (map table_of shards) ≡ map root_of shards
+roots_of_tables [] = refl
+roots_of_tables (shard ∷ shards) = ap (λ (rest : List (List ℕ)). root_of shard ∷ rest) (roots_of_tables shards)
+
+-- what is made of a body that is whole
+pub is_made : (load : Load) (body : List ℕ) (shards : List (List (List ℕ))) (m : Manifest) (made : Made)
+    → m ≡ manifest_of load.set load.names.id (string_bytes load.name) (length body) (map root_of shards)
+    → made.manifest.items ≡ file_of m → made.print ≡ print_of_parts m.drives m.parity (map cut_of m.parts) → made.etag ≡ md5 body → IsMadeOf load body shards made
+is_made load body shards m made is file print etag = record {
+  manifest = file ∙ ap file_of is;
+  print = print ∙ ap (λ (x : Manifest). print_of_parts x.drives x.parity (map cut_of x.parts)) is;
+  etag = etag;
+}

@@ -1,7 +1,17 @@
+pub mod Beginning
+pub mod Cells
 pub mod Coding
+pub mod Dues
+pub mod Filling
+pub mod Finishing
 pub mod Holding
+pub mod Laws
 pub mod Manifests
 pub mod OnDrives
 pub mod Outcomes
+pub mod Parity
 pub mod Preparing
+pub mod Stepping
 pub mod Steps
+pub mod Taking
+pub mod Working

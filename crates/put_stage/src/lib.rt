@@ -11,19 +11,34 @@
 //! manifest alone or both, and that the drives are as they were where the body has another MD5 than stated, or where
 //! memory is missing. [`stage_manifest`] promises the same of the manifest that it is given, and that no other file is
 //! touched.
+//!
+//! A [`Stage`] does the same step by step, a stripe of the body or one drive call at a time, so that calls of others can
+//! come between two steps. What it leaves is said of its own four names on each drive: a step keeps what is said of them,
+//! and at the end each drive that took all holds the body's files, where others left these names alone. Its order is fixed:
+//! stripe by stripe the blocks on each drive, then drive by drive the digest table, the manifest, and both renames.
 #![tactic(auto)]
 
 mod answers;
+mod coding;
 mod drives;
+mod dues;
 mod each;
+mod filling;
+mod finishing;
+mod laws;
+mod making;
 mod manifests;
 mod names;
 mod shards;
+mod stage;
 mod staged;
+mod stepping;
 mod stripes;
 mod whole;
 
+pub use laws::stage_laws;
 pub use manifests::stage_manifest;
+pub use stage::{Stage, StageNext};
 pub use staged::{StageFault, Staged};
 pub use whole::stage_whole;
 

@@ -50,7 +50,7 @@ pub fn stage_manifest<D: Drive>(
 }
 
 /// The bytes of all parts of a body.
-fn total_size(manifest: &Manifest) -> u64
+pub fn total_size(manifest: &Manifest) -> u64
     requires { IsCanonical manifest.now }
     ensures { result ≡ total_size manifest.now }
 {

@@ -32,9 +32,9 @@ pub enum StageFault {
         /// The body's.
         computed: [u8; 16],
     },
-    /// The body ended before its stated length. No call answers so yet.
+    /// The body ended before its stated length.
     BodyCut,
-    /// The source of the body failed. No call answers so yet.
+    /// The source of the body failed.
     ReadFault,
     /// There was not enough memory. Nothing was put in place.
     NoMemory,

@@ -1,6 +1,6 @@
 //! The stripes of a body, coded.
 
-ghost use Rattle.std.specs.Prelude.{◌≡◌, ◌+◌, ◌*◌, ◌<◌, ◌≤◌, IfOk, length};
+ghost use Rattle.std.specs.Prelude.{◌≡◌, ◌+◌, ◌*◌, ◌<◌, ◌≤◌, [], IfOk, length};
 ghost use Rattle.drive_base.specs.Plan.{data_drives};
 ghost use Rattle.put_stage.specs.Coding.{AreCoded, IsCoded, block_at};
 
@@ -21,6 +21,18 @@ pub struct Stripe {
 }
 
 impl Stripe {
+    /// A stripe of no bytes, of no drive.
+    pub fn none(alloc: Global) -> Stripe
+        ensures short { result.size ≡ 0 }
+        ensures none { result.blocks.items ≡ [] }
+    {
+        Stripe {
+            size: 0,
+            blocks: Vec::new(alloc),
+            digests: Vec::new(alloc),
+        }
+    }
+
     /// The block of this number.
     pub fn block(&self, number: usize) -> &[u8]
         requires { self.now.size * (number + 1) ≤ length self.now.blocks.items }

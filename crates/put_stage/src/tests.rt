@@ -9,9 +9,11 @@ use stamp_id::{Ballot, ChangeId, VersionId};
 use std::alloc::{AllocError, Global};
 use std::test::Fail;
 
+mod feeds;
 mod golden;
 mod manifests;
 mod sets;
+mod steps;
 mod whole;
 
 /// The drives of four that are out, one that is lost, and those that take a stage then.

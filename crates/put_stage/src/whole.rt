@@ -53,7 +53,7 @@ pub fn stage_whole<D: Drive>(
 }
 
 /// Whether the MD5 that was stated, if any, is the body's.
-fn compare(stated: Option<[u8; 16]>, computed: [u8; 16]) -> Result<(), StageFault>
+pub fn compare(stated: Option<[u8; 16]>, computed: [u8; 16]) -> Result<(), StageFault>
     ensures { Compares stated computed result }
 {
     let Some(stated) = stated else {
@@ -103,7 +103,7 @@ fn prepare(
 }
 
 /// The manifest of a body that is one part.
-fn manifest_of(
+pub fn manifest_of(
     alloc: Global,
     set: &SetPlan,
     id: VersionId,

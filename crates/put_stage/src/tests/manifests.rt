@@ -13,7 +13,7 @@ use std::alloc::Global;
 use std::test::Fail;
 
 /// The manifest of the golden file.
-fn golden_manifest(alloc: Global) -> Result<Manifest, Fail>
+pub fn golden_manifest(alloc: Global) -> Result<Manifest, Fail>
     ensures canonical { IfOk result (λ manifest. IsCanonical manifest) }
     ensures drives { IfOk result (λ manifest. manifest.drives ≡ 4) }
     ensures parity { IfOk result (λ manifest. manifest.parity ≡ 2) }
@@ -54,7 +54,7 @@ fn that_show_it(alloc: Global, drives: &mut [MemDrive]) -> Result<[bool; 4], Fai
 }
 
 /// The answer with this mask of the drives that took it.
-fn parts_on(took: u16) -> Staged {
+pub fn parts_on(took: u16) -> Staged {
     Staged {
         print: PARTS_PRINT,
         length: 5_368_709_131,

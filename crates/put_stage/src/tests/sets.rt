@@ -12,7 +12,7 @@ use std::alloc::{AllocError, Global};
 use std::test::Fail;
 
 /// A body of so many bytes, of which byte i is i mod 251.
-fn body_of(alloc: Global, count: u32) -> Result<Vec<u8>, AllocError>
+pub fn body_of(alloc: Global, count: u32) -> Result<Vec<u8>, AllocError>
     ensures { IfOk result (λ body. length body.items ≡ count) }
 {
     let mut body = Vec::with_capacity(alloc, count as usize)?;
@@ -34,7 +34,7 @@ fn staged(alloc: Global, set: SetPlan, count: u32, drives: &mut [MemDrive]) -> R
 }
 
 /// The hex digits of the SHA-256 of the files of all drives, on each the shard file and then the manifest.
-fn digest_of_files(alloc: Global, drives: &mut [MemDrive]) -> Result<String, Fail> {
+pub fn digest_of_files(alloc: Global, drives: &mut [MemDrive]) -> Result<String, Fail> {
     let mut hasher = Sha256::new();
     for drive in drives.iter_mut() {
         hasher.update(shown(alloc, drive, SHARD)?.as_slice());

@@ -46,7 +46,7 @@ fn shows_none(drive: &mut MemDrive) -> bool {
 }
 
 /// The answer to `hello` with this mask of the drives that took all.
-fn hello_on(took: u16) -> Staged {
+pub fn hello_on(took: u16) -> Staged {
     Staged {
         print: HELLO_PRINT,
         length: 5,

@@ -1,0 +1,46 @@
+-- One call of a drive, and what the drives have after it.
+use Rattle.std.proofs.Common.{◌≡◌, ◌∙◌, ap, refl, sym, inl, arith, length, slice_index_or, slice_set}
+use Rattle.std.specs.Prelude.{Ok, Err}
+use Rattle.std.proofs.lemmas.List.{get_or_default}
+use Rattle.put_stage.specs.Dues.{after}
+use Rattle.put_stage.specs.Working.{due_at}
+use Rattle.put_stage.specs.declared.dues.Due.{Due}
+use Rattle.put_stage.specs.declared.dues.Due.TheVariants.{Block, Nothing}
+use Rattle.put_stage.proofs.StepLemmas.{step_works, stepped}
+use Rattle.put_stage.proofs.stage.Stage.step.Goals as goal
+
+pub returns-in-Ok-clause-works : goal.returns-in-Ok-clause-works
+returns-in-Ok-clause-works g c =
+    let D = g.D.Drive in
+    let old = c.args.self.now in
+    let k = c.in-Some.index in
+    let due : Due = slice_index_or old.dues k Block in
+    let places : length old.dues ≡ 16 = omega arith in
+    let same : due_at old k ≡ due = get_or_default old.dues k Nothing Block (omega (arith, places, c.in-Some.ensures.0.within, old.load.set.few_drives)) in
+    step_works D.tells D.files D.count k old _ c.args.drives.now c.index-drives-index.result c.call_on.new.drive (Ok c.in-Ok.field-0) due
+    places c.requires same c.in-Some.ensures.0 (refl, ap (slice_set old.dues k) (c.after.ensures ∙ ap (after old.load.alone) (sym same))) refl c.in-Ok.ensures.works
+
+pub returns-in-Err-clause-once : goal.returns-in-Err-clause-once
+returns-in-Err-clause-once g c =
+    let D = g.D.Drive in
+    let old = c.args.self.now in
+    let k = c.in-Some.index in
+    let due : Due = slice_index_or old.dues k Block in
+    let places : length old.dues ≡ 16 = omega arith in
+    let same : due_at old k ≡ due = get_or_default old.dues k Nothing Block (omega (arith, places, c.in-Some.ensures.0.within, old.load.set.few_drives)) in
+    inl (
+      k,
+      stepped D.tells D.files D.count k old _ c.args.drives.now c.index-drives-index.result c.call_on.new.drive (Err c.in-Err.why) due
+          c.requires same c.in-Some.ensures.0 c.in-Some.ensures.1 (c.set.ensures, refl) c.in-Err.ensures.letter c.call_on.ensures.spares,
+    )
+
+pub returns-in-Err-clause-works : goal.returns-in-Err-clause-works
+returns-in-Err-clause-works g c =
+    let D = g.D.Drive in
+    let old = c.args.self.now in
+    let k = c.in-Some.index in
+    let due : Due = slice_index_or old.dues k Block in
+    let places : length old.dues ≡ 16 = omega arith in
+    let same : due_at old k ≡ due = get_or_default old.dues k Nothing Block (omega (arith, places, c.in-Some.ensures.0.within, old.load.set.few_drives)) in
+    step_works D.tells D.files D.count k old _ c.args.drives.now c.index-drives-index.result c.call_on.new.drive (Err c.in-Err.why) due
+    places c.requires same c.in-Some.ensures.0 (c.set.ensures, refl) refl c.in-Err.ensures.works

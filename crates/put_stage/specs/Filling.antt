@@ -1,0 +1,45 @@
+-- The parts of a fill.
+use Rattle.std.specs.Prelude.{◌≡◌, ◌<◌, ◌≤◌, ℕ, true, false, List, ◌++◌, length, Result, Ok, Err, slice_index_or}
+use Rattle.call_types.specs.Feeds.{FeedView, Gave}
+use Rattle.call_types.specs.Good.{is_good}
+use Rattle.call_types.specs.declared.why.Why.{Why}
+use Rattle.call_types.specs.declared.why.Why.TheVariants.{Good}
+use Rattle.shard_file.specs.Stripes.{stripe_size}
+use Rattle.put_stage.specs.Taking.{GaveUpTo, TookStripe}
+use Rattle.put_stage.specs.declared.dues.Due.{Due}
+use Rattle.put_stage.specs.declared.dues.Due.TheVariants.{Block, Nothing}
+use Rattle.put_stage.specs.declared.stage.Load.{Load}
+use Rattle.put_stage.specs.declared.staged.StageFault.{StageFault}
+
+-- these bytes, of this number, are all that a feed gave
+pub record GaveAll (count : ℕ) (bytes : List ℕ) (old new : FeedView) : Type 0 where
+  pub long : length bytes ≡ count
+  pub gave : Gave bytes old new
+
+-- a feed gave some bytes, at most so many, and they were added
+pub record TakesMore (most : ℕ) (before after : List ℕ) (old new : FeedView) : Type 0 where
+  pub bytes : List ℕ
+  pub added : after ≡ before ++ bytes
+  pub some : 0 < length bytes
+  pub few : length bytes ≤ most
+  pub gave : Gave bytes old new
+
+-- what a take of a piece adds; one that is refused took at most so many bytes
+abbrev pub PieceTakes : Result (Unit {0}) StageFault → ℕ → List ℕ → List ℕ → FeedView → FeedView → Type 0
+PieceTakes (Ok _) most before after old new = TakesMore most before after old new
+PieceTakes (Err _) most before after old new = GaveUpTo most old new
+
+-- what a read of so many bytes gives; one that is refused took at most so many
+abbrev pub ReadTakes : Result (Unit {0}) StageFault → ℕ → List ℕ → FeedView → FeedView → Type 0
+ReadTakes (Ok _) count bytes old new = GaveAll count bytes old new
+ReadTakes (Err _) count bytes old new = GaveUpTo count old new
+
+-- a load took a stripe of what a feed gave
+abbrev pub LoadTakes : Result (Unit {0}) StageFault → Load → Load → FeedView → FeedView → Type 0
+LoadTakes (Ok _) old new before after = (stripe : List ℕ) × TookStripe old new stripe × Gave stripe before after
+LoadTakes (Err _) old new before after = GaveUpTo stripe_size before after
+
+-- a block is due on each drive that serves, and on the others the same call as before
+pub record AreDueAfter (whys : List Why) (old new : List Due) : Type 0 where
+  pub serving : (k : ℕ) → k < length whys → is_good (slice_index_or whys k Good) ≡ true → slice_index_or new k Nothing ≡ Block
+  pub others : (k : ℕ) → k < length whys → is_good (slice_index_or whys k Good) ≡ false → slice_index_or new k Nothing ≡ slice_index_or old k Nothing

@@ -1,0 +1,16 @@
+-- What holds of a stage at work whatever it does next.
+use Rattle.std.specs.Prelude.{ℕ}
+use Rattle.drive_base.specs.Files.{Files}
+use Rattle.put_stage.specs.Cells.{DataCells, LeavesCells, data_of}
+use Rattle.put_stage.specs.Working.{AtWork, Blocks, IsOpen, Keeps}
+use Rattle.put_stage.specs.declared.stage.Stage.{Stage}
+
+-- A stage is at work on a drive still where others left what is under its four names.
+abbrev pub WorkOutlivesOthers : Type 0
+WorkOutlivesOthers = (stage : Stage) (blocks : Blocks) (k : ℕ) (first : DataCells) (old new : Files) → LeavesCells stage.load.names.id old new
+    → AtWork stage blocks k first (data_of stage.load.names.id old) → AtWork stage blocks k first (data_of stage.load.names.id new)
+
+-- While bytes are left to be taken, or where the MD5 is another than stated, nothing is in place of what a stage writes.
+abbrev pub OpenStagesPlaceNothing : Type 0
+OpenStagesPlaceNothing = (stage : Stage) (blocks : Blocks) (k : ℕ) (first cells : DataCells) → IsOpen stage.load → AtWork stage blocks k first cells
+    → Keeps first.manifest first.shard cells

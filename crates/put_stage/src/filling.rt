@@ -1,0 +1,121 @@
+//! How a stage takes its body: a stripe a fill.
+
+ghost use Rattle.std.specs.Prelude.{◌≡◌, ◌+◌, ◌<◌, ◌≤◌, ◌++◌, ℕ, List, [], IfErr, IsOk, OnOk, OnErr, Ok, length, slice_index_or};
+ghost use Rattle.call_types.specs.Feeds.{FeedView, Gave};
+ghost use Rattle.put_stage.specs.Coding.{all_bytes};
+ghost use Rattle.put_stage.specs.Filling.{AreDueAfter, LoadTakes, PieceTakes, ReadTakes};
+ghost use Rattle.put_stage.specs.Stepping.{MayFill};
+ghost use Rattle.put_stage.specs.Taking.{FillCause, FillTakes};
+
+use crate::coding::coded;
+use crate::dues::Due;
+use crate::making::conclude;
+use crate::stage::{Load, Stage};
+use crate::staged::StageFault;
+use call_types::{Cut, Feed, Whys};
+use md5::{Digest, Md5};
+use shard_file::STRIPE;
+use std::alloc::{AllocError, Global};
+use std::mem;
+
+/// The bytes that are asked of a feed at once.
+const PIECE: usize = 16384;
+
+impl Stage {
+    /// Takes the next stripe of the body from the feed, codes it, and lets its blocks be appended to the shard files. Where
+    /// it is the last one the manifest is made, and the MD5 is compared with the one that was stated. `BodyCut` where the
+    /// feed ended before its stated length, `ReadFault` where its source failed, `NoMemory`; after these the stage is of no
+    /// use.
+    pub fn fill<F: Feed>(&mut self, alloc: Global, feed: &mut F) -> Result<(), StageFault>
+        requires next { MayFill self.old }
+        requires feed { (F.seen feed.old).given + self.old.load.left ≡ (F.seen feed.old).stated }
+        ensures takes { FillTakes result self.old self.new (F.seen feed.old) (F.seen feed.new) }
+        ensures cause { FillCause result (F.seen feed.new) (F.faults feed.old) (F.faults feed.new) }
+    {
+        take_stripe(alloc, &mut self.load, feed)?;
+        append_next(&mut self.dues, &self.whys);
+        Ok(())
+    }
+}
+
+/// The next call on each drive that serves is that of its block.
+fn append_next(dues: &mut [Due; 16], whys: &Whys)
+    ensures { AreDueAfter whys.now dues.old dues.new }
+{
+    for index in 0..whys.len() {
+        if whys.get(index).is_good() {
+            dues[index] = Due::Block;
+        }
+    }
+}
+
+/// Takes the next stripe.
+fn take_stripe<F: Feed>(alloc: Global, load: &mut Load, feed: &mut F) -> Result<(), StageFault>
+    requires some { 0 < load.old.left }
+    requires feed { (F.seen feed.old).given + load.old.left ≡ (F.seen feed.old).stated }
+    ensures takes { LoadTakes result load.old load.new (F.seen feed.old) (F.seen feed.new) }
+    ensures set { load.new.set ≡ load.old.set }
+    ensures cause { FillCause result (F.seen feed.new) (F.faults feed.old) (F.faults feed.new) }
+{
+    let long = load.left.min(STRIPE);
+    let mut stripe = Vec::with_capacity(alloc, long as usize)?;
+    read_into(feed, long as usize, &mut stripe)?;
+    load.hasher.update(stripe.as_slice());
+    let window = coded(alloc, &load.set, stripe)?;
+    add_digests(load.tables.as_mut_slice(), window.digests.as_slice())?;
+    load.window = window;
+    load.left -= long;
+    if load.left > 0 {
+        return Ok(());
+    }
+    let hasher = mem::replace(&mut load.hasher, Md5::new());
+    load.made = conclude(alloc, load, hasher.finalize())?;
+    Ok(())
+}
+
+/// Adds a digest to each digest table.
+fn add_digests(tables: &mut [Vec<u8>], digests: &[[u8; 32]]) -> Result<(), AllocError>
+    requires { length tables.old ≡ length digests.now }
+    ensures { OnOk result ((k : ℕ) → k < length tables.old → slice_index_or (all_bytes tables.new) k []
+        ≡ slice_index_or (all_bytes tables.old) k [] ++ slice_index_or digests.now k []) }
+{
+    let mut index = 0;
+    for table in tables.iter_mut() {
+        table.extend_from_slice(&digests[index])?;
+        index += 1;
+    }
+    Ok(())
+}
+
+/// Takes so many bytes of a feed, at most as many as its stated length leaves.
+fn read_into<F: Feed>(feed: &mut F, count: usize, into: &mut Vec<u8>) -> Result<(), StageFault>
+    requires empty { into.old.items ≡ [] }
+    requires room { (F.seen feed.old).given + count ≤ (F.seen feed.old).stated }
+    ensures gave { ReadTakes result count into.new.items (F.seen feed.old) (F.seen feed.new) }
+    ensures cause { FillCause result (F.seen feed.new) (F.faults feed.old) (F.faults feed.new) }
+{
+    while into.len() < count {
+        let room = count - into.len();
+        take_piece(feed, room.min(PIECE), into)?;
+    }
+    Ok(())
+}
+
+/// Takes the next bytes of a feed, at most so many, and adds them.
+fn take_piece<F: Feed>(feed: &mut F, most: usize, into: &mut Vec<u8>) -> Result<(), StageFault>
+    requires some { 0 < most }
+    requires few { most ≤ PIECE }
+    requires room { (F.seen feed.old).given + most ≤ (F.seen feed.old).stated }
+    ensures more { PieceTakes result most into.old.items into.new.items (F.seen feed.old) (F.seen feed.new) }
+    ensures cause { FillCause result (F.seen feed.new) (F.faults feed.old) (F.faults feed.new) }
+{
+    let mut piece = [0; PIECE];
+    match feed.take(&mut piece[..most]) {
+        Ok(count) => {
+            into.extend_from_slice(&piece[..count])?;
+            Ok(())
+        }
+        Err(Cut::BodyCut { .. }) => Err(StageFault::BodyCut),
+        Err(_) => Err(StageFault::ReadFault),
+    }
+}

@@ -1,0 +1,10 @@
+//! The laws of a stage at work, for a caller's proof.
+
+ghost use Rattle.put_stage.specs.Laws.{OpenStagesPlaceNothing, WorkOutlivesOthers};
+
+/// A stage is at work still after others that leave its four names, and puts nothing in place while bytes of its body are
+/// left, or where the body has another MD5 than stated: so also where a `fill` is refused. It does nothing.
+pub fn stage_laws()
+    ensures others { WorkOutlivesOthers }
+    ensures open { OpenStagesPlaceNothing }
+{}

@@ -1,0 +1,80 @@
+//! A stage: what it writes, and how far it has come on each drive.
+
+ghost use Rattle.std.specs.Prelude.{◌≡◌, ◌+◌, ◌*◌, ◌<◌, ◌≤◌, ◌^◌, ℕ, true, false, length, slice_index_or, string_bytes};
+ghost use Rattle.std.specs.Int.{IsBitSet};
+ghost use Rattle.call_types.specs.Good.{is_good};
+ghost use Rattle.call_types.specs.declared.why.Why.TheVariants.{Good};
+
+use crate::dues::Due;
+use crate::names::Names;
+use crate::stripes::Stripe;
+use call_types::Whys;
+use drive_base::SetPlan;
+use md5::Md5;
+
+/// What is made once the body is whole.
+#[derive(Drop)]
+pub struct Made {
+    /// The manifest's file.
+    pub manifest: Vec<u8>,
+    /// The print of the body.
+    pub print: [u8; 32],
+    /// Its MD5, or the ETag handed in with a manifest.
+    pub etag: [u8; 16],
+}
+
+/// What a stage writes on the drives of a set: the body as far as it is taken.
+#[derive(Drop)]
+pub struct Load {
+    /// The set.
+    pub set: SetPlan,
+    /// The names of the files.
+    pub names: Names,
+    /// The name of the register that the body is for.
+    pub name: String,
+    /// Whether a manifest alone is written.
+    pub alone: bool,
+    /// The length of the body.
+    pub long: u64,
+    /// How many bytes of it are not yet taken.
+    pub left: u64,
+    /// The MD5 that was stated.
+    pub stated: Option<[u8; 16]>,
+    /// The hasher of the bytes so far.
+    pub hasher: Md5,
+    /// The digest table of each shard so far.
+    pub tables: Vec<Vec<u8>>,
+    /// The blocks of the last stripe that was taken.
+    pub window: Stripe,
+    /// What is made once no byte is left.
+    pub made: Made,
+    pub ghost tables_of_all: { length tables.items ≡ set.drives },
+    pub ghost blocks_of_all: { length window.blocks.items ≡ window.size * set.drives },
+    pub ghost few: { alone ≡ false → long ≤ 5368709120 },
+    pub ghost none_left: { alone ≡ true → left ≡ 0 },
+    pub ghost short_name: { length (string_bytes name) < 2 ^ 16 },
+}
+
+/// A body, or a manifest alone, that is being staged over the data drives of a set, by one drive call a step.
+#[derive(Drop)]
+pub struct Stage {
+    /// What is written.
+    pub(crate) load: Load,
+    /// The next call on each drive.
+    pub(crate) dues: [Due; 16],
+    /// Whether each drive did all calls so far, and if not, why.
+    pub(crate) whys: Whys,
+    pub ghost letters: { length whys ≡ load.set.drives },
+    pub ghost out_lack: { (k : ℕ) → k < load.set.drives → IsBitSet load.set.out k → is_good (slice_index_or whys k Good) ≡ false },
+}
+
+/// What comes next for a stage.
+#[derive(Clone, Copy, Debug, PartialEq, Eq)]
+pub enum StageNext {
+    /// The next bytes of the body.
+    Fill,
+    /// One call of a drive.
+    Step,
+    /// The answer.
+    Finish,
+}

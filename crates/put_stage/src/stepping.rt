@@ -1,0 +1,162 @@
+//! What comes next for a stage, and one drive call of it.
+
+ghost use Rattle.std.specs.Prelude.{◌≡◌, ◌⊎◌, ◌↔◌, ◌<◌, ◌≤◌, ℕ, true, false, [], IsTrue, length, slice_index_or, Option, MatchOption};
+ghost use Rattle.put_stage.specs.Cells.{DataCells, Spares, data_of};
+ghost use Rattle.put_stage.specs.Coding.{all_bytes, block_at};
+ghost use Rattle.put_stage.specs.Dues.{is_block, is_nothing};
+ghost use Rattle.put_stage.specs.Stepping.{HasAfter, HasAppended, HasDone, IsDue, IsFirst, IsNext, LetterOf, Serves, StepWorks, StepsOnce};
+ghost use Rattle.put_stage.specs.Working.{Blocks, Disagrees, IsBefore, IsOfDrive, due_at};
+
+use crate::dues::Due;
+use crate::stage::{Load, Stage, StageNext};
+use crate::whole::compare;
+use call_types::{FileKind, Why};
+use drive_base::Drive;
+use file_access::{append_on, place, sync_on};
+
+impl Stage {
+    /// What comes next: `fill`, `step` or `finish`. It takes no memory.
+    pub fn next(&self) -> StageNext
+        ensures { IsNext self.now result }
+    {
+        if self.due_drive().is_some() {
+            return StageNext::Step;
+        }
+        if self.load.left > 0 {
+            return StageNext::Fill;
+        }
+        StageNext::Finish
+    }
+
+    /// Does one call of one drive that is not out, the next one in order, and takes no memory. Where none is due it does
+    /// nothing. A drive on which a call fails gets its letter from that call alone, and no more calls.
+    pub fn step<D: Drive>(&mut self, drives: &mut [D])
+        requires { length drives.old ≡ self.old.load.set.drives }
+        ensures once { StepsOnce D.tells D.files D.count self.old self.new drives.old drives.new }
+        ensures works { StepWorks D.tells D.files self.old self.new drives.old drives.new }
+        ensures load { self.new.load ≡ self.old.load }
+        ensures tells { (k : ℕ) (d : D) → k < length drives.old → D.tells (slice_index_or drives.new k d) ≡ D.tells (slice_index_or drives.old k d) }
+        ensures counts { (k : ℕ) (d : D) → k < length drives.old → D.count (slice_index_or drives.old k d) ≤ D.count (slice_index_or drives.new k d) }
+    {
+        let Some(index) = self.due_drive() else {
+            return;
+        };
+        let due = self.dues[index as usize];
+        let drive = &mut drives[index as usize];
+        match call_on(&self.load, index, due, drive) {
+            Ok(()) => {
+                let dues = &mut self.dues;
+                dues[index as usize] = due.after(self.load.alone);
+            }
+            Err(why) => self.whys.set(index as usize, why),
+        }
+    }
+
+    /// The drive on which the next call is due.
+    fn due_drive(&self) -> Option<u8>
+        ensures { MatchOption result
+            (Disagrees self.now.load ⊎ (HasAppended self.now × ((self.now.load.left ≡ 0) → HasDone self.now)))
+            (λ index. IsDue self.now index × IsFirst self.now index) }
+    {
+        if self.disagrees() {
+            return None;
+        }
+        if let Some(index) = self.due_block() {
+            return Some(index);
+        }
+        if self.load.left > 0 {
+            return None;
+        }
+        self.due_later()
+    }
+
+    /// Whether the body is whole, and its MD5 another than stated.
+    fn disagrees(&self) -> bool
+        ensures yes { IsTrue result → Disagrees self.now.load }
+        ensures no { result ≡ false → Disagrees self.now.load → ⊥ }
+    {
+        if self.load.left > 0 {
+            return false;
+        }
+        compare(self.load.stated, self.load.made.etag).is_err()
+    }
+
+    /// The first drive that serves and waits for its block.
+    fn due_block(&self) -> Option<u8>
+        ensures { MatchOption result (HasAppended self.now)
+            (λ index. (index < self.now.load.set.drives) × Serves self.now index × (is_block (due_at self.now index) ≡ true)
+            × ((j : ℕ) → j < index → Serves self.now j → is_block (due_at self.now j) ≡ false)) }
+    {
+        for index in 0..self.load.set.drives {
+            if self.whys.get(index as usize).is_good() && self.dues[index as usize].is_block() {
+                return Some(index);
+            }
+        }
+        None
+    }
+
+    /// The first drive that serves and has a call left.
+    fn due_later(&self) -> Option<u8>
+        ensures { MatchOption result (HasDone self.now)
+            (λ index. (index < self.now.load.set.drives) × Serves self.now index × (is_nothing (due_at self.now index) ≡ false)
+            × ((j : ℕ) → j < index → Serves self.now j → is_nothing (due_at self.now j) ≡ true)) }
+    {
+        for index in 0..self.load.set.drives {
+            if self.whys.get(index as usize).is_good() && !self.dues[index as usize].is_nothing() {
+                return Some(index);
+            }
+        }
+        None
+    }
+}
+
+impl Load {
+    /// The digest table of a drive's shard so far.
+    fn table(&self, index: usize) -> &[u8]
+        requires { index < length self.now.tables.items }
+        ensures { result.now ≡ slice_index_or (all_bytes self.now.tables.items) index [] }
+    {
+        self.tables[index].as_slice()
+    }
+}
+
+/// Does one call of a drive.
+#[tactic(auto, using(crate::proofs::NameLemmas::short_names))]
+fn call_on<D: Drive>(load: &Load, index: u8, due: Due, drive: &mut D) -> Result<(), Why>
+    requires { index < load.now.set.drives }
+    ensures works { (blocks : Blocks) (first : DataCells) → IsOfDrive load.now index blocks → IsTrue (D.tells drive.old)
+        → IsBefore due (block_at index load.now.window) load.now.made.manifest.items blocks first (data_of load.now.names.id (D.files drive.old))
+        → HasAfter result load.now.alone due (block_at index load.now.window) load.now.made.manifest.items blocks first (data_of load.now.names.id (D.files drive.new)) }
+    ensures spares { IsTrue (D.tells drive.old) → Spares load.now.names.id (D.files drive.old) (D.files drive.new) }
+    ensures letter { LetterOf result due (D.tells drive.old) (data_of load.now.names.id (D.files drive.old)) (D.count drive.old) (D.count drive.new) }
+    ensures tells { D.tells drive.new ≡ D.tells drive.old }
+    ensures count { D.count drive.old ≤ D.count drive.new }
+{
+    let shard = load.names.loose_shard.as_str();
+    let manifest = load.names.loose_manifest.as_str();
+    match due {
+        Due::Block => append_on(
+            drive,
+            FileKind::Shard,
+            shard,
+            load.window.block(index as usize),
+        ),
+        Due::Table => append_on(drive, FileKind::Shard, shard, load.table(index as usize)),
+        Due::SyncShard => sync_on(drive, FileKind::Shard, shard),
+        Due::Manifest => append_on(
+            drive,
+            FileKind::Manifest,
+            manifest,
+            load.made.manifest.as_slice(),
+        ),
+        Due::SyncManifest => sync_on(drive, FileKind::Manifest, manifest),
+        Due::PlaceManifest => place(
+            drive,
+            FileKind::Manifest,
+            manifest,
+            load.names.manifest.as_str(),
+        ),
+        Due::PlaceShard => place(drive, FileKind::Shard, shard, load.names.shard.as_str()),
+        Due::Nothing => Ok(()),
+    }
+}
