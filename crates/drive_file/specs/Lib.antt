@@ -1,0 +1,4 @@
+pub mod Calls
+pub mod FileDrive
+pub mod Paths
+pub mod SharedDrive

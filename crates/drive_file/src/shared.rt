@@ -1,0 +1,197 @@
+//! A drive that several threads share.
+
+ghost use Rattle.std.specs.Prelude.{◌≡◌, false, IfOk};
+ghost use Rattle.drive_file.specs.SharedDrive.{way_tells, way_files, way_count};
+
+use drive_base::{Drive, DriveFault};
+use fault_base::{NoMemory, count_after};
+use std::alloc::Global;
+use std::sync::{Arc, Mutex, Wait};
+
+/// How a holder comes to the drive.
+#[derive(Drop)]
+pub(crate) enum Way<D> {
+    /// The drive itself, of which there is no other holder.
+    Alone(D),
+    /// A lock that the holders share.
+    Shared(Arc<Mutex<D>>),
+}
+
+/// One way to a drive, for one thread. Others may have ways of their own to the same drive.
+///
+/// A call through a shared way waits until no other way is in a call. A shared way tells nothing, since other calls come
+/// between its own, and counts the faults that it met itself.
+#[derive(Drop)]
+pub struct SharedDrive<R, D> {
+    rt: R,
+    pub(crate) way: Way<D>,
+    /// The faults that this way met, where it is shared.
+    pub(crate) met: u64,
+}
+
+impl<R: Wait + Clone + Drop, D: Drive + Drop> SharedDrive<R, D> {
+    /// The first shared way to a drive, which met no fault yet. The drive comes back where no memory was found.
+    pub fn new(rt: R, alloc: Global, drive: D) -> Result<SharedDrive<R, D>, D>
+        ensures tells { IfOk result (λ shared. ⟦<SharedDrive<R, D> as Drive>⟧.tells shared ≡ false) }
+        ensures count { IfOk result (λ shared. ⟦<SharedDrive<R, D> as Drive>⟧.count shared ≡ 0) }
+    {
+        match Arc::new(alloc, Mutex::new(drive)) {
+            Ok(lock) => Ok(SharedDrive {
+                rt,
+                way: Way::Shared(lock),
+                met: 0,
+            }),
+            Err(refused) => Err(refused.value.into_inner()),
+        }
+    }
+
+    /// The only way to a drive, without a lock: it tells what the drive tells, and counts as the drive does. It takes no
+    /// memory.
+    pub fn alone(rt: R, drive: D) -> SharedDrive<R, D>
+        ensures tells { ⟦<SharedDrive<R, D> as Drive>⟧.tells result ≡ D.tells drive }
+        ensures files { ⟦<SharedDrive<R, D> as Drive>⟧.files result ≡ D.files drive }
+        ensures count { ⟦<SharedDrive<R, D> as Drive>⟧.count result ≡ D.count drive }
+    {
+        SharedDrive {
+            rt,
+            way: Way::Alone(drive),
+            met: 0,
+        }
+    }
+
+    /// One more way to the same drive, which met no fault yet. `NoMemory` where none was found for it, and of a drive
+    /// that is alone, which has no other way.
+    pub fn again(&self) -> Result<SharedDrive<R, D>, NoMemory>
+        ensures tells { IfOk result (λ shared. ⟦<SharedDrive<R, D> as Drive>⟧.tells shared ≡ false) }
+        ensures count { IfOk result (λ shared. ⟦<SharedDrive<R, D> as Drive>⟧.count shared ≡ 0) }
+    {
+        let Way::Shared(lock) = &self.way else {
+            return Err(NoMemory);
+        };
+        let lock = Arc::try_clone(lock)?;
+        Ok(SharedDrive {
+            rt: self.rt.clone()?,
+            way: Way::Shared(lock),
+            met: 0,
+        })
+    }
+}
+
+impl<R: Wait + Clone + Drop, D: Drive + Drop> Drive for SharedDrive<R, D> {
+    ghost tells = { λ shared. way_tells D.tells shared.way };
+
+    ghost files = { λ shared. way_files D.files shared.way };
+
+    ghost count = { λ shared. way_count D.count shared.way shared.met };
+
+    fn size(&mut self, name: &str) -> Result<u64, DriveFault> {
+        match &mut self.way {
+            Way::Alone(drive) => drive.size(name),
+            Way::Shared(lock) => {
+                let answer = lock.lock(&self.rt).size(name);
+                if let Err(DriveFault::Failed) = answer {
+                    self.met = count_after(self.met);
+                }
+                answer
+            }
+        }
+    }
+
+    fn read(&mut self, name: &str, at: u64, into: &mut [u8]) -> Result<usize, DriveFault> {
+        match &mut self.way {
+            Way::Alone(drive) => drive.read(name, at, into),
+            Way::Shared(lock) => {
+                let answer = lock.lock(&self.rt).read(name, at, into);
+                if let Err(DriveFault::Failed) = answer {
+                    self.met = count_after(self.met);
+                }
+                answer
+            }
+        }
+    }
+
+    fn append(&mut self, loose: &str, bytes: &[u8]) -> Result<(), DriveFault> {
+        match &mut self.way {
+            Way::Alone(drive) => drive.append(loose, bytes),
+            Way::Shared(lock) => {
+                let answer = lock.lock(&self.rt).append(loose, bytes);
+                if let Err(DriveFault::Failed) = answer {
+                    self.met = count_after(self.met);
+                }
+                answer
+            }
+        }
+    }
+
+    fn sync(&mut self, loose: &str) -> Result<(), DriveFault> {
+        match &mut self.way {
+            Way::Alone(drive) => drive.sync(loose),
+            Way::Shared(lock) => {
+                let answer = lock.lock(&self.rt).sync(loose);
+                if let Err(DriveFault::Failed) = answer {
+                    self.met = count_after(self.met);
+                }
+                answer
+            }
+        }
+    }
+
+    fn rename(&mut self, loose: &str, name: &str) -> Result<(), DriveFault> {
+        match &mut self.way {
+            Way::Alone(drive) => drive.rename(loose, name),
+            Way::Shared(lock) => {
+                let answer = lock.lock(&self.rt).rename(loose, name);
+                if let Err(DriveFault::Failed) = answer {
+                    self.met = count_after(self.met);
+                }
+                answer
+            }
+        }
+    }
+
+    fn discard(&mut self, loose: &str) -> Result<(), DriveFault> {
+        match &mut self.way {
+            Way::Alone(drive) => drive.discard(loose),
+            Way::Shared(lock) => {
+                let answer = lock.lock(&self.rt).discard(loose);
+                if let Err(DriveFault::Failed) = answer {
+                    self.met = count_after(self.met);
+                }
+                answer
+            }
+        }
+    }
+
+    fn remove(&mut self, name: &str) -> Result<(), DriveFault> {
+        match &mut self.way {
+            Way::Alone(drive) => drive.remove(name),
+            Way::Shared(lock) => {
+                let answer = lock.lock(&self.rt).remove(name);
+                if let Err(DriveFault::Failed) = answer {
+                    self.met = count_after(self.met);
+                }
+                answer
+            }
+        }
+    }
+
+    fn names(&mut self, alloc: Global, from: &str, most: u32) -> Result<Vec<String>, DriveFault> {
+        match &mut self.way {
+            Way::Alone(drive) => drive.names(alloc, from, most),
+            Way::Shared(lock) => {
+                let answer = lock.lock(&self.rt).names(alloc, from, most);
+                if let Err(DriveFault::Failed) = &answer {
+                    self.met = count_after(self.met);
+                }
+                answer
+            }
+        }
+    }
+
+    fn faults(&self) -> u64 {
+        match &self.way {
+            Way::Alone(drive) => drive.faults(),
+            Way::Shared(_) => self.met,
+        }
+    }
+}

@@ -1,0 +1,94 @@
+//! Drives that are shared.
+
+use super::{place, read_four};
+use crate::SharedDrive;
+use drive_base::{Drive, DriveFault};
+use drive_memory::MemDrive;
+use fault_base::NoMemory;
+use std::sync::Wait;
+use std::test::Fail;
+use std::thread;
+
+/// Two ways to one drive.
+type Ways<R> = (SharedDrive<R, MemDrive>, SharedDrive<R, MemDrive>);
+
+/// Two ways to a memory drive that passes so many calls.
+fn two_ways<R: Wait + AllocGlobal + Clone + Drop>(rt: R, calls: u64) -> Result<Ways<R>, NoMemory> {
+    let alloc = rt.alloc();
+    let mut drive = MemDrive::new(alloc);
+    drive.fuse(calls, false);
+    match SharedDrive::new(rt, alloc, drive) {
+        Ok(first) => {
+            let second = first.again()?;
+            Ok((first, second))
+        }
+        Err(_) => Err(NoMemory),
+    }
+}
+
+#[test]
+fn two_ways_lead_to_one_drive(rt: HostRuntime) -> Result<(), Fail> {
+    let (mut first, mut second) = two_ways(rt, 12)?;
+    first.append("w1", b"abc")?;
+    second.append("w1", b"def")?;
+    first.sync("w1")?;
+    second.rename("w1", "a")?;
+    assert_eq!(rt; first.size("a")?, 6);
+    assert_eq!(rt; read_four(&mut second, "a", 3)?, (3, *b"def-"));
+    assert_eq!(rt; first.names(rt.alloc(), "", 2)?.len(), 1);
+    second.append("w2", b"")?;
+    first.discard("w2")?;
+    second.remove("a")?;
+    assert_eq!(rt; first.size("a").err(), Some(DriveFault::Absent));
+    assert_eq!(rt; second.size("a").err(), Some(DriveFault::Absent));
+    assert_eq!(rt; (first.faults(), second.faults()), (0, 0));
+    // Every call fails from here on, and each way counts its own.
+    assert_eq!(rt; first.size("a").err(), Some(DriveFault::Failed));
+    assert_eq!(rt; second.append("w1", b"").err(), Some(DriveFault::Failed));
+    assert_eq!(rt;
+        second.names(rt.alloc(), "", 1).err(),
+        Some(DriveFault::Failed)
+    );
+    assert_eq!(rt; (first.faults(), second.faults()), (1, 2));
+    assert_eq!(rt; first.again()?.faults(), 0);
+    Ok(())
+}
+
+#[test]
+fn a_drive_alone_has_no_other_way(rt: HostRuntime) -> Result<(), Fail> {
+    let mut drive = MemDrive::new(rt.alloc());
+    drive.lose();
+    assert_eq!(rt; drive.sync("w1").err(), Some(DriveFault::Failed));
+    drive.back();
+    let mut alone = SharedDrive::alone(rt, drive);
+    assert_eq!(rt; alone.faults(), 1);
+    place(&mut alone, "a", b"abc")?;
+    assert_eq!(rt; read_four(&mut alone, "a", 0)?, (3, *b"abc-"));
+    assert_eq!(rt; alone.again().err(), Some(NoMemory));
+    Ok(())
+}
+
+/// Appends bytes one by one.
+fn append_bytes<D: Drive>(drive: &mut D, loose: &str, count: u64) {
+    for _ in 0..count {
+        let _ = drive.append(loose, b"x");
+    }
+}
+
+#[test]
+fn two_threads_write_to_one_drive(rt: HostRuntime) -> Result<(), Fail> {
+    let (mut first, mut second) = two_ways(rt, u64::MAX)?;
+    let (one, other) = (&mut first, &mut second);
+    thread::join(
+        &rt,
+        move || append_bytes(one, "w1", 1000),
+        move || append_bytes(other, "w2", 1000),
+    );
+    for (loose, name) in [("w1", "a"), ("w2", "b")] {
+        first.sync(loose)?;
+        first.rename(loose, name)?;
+        assert_eq!(rt; second.size(name)?, 1000);
+    }
+    assert_eq!(rt; (first.faults(), second.faults()), (0, 0));
+    Ok(())
+}
