@@ -1,27 +1,24 @@
 -- What a caller of the register concludes: lanes that a look left, and the premises of a forward.
-use Rattle.std.proofs.Common.{◌≡◌, ◌<◌, ◌≤◌, ◌+◌, ◌∙◌, ℕ, List, Option, Some, None, length, map, ap, subst, sym, refl, inl, inr, arith}
+use Rattle.std.proofs.Common.{◌≡◌, ◌<◌, ◌≤◌, ◌+◌, ◌∙◌, ℕ, List, Option, Some, length, map, ap, subst, sym, refl, inl, inr, arith}
 use Rattle.std.specs.Prelude.{Bool, IsTrue, Contains, slice_index_or}
 use Rattle.std.proofs.lemmas.List.Elements.{Contains-get_or}
 use Rattle.call_types.specs.Good.{is_good}
 use Rattle.call_types.specs.declared.why.Why.{Why}
 use Rattle.drive_base.specs.Files.{Files}
-use Rattle.drive_base.specs.Plan.{write_drives}
-use Rattle.drive_base.specs.declared.plan.SetPlan.{SetPlan}
-use Rattle.register_file.specs.declared.record.Base.{Base}
 use Rattle.register_file.specs.declared.record.Next.{Next}
-use Rattle.stamp_id.specs.Rank.{rank_of, change_of}
+use Rattle.stamp_id.specs.Rank.{rank_of}
 use Rattle.stamp_id.specs.declared.stamp.Ballot.{Ballot}
 use Rattle.vote_core.specs.Row.{is_good as is_good_row}
 use Rattle.vote_core.specs.Lane.{Lane, HasNext, blank_lane, lane_at, Next as LaneNext}
-use Rattle.vote_core.specs.Laws.{AboveLastIsFresh, DrawingKeeps}
+use Rattle.vote_core.specs.Laws.{AboveLastIsFresh}
 use Rattle.vote_core.specs.Loops.{marked}
 use Rattle.vote_core.specs.Sound.{HoldsValue}
-use Rattle.register_caller.specs.Calling.{IsDrawnAfter, IsSettled, IsValueIfOk, OwnMayFollow, StaysOrSteps, WroteBoth}
-use Rattle.register_core.specs.Keeping.{IsMarked, MarkMoves, MayPropose}
+use Rattle.register_caller.specs.Calling.{IsDrawnAfter, OwnMayFollow, StaysOrSteps}
+use Rattle.register_core.specs.Keeping.{IsMarked, MayPropose}
 use Rattle.register_core.specs.Loose.{loose_name}
 use Rattle.register_core.specs.OnLanes.{AllTell, AreLanes, AreUnused}
-use Rattle.register_core.specs.Proposing.{Marks, Proposes, quorum_of}
-use Rattle.register_core.specs.Records.{HasLane, again_of, base_of, marked_base, next_of}
+use Rattle.register_core.specs.Proposing.{Marks, Proposes}
+use Rattle.register_core.specs.Records.{HasLane, again_of, base_of, next_of}
 use Rattle.register_core.specs.Seen.{FindsValueOr}
 use Rattle.register_core.specs.declared.drafts.Draft.{Draft}
 use Rattle.register_core.specs.declared.faults.QuorumFault.{QuorumFault}
@@ -75,23 +72,6 @@ module _ {D : Type 0} (tells : D → Bool) (files : D → Files) (faults : D →
   mark_few draft took term from to (Err (WriteQuorum whys)) later old new is = is.2.few
   mark_few draft took term from to (Err (Undecided k u whys)) later old new is = absurd is
   mark_few draft took term from to (Err NoMemory) later old new is = absurd is
-
--- lanes that were left as they are
-pub left_settled : {E : Type 0} → DrawingKeeps → (w last later c : ℕ) (content : List ℕ) (result : Result Base E) (lanes : List Lane) → last < later
-    → HoldsValue w last lanes c content → IsValueIfOk result c content → IsSettled w later c content result lanes lanes
-left_settled drawing w last later c content result lanes low holds value = record {
-  now = c;
-  shows = content;
-  holds = drawing w last later c content lanes (omega arith) holds;
-  step = inl (refl, refl);
-  value = value;
-}
-
--- the value of a settled look
-pub settled_value : (looked : Looked) (pending : Option Next) (lanes : List Lane) (c : ℕ) (content : List ℕ) → pending ≡ None
-    → FindsValueOr pending looked lanes c content → (change_of looked.base.change ≡ c) × (looked.base.content ≡ content)
-settled_value looked None lanes c content is finds = (finds.0, finds.1)
-settled_value looked (Some next) lanes c content is finds = absurd cc
 
 -- what a pending look found
 pub pending_found : (looked : Looked) (pending : Option Next) (found : Next) (lanes : List Lane) (c : ℕ) (content : List ℕ) → pending ≡ Some found
@@ -150,51 +130,6 @@ found_steps w last c content lanes looked found ballot holds (base_lane, lane, f
         content_is = refl;
       })
     ]
-
-module _ {D : Type 0} (tells : D → Bool) (files : D → Files) where
-  -- what both writes of a forward leave
-  pub forward_moves : {T E : Type 0} → AboveLastIsFresh → (set : SetPlan) (out term to : ℕ) (looked : Looked) (found : Next) (ballot : Ballot) (draft : Draft)
-      (result : Result T E) (new : List D) (lanes : List Lane) (last c : ℕ) (content : List ℕ)
-      → (wrote : WroteBoth tells files draft out term to looked.base (again_of looked.base ballot found) result new lanes)
-      → draft.set ≡ set → draft.letters ≡ looked.whys → map is_good looked.whys ≡ map is_good_row looked.rows.items
-      → HoldsValue (write_drives set.drives set.parity) last lanes c content → last < rank_of ballot → FindsValueOr (Some found) looked lanes c content
-      → MarkMoves result (write_drives set.drives set.parity) (rank_of ballot) c content (next_of (again_of looked.base ballot found)) wrote.after
-  forward_moves {T} {E} above set out term to looked found ballot draft result new lanes last c content wrote plan letters on holds low finds =
-      let here : HoldsValue (quorum_of draft) last lanes c content =
-      subst (λ (s : SetPlan). HoldsValue (write_drives s.drives s.parity) last lanes c content) (sym plan) holds in
-      subst (λ (s : SetPlan). MarkMoves result (write_drives s.drives s.parity) (rank_of ballot) c content (next_of (again_of looked.base ballot found)) wrote.after) plan
-      (wrote.leaves.value last (rank_of ballot) c content
-      (may_forward above (quorum_of draft) last c content lanes looked found ballot draft.letters here low finds (ap (map is_good) letters ∙ on)))
-
--- a forward that was marked
-pub marked_settled : {T E : Type 0} (w last c : ℕ) (content : List ℕ) (value : T) (base : Base) (lanes after : List Lane) (looked : Looked) (found : Next) (ballot : Ballot)
-    → HoldsValue w last lanes c content → FindsValueOr (Some found) looked lanes c content
-    → MarkMoves {T = T} {E = E} (Ok value) w (rank_of ballot) c content (next_of (again_of looked.base ballot found)) after
-    → base ≡ marked_base (again_of looked.base ballot found)
-    → IsSettled {E = E} w (rank_of ballot) c content (Ok base) lanes after
-marked_settled w last c content value base lanes after looked found ballot holds finds moves is = record {
-  now = (next_of (again_of looked.base ballot found)).change;
-  shows = (next_of (again_of looked.base ballot found)).content;
-  holds = moves.holds;
-  step = found_steps w last c content lanes looked found ballot holds finds;
-  value = (ap (λ (b : Base). change_of b.change) is, ap (λ (b : Base). b.content) is);
-}
-
--- a forward that was refused
-pub refused_settled : (T : Type 0) {E : Type 0} (w last c : ℕ) (content : List ℕ) (fault : E) (lanes after : List Lane) (looked : Looked) (found : Next) (ballot : Ballot)
-    → HoldsValue w last lanes c content → FindsValueOr (Some found) looked lanes c content
-    → MarkMoves {T = T} {E = E} (Err fault) w (rank_of ballot) c content (next_of (again_of looked.base ballot found)) after
-    → IsSettled {E = E} w (rank_of ballot) c content (Err fault) lanes after
-refused_settled T w last c content fault lanes after looked found ballot holds finds moves = elim moves [
-  | inl stays ↦ record { now = c; shows = content; holds = stays; step = inl (refl, refl); value = tt }
-  | inr steps ↦ record {
-    now = (next_of (again_of looked.base ballot found)).change;
-    shows = (next_of (again_of looked.base ballot found)).content;
-    holds = steps;
-    step = found_steps w last c content lanes looked found ballot holds finds;
-    value = tt;
-  }
-]
 
 -- a change of one's own may be proposed over the value
 pub own_may_follow : AboveLastIsFresh → OwnMayFollow

@@ -2,4 +2,5 @@ pub mod CallingLemmas
 pub mod LiveLemmas
 pub mod PuttingLemmas
 pub mod ServingLemmas
+pub mod SettlingLemmas
 pub mod StepLemmas

@@ -13,7 +13,8 @@ use Rattle.register_core.specs.Seen.{FindsValueOr, IsOnItsWay}
 use Rattle.register_core.specs.declared.looked.Looked.{Looked}
 use Rattle.register_caller.specs.Calling.{BothLeave, LiveIsLate, StaysOrSteps}
 use Rattle.register_caller.specs.Putting.{IsNotBegun, IsNotMarked}
-use Rattle.register_caller.proofs.LiveLemmas.{late_before, left_live, live_forwarded}
+use Rattle.register_caller.proofs.LiveLemmas.{late_before, left_live}
+use Rattle.register_caller.proofs.SettlingLemmas.{refused_settled}
 
 -- what a settled look found
 pub settled_found : (looked : Looked) (pending : Option Next) (lanes : List Lane) (c : ℕ) (content : List ℕ) → pending ≡ None
@@ -72,33 +73,16 @@ left_put drawing w last later c value change lanes up holds fresh = record {
 pub refused_forward : {T E : Type 0} → DrawingKeeps → (w last later own c : ℕ) (value : List ℕ) (lanes after : List Lane) (letters : List Why) (base : LaneBase) (next : LaneNext)
     (fault : E) (change : ℕ) → later ≤ own → MayPropose w last later lanes c value letters base next → StaysOrSteps lanes c value next.change next.content
     → BothLeave {T = T} {E = E} w letters base next (Err fault) lanes after → IsFreshChange after change → IsNotBegun w own c value change lanes after
-refused_forward drawing w last later own c value lanes after letters base next fault change up may steps both fresh = elim (both.value last later c value may) [
-  | inl stays ↦ record {
-    now = c;
-    shows = value;
-    holds = drawing w later own c value after up stays;
-    step = inl (refl, refl);
-    live = live_forwarded lanes after c c value next.change next.content steps (λ same. refl) (both.live last later c c value value may stays);
-    fresh = fresh;
-  }
-  | inr moved ↦ record {
-    now = next.change;
-    shows = next.content;
-    holds = drawing w later own next.change next.content after up moved;
-    step = steps;
-    live = live_forwarded lanes after c next.change value next.change next.content steps (λ same. same)
-        (both.live last later c next.change value next.content may moved);
-    fresh = fresh;
-  }
-]
-
--- what may become the value after a forward that was marked could so before
-pub live_after_forward : {T E : Type 0} (w last later c : ℕ) (value : List ℕ) (lanes after : List Lane) (letters : List Why) (base : LaneBase) (next : LaneNext)
-    (done : T) → MayPropose w last later lanes c value letters base next → StaysOrSteps lanes c value next.change next.content
-    → BothLeave {T = T} {E = E} w letters base next (Ok done) lanes after → LiveIsLate lanes c after next.change
-live_after_forward w last later c value lanes after letters base next done may steps both =
-    live_forwarded lanes after c next.change value next.change next.content steps (λ same. same)
-    (both.live last later c next.change value next.content may (both.value last later c value may).holds)
+refused_forward {T} {E} drawing w last later own c value lanes after letters base next fault change up may steps both fresh =
+    let settled = refused_settled {T = T} {E = E} w 0 last later c value lanes after letters base next fault may steps both in
+    record {
+      now = settled.now;
+      shows = settled.shows;
+      holds = drawing w later own settled.now settled.shows after up settled.holds;
+      step = settled.step;
+      live = settled.live;
+      fresh = fresh;
+    }
 
 -- one's own change that was marked is the value, and nothing may become it
 pub marked_own : {T E : Type 0} (w last later c : ℕ) (value : List ℕ) (lanes after : List Lane) (letters : List Why) (base : LaneBase) (next : LaneNext)

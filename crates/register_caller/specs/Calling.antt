@@ -1,11 +1,10 @@
 -- What a caller of the register concludes from its contracts.
-use Rattle.std.specs.Prelude.{◌≡◌, ◌≢◌, ◌⊎◌, ◌<◌, ◌≤◌, ℕ, Bool, List, Contains, Result, Ok, Err, string_bytes}
+use Rattle.std.specs.Prelude.{◌≡◌, ◌≢◌, ◌⊎◌, ◌<◌, ◌≤◌, ℕ, Bool, List, Contains, Result, string_bytes}
 use Rattle.std.specs.Int.{IsBitSet}
 use Rattle.call_types.specs.declared.why.Why.{Why}
 use Rattle.drive_base.specs.Files.{Files}
 use Rattle.register_file.specs.declared.record.Base.{Base}
 use Rattle.register_file.specs.declared.record.Next.{Next}
-use Rattle.stamp_id.specs.Rank.{change_of}
 use Rattle.vote_core.specs.Lane.{Lane, HasNext, lane_at, Base as LaneBase, Next as LaneNext}
 use Rattle.vote_core.specs.Loops.{IsFreshChange, Stands, marked}
 use Rattle.vote_core.specs.Sound.{HoldsValue, IsLive}
@@ -66,19 +65,6 @@ OwnMayFollowMark = (w last later c : ℕ) (lanes : List Lane) (letters : List Wh
 abbrev pub StaysOrSteps : List Lane → ℕ → List ℕ → ℕ → List ℕ → Type 0
 StaysOrSteps lanes c content now shows = ((now ≡ c) × (shows ≡ content)) ⊎ IsLateStep lanes c now shows
 
--- what is answered is the value
-abbrev pub IsValueIfOk : {E : Type 0} → Result Base E → ℕ → List ℕ → Type 0
-IsValueIfOk (Ok base) now shows = (change_of base.change ≡ now) × (base.content ≡ shows)
-IsValueIfOk (Err _) now shows = Unit {0}
-
--- lanes of which a register was settled: they hold the value as it was or after a late step, and what is answered is that value
-pub record IsSettled {E : Type 0} (w later c : ℕ) (content : List ℕ) (result : Result Base E) (lanes after : List Lane) : Type 0 where
-  pub now : ℕ
-  pub shows : List ℕ
-  pub holds : HoldsValue w later after now shows
-  pub step : StaysOrSteps lanes c content now shows
-  pub value : IsValueIfOk result now shows
-
 module _ {D : Type 0} (tells : D → Bool) (files : D → Files) where
   -- the lanes after both writes of a change; whatever a lane that is out has, it keeps
   pub record WroteBoth {T E : Type 0} (draft : Draft) (out term to : ℕ) (base : Base) (next : Next) (result : Result T E) (new : List D) (lanes : List Lane) : Type 0 where
@@ -88,9 +74,3 @@ module _ {D : Type 0} (tells : D → Bool) (files : D → Files) where
     pub are : AreLanes files out (string_bytes draft.name) new after
     pub stay : (k : ℕ) → IsBitSet out k → lane_at after k ≡ lane_at lanes k
     pub leaves : BothLeave (quorum_of draft) draft.letters (base_of base) (next_of next) result lanes after
-
-  -- the lanes after a settlement
-  pub record Settles {E : Type 0} (out : ℕ) (name : List ℕ) (w later c : ℕ) (content : List ℕ) (result : Result Base E) (new : List D) (lanes : List Lane) : Type 0 where
-    pub after : List Lane
-    pub are : AreLanes files out name new after
-    pub settled : IsSettled w later c content result lanes after

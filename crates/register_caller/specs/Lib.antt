@@ -1,3 +1,4 @@
 pub mod Calling
 pub mod Putting
+pub mod Settling
 pub mod Steps

@@ -5,6 +5,7 @@ ghost use Rattle.register_file.specs.Record.{IsContent};
 ghost use Rattle.register_file.specs.declared.record.Next.{Next};
 ghost use Rattle.register_core.specs.Drafts.{IsDraftAfterLook};
 ghost use Rattle.register_core.specs.Found.{IsLawfulPending, content_of};
+ghost use Rattle.register_core.specs.Records.{again_of};
 ghost use Rattle.register_caller.specs.Putting.{AreDrafts, own_of};
 
 use fault_base::NoMemory;
@@ -68,6 +69,18 @@ pub fn draft_own(
     draft(alloc, looked, &own)
 }
 
+/// The draft of what is pending, under this ballot.
+pub fn draft_again(alloc: Global, looked: &Looked, ballot: Ballot) -> Result<Draft, NoMemory>
+    requires pending { (found : Next) × (looked.now.pending ≡ Some found) }
+    requires base { IsContent looked.now.base.content }
+    requires lawful { IsLawfulPending looked.now.pending }
+    requires found_within { length (content_of looked.now.base looked.now.pending) ≤ looked.now.longest }
+    ensures { (found : Next) → looked.now.pending ≡ Some found → IfOk result (λ draft. IsDraftAfterLook looked.now (again_of looked.now.base ballot found) draft) }
+{
+    let again = looked.again(alloc, ballot)?;
+    draft(alloc, looked, &again)
+}
+
 /// The draft of what is pending, under a fresh ballot, and that of a change of one's own over it.
 pub fn draft_both(
     alloc: Global,
@@ -83,8 +96,7 @@ pub fn draft_both(
     requires within { length content.now ≤ looked.now.longest }
     ensures { (found : Next) → looked.now.pending ≡ Some found → IfOk result (λ drafts. AreDrafts looked.now numbers.now found content.now drafts) }
 {
-    let again = looked.again(alloc, numbers.again)?;
-    let first = draft(alloc, looked, &again)?;
+    let first = draft_again(alloc, looked, numbers.again)?;
     let next = own_change(alloc, numbers, first.value.change, content)?;
     let own = draft_after(alloc, &first, &next)?;
     Ok(Drafts { first, own })

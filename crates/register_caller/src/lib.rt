@@ -17,7 +17,7 @@ mod putting;
 mod settling;
 mod writing;
 
-pub use changes::{Drafts, Numbers, draft_both, draft_own};
+pub use changes::{Drafts, Numbers, draft_again, draft_both, draft_own};
 pub use own::own_laws;
 pub use place::Place;
 pub use putting::{PutFault, put};

@@ -1,4 +1,4 @@
-//! Puts over memory drives. What each row finds is worked out by hand.
+//! Puts and settlements over memory drives. What each row finds is worked out by hand.
 
 ghost use Rattle.std.specs.Prelude.{None};
 
@@ -123,6 +123,30 @@ impl World {
         ))
     }
 
+    /// Whether a settlement answers this content.
+    fn settles(&mut self, rt: &impl Abort, content: &[u8]) -> Result<bool, Fail> {
+        let ballot = self.draw(rt);
+        let at = Place {
+            name: NAME,
+            set: SetPlan::new([7; 16], 4, 2),
+            out: DriveSet::none(),
+            term: 1,
+        };
+        assert!(rt; self.lanes.len() == 4);
+        assert!(rt; self.disks.len() == 4);
+        assert!(rt; self.count <= 1_000_000);
+        let base = settle(
+            self.alloc,
+            self.lanes.as_mut_slice(),
+            self.disks.as_mut_slice(),
+            &at,
+            &mut Anything,
+            ballot,
+            &mut self.count,
+        )?;
+        Ok(base.content.as_slice() == content)
+    }
+
     /// Whether a look finds a base with this content, and this content pending; `b""` where nothing is.
     fn finds(&mut self, rt: &impl Abort, base: &[u8], pending: &[u8]) -> Result<bool, Fail> {
         assert!(rt; self.lanes.len() == 4);
@@ -212,6 +236,27 @@ fn a_put_of_new_over_mid_which_fuses_stopped_over_old(rt: HostRuntime) -> Result
         assert_eq!(rt; world.put(&rt, b"new"), answer);
         world.lose_first(lost);
         assert!(rt; world.finds(&rt, base.as_slice(), pending)?);
+    }
+    Ok(())
+}
+
+#[test]
+fn a_settlement_completes_mid_over_old(rt: HostRuntime) -> Result<(), Fail> {
+    // The fuses of the put of "mid", how many first lanes are lost then, and the value.
+    for (first, lost, value) in [
+        // It is prepared on three lanes, or marked on one, which is lost.
+        ([5u64, 5, 5, 2], 0usize, b"mid"),
+        ([8, 5, 5, 5], 1, b"mid"),
+        // It is prepared on two lanes, and all are read.
+        ([5, 5, 2, 2], 0, b"old"),
+    ] {
+        let mut world = fresh_world(rt.alloc())?;
+        assert_eq!(rt; world.put(&rt, b"old"), Answer::Done);
+        world.fuse(first);
+        assert_eq!(rt; world.put(&rt, b"mid"), Answer::NotMarked);
+        world.lose_first(lost);
+        assert!(rt; world.settles(&rt, value.as_slice())?);
+        assert!(rt; world.finds(&rt, value.as_slice(), b"")?);
     }
     Ok(())
 }

@@ -21,8 +21,9 @@ use Rattle.register_core.specs.declared.faults.QuorumFault.{QuorumFault}
 use Rattle.register_caller.specs.Calling.{BothLeave}
 use Rattle.register_caller.specs.Putting.{own_of}
 use Rattle.register_caller.proofs.CallingLemmas.{found_steps, may_forward, pending_found, tell_after}
-use Rattle.register_caller.proofs.PuttingLemmas.{base_else, left_put, live_after_forward, marked_own, may_put, pending_else, refused_forward, refused_own}
+use Rattle.register_caller.proofs.PuttingLemmas.{base_else, left_put, marked_own, may_put, pending_else, refused_forward, refused_own}
 use Rattle.register_caller.proofs.ServingLemmas.{not_ok, serve_after}
+use Rattle.register_caller.proofs.SettlingLemmas.{live_after_forward}
 use Rattle.register_caller.proofs.StepLemmas.{counts_twice, keeps_same, keeps_twice, tells_twice}
 use Rattle.register_caller.proofs.over_look.put_over_pending.Goals as goal
 
