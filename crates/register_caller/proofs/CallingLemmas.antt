@@ -105,7 +105,7 @@ may_forward above w last c content lanes looked found ballot letters holds low (
 }
 
 -- a next of the value's own change has the value's content
-own_content : (w last c : ℕ) (content : List ℕ) (lanes : List Lane) (lane : Lane) (next : LaneNext) → HoldsValue w last lanes c content
+pub own_content : (w last c : ℕ) (content : List ℕ) (lanes : List Lane) (lane : Lane) (next : LaneNext) → HoldsValue w last lanes c content
     → Contains lanes lane → HasNext lane next → next.change ≡ c → next.content ≡ content
 own_content w last c content lanes lane next holds there is same =
     let top = holds.sound.value in

@@ -9,14 +9,14 @@ use Rattle.register_core.specs.Keeping.{MarkMoves}
 use Rattle.register_caller.specs.Calling.{IsLateStep, LiveIsLate, LiveIsLateOr, StaysOrSteps}
 
 -- the next of a prepared record
-own_next : (a : Lane) (base : Base) (own next : Next) → a ≡ prepared base own → HasNext a next → next ≡ own
+pub own_next : (a : Lane) (base : Base) (own next : Next) → a ≡ prepared base own → HasNext a next → next ≡ own
 own_next a base own next same has =
     let both : Some own ≡ Some next = sym (ap (λ (l : Lane). l.next) same) ∙ has in
     let one : own ≡ next = cc in
     sym one
 
 -- a marked record has none
-no_next : (a : Lane) (own next : Next) → a ≡ marked own → HasNext a next → ⊥
+pub no_next : (a : Lane) (own next : Next) → a ≡ marked own → HasNext a next → ⊥
 no_next a own next same has = let both : None ≡ Some next = sym (ap (λ (l : Lane). l.next) same) ∙ has in absurd cc
 
 -- after a prepare

@@ -14,7 +14,7 @@ use Rattle.register_core.specs.declared.looked.Looked.{Looked}
 use Rattle.register_caller.specs.Calling.{BothLeave, LiveIsLate, StaysOrSteps}
 use Rattle.register_caller.specs.Putting.{IsNotBegun, IsNotMarked}
 use Rattle.register_caller.proofs.LiveLemmas.{late_before, left_live}
-use Rattle.register_caller.proofs.SettlingLemmas.{refused_settled}
+use Rattle.register_caller.proofs.SettlingLemmas.{left_forward}
 
 -- what a settled look found
 pub settled_found : (looked : Looked) (pending : Option Next) (lanes : List Lane) (c : ℕ) (content : List ℕ) → pending ≡ None
@@ -74,13 +74,14 @@ pub refused_forward : {T E : Type 0} → DrawingKeeps → (w last later own c : 
     (fault : E) (change : ℕ) → later ≤ own → MayPropose w last later lanes c value letters base next → StaysOrSteps lanes c value next.change next.content
     → BothLeave {T = T} {E = E} w letters base next (Err fault) lanes after → IsFreshChange after change → IsNotBegun w own c value change lanes after
 refused_forward {T} {E} drawing w last later own c value lanes after letters base next fault change up may steps both fresh =
-    let settled = refused_settled {T = T} {E = E} w 0 last later c value lanes after letters base next fault may steps both in
+    let left = both.leaving last later c value may in
+    let known = left_forward {T = T} {E = E} (Err fault) w last later c value lanes after letters base next may steps both left in
     record {
-      now = settled.now;
-      shows = settled.shows;
-      holds = drawing w later own settled.now settled.shows after up settled.holds;
-      step = settled.step;
-      live = settled.live;
+      now = left.now;
+      shows = left.shows;
+      holds = drawing w later own left.now left.shows after up left.leaves.holds;
+      step = known.0;
+      live = known.1;
       fresh = fresh;
     }
 

@@ -13,6 +13,7 @@ use Rattle.register_core.specs.OnLanes.{AllTell, AreLanes, AreUnused}
 use Rattle.register_core.specs.Proposing.{quorum_of}
 use Rattle.register_core.specs.Records.{base_of, next_of}
 use Rattle.register_core.specs.declared.drafts.Draft.{Draft}
+use Rattle.register_caller.specs.Leaving.{LeavesByResult, written_of}
 
 -- a change that was on its way before, and might become the value, has become it
 pub record IsLateStep (lanes : List Lane) (c now : ℕ) (shows : List ℕ) : Type 0 where
@@ -35,11 +36,13 @@ LiveIsLateOr lanes c after now change content = (a : Lane) (next : LaneNext) →
     → IsLateStep lanes c next.change next.content ⊎ ((next.change ≡ change) × (next.content ≡ content))
 
 -- what both writes of a change leave of lanes on which it may be proposed: the value moves by the result, what may become the value then could so before
--- or is this change, and a change that is fresh stays so
+-- or is this change, a change that is fresh stays so, and the layer above has all it needs in one relation
 pub record BothLeave {T E : Type 0} (w : ℕ) (letters : List Why) (base : LaneBase) (next : LaneNext) (result : Result T E) (lanes after : List Lane) : Type 0 where
   pub value : (last later c : ℕ) (content : List ℕ) → MayPropose w last later lanes c content letters base next → MarkMoves result w later c content next after
   pub live : (last later c now : ℕ) (content shows : List ℕ) → MayPropose w last later lanes c content letters base next → HoldsValue w later after now shows
       → LiveIsLateOr lanes c after now next.change next.content
+  pub leaving : (last later c : ℕ) (content : List ℕ) → MayPropose w last later lanes c content letters base next
+      → LeavesByResult w later result (written_of next) lanes c content after
   pub fresh : (other : ℕ) → IsFreshChange lanes other → base.change ≢ other → next.change ≢ other → IsFreshChange after other
 
 -- the numbers of a change of one's own over the value's change c were drawn after the last one, the change before its ballot

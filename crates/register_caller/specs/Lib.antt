@@ -1,4 +1,5 @@
 pub mod Calling
+pub mod Leaving
 pub mod Putting
 pub mod Settling
 pub mod Steps

@@ -1,5 +1,5 @@
 -- What a settlement writes, answers and leaves.
-use Rattle.std.specs.Prelude.{◌≡◌, ◌⊎◌, ◌<◌, ⊤, ℕ, Bool, List, length, slice_index_or, Option, None, Some, Result, Ok, Err, string_bytes}
+use Rattle.std.specs.Prelude.{◌≡◌, ◌⊎◌, ◌<◌, ⊤, ℕ, Bool, List, Contains, length, slice_index_or, Option, None, Some, Result, Ok, Err, string_bytes}
 use Rattle.std.specs.Int.{IsBitSet}
 use Rattle.call_types.specs.declared.why.Why.{Why}
 use Rattle.drive_base.specs.Files.{Files}
@@ -10,9 +10,9 @@ use Rattle.register_file.specs.declared.record.Next.{Next}
 use Rattle.register_file.specs.declared.record.RegFile.{RegFile}
 use Rattle.stamp_id.specs.Rank.{change_of, rank_of}
 use Rattle.stamp_id.specs.declared.stamp.Ballot.{Ballot}
-use Rattle.vote_core.specs.Lane.{Lane, lane_at, Next as LaneNext}
+use Rattle.vote_core.specs.Lane.{HasNext, Lane, lane_at, Next as LaneNext}
 use Rattle.vote_core.specs.Loops.{Stands, marked}
-use Rattle.vote_core.specs.Sound.{HoldsValue}
+use Rattle.vote_core.specs.Sound.{HoldsValue, IsLive}
 use Rattle.register_core.specs.Drafts.{IsDraftAfterLook}
 use Rattle.register_core.specs.Found.{Concludes}
 use Rattle.register_core.specs.Keeping.{IsMarked}
@@ -26,6 +26,7 @@ use Rattle.register_core.specs.declared.faults.QuorumFault.{QuorumFault}
 use Rattle.register_core.specs.declared.faults.QuorumFault.TheVariants.{ReadQuorum, WriteQuorum, Undecided, NoMemory}
 use Rattle.register_core.specs.declared.looked.Looked.{Looked}
 use Rattle.register_caller.specs.Calling.{LiveIsLate, StaysOrSteps}
+use Rattle.register_caller.specs.Leaving.{LeavesLanes, written_of}
 use Rattle.register_caller.specs.Steps.{FilesStay, LacksMemory, LookIsRefused, WritesBoth}
 
 -- rows that were read of the lanes conclude that this base is settled, and nothing was written
@@ -53,6 +54,19 @@ abbrev pub IsValueIfOk : {E : Type 0} → Result Base E → ℕ → ℕ → ℕ 
 IsValueIfOk (Ok base) w d later c lanes after now shows = IsValue w d later c base lanes after now shows
 IsValueIfOk (Err _) w d later c lanes after now shows = Unit {0}
 
+-- a change is on its way, and is the value's or might become the value
+pub record IsPending (lanes : List Lane) (c : ℕ) (found : LaneNext) : Type 0 where
+  pub lane : Lane
+  pub there : Contains lanes lane
+  pub has : HasNext lane found
+  pub may : (found.change ≡ c) ⊎ IsLive lanes c lane found
+
+-- such a change was written again
+pub record LeavesPending (w later c : ℕ) (content : List ℕ) (lanes after : List Lane) (now : ℕ) (shows : List ℕ) : Type 0 where
+  pub found : LaneNext
+  pub pending : IsPending lanes c found
+  pub leaves : LeavesLanes w later (written_of found) lanes c content after now shows
+
 -- lanes of which a register was settled: they hold the value as it was or after a late step, what may still become it could so before, and what is
 -- answered is the value
 pub record IsSettled {E : Type 0} (w d later c : ℕ) (content : List ℕ) (result : Result Base E) (lanes after : List Lane) : Type 0 where
@@ -61,6 +75,7 @@ pub record IsSettled {E : Type 0} (w d later c : ℕ) (content : List ℕ) (resu
   pub holds : HoldsValue w later after now shows
   pub step : StaysOrSteps lanes c content now shows
   pub live : LiveIsLate lanes c after now
+  pub leaves : (after ≡ lanes) ⊎ LeavesPending w later c content lanes after now shows
   pub value : IsValueIfOk result w d later c lanes after now shows
 
 -- a settlement's writes were not refused

@@ -17,9 +17,11 @@ ghost use Rattle.register_caller.specs.Steps.{WritesBoth};
 use call_types::Whys;
 use drive_base::{Drive, DriveSet};
 use register_core::{Draft, QuorumFault, mark, propose};
-use vote_core::{fresh_laws, live_laws, value_laws};
+use vote_core::{fresh_laws, live_laws, place_laws, value_laws};
 
-/// Writes both files of a draft: proposes the change, and marks it where enough lanes took it.
+/// Writes both files of a draft: proposes the change, and marks it where enough lanes took it. `Ok` has the letters of the mark, and the change's content
+/// is the value then. It is refused with `WriteQuorum` where fewer lanes than a write needs took either file, and then the change may have taken effect or
+/// may take effect later. It takes no memory.
 pub fn write_both<D: Drive>(
     lanes: &mut [D],
     out: DriveSet,
@@ -46,6 +48,7 @@ pub fn write_both<D: Drive>(
     ensures count { count.new ≤ count.old + 2 * draft.old.set.drives }
 {
     live_laws();
+    place_laws();
     fresh_laws();
     value_laws();
     let prepared = match propose(lanes, out, draft, term, count) {

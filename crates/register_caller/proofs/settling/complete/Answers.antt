@@ -46,8 +46,8 @@ returns-in-Ok-write_both-clause-settles g c found recorded last change content t
       are = subst (λ (n : List ℕ). AreLanes {D = T} D.files at.out n c.write_both.new.lanes wrote.after) drafted.name wrote.are;
       stay = wrote.stay;
       settled = marked_settled {T = Whys} {E = QuorumFault} (write_drives looked.set.drives looked.set.parity) (data_drives looked.set.drives looked.set.parity) last
-          (rank_of c.args.ballot) change content recorded wrote.after draft.letters (base_of looked.base) again c.in-Ok-write_both.field-0 c.write_both.new.draft.value
-          known.1 known.2 known.0 (c.in-Ok-write_both.ensures.value ∙ drafted.«of».ends.value);
+          (rank_of c.args.ballot) change content recorded wrote.after draft.letters (base_of looked.base) again (next_of pending) c.in-Ok-write_both.field-0 c.write_both.new.draft.value
+          known.1 known.2 known.3 refl known.0 (c.in-Ok-write_both.ensures.value ∙ drafted.«of».ends.value);
     }
 
 pub returns-in-Ok-write_both-clause-calls : goal.returns-in-Ok-write_both-clause-calls
@@ -84,8 +84,8 @@ returns-in-Err-write_both-clause-settles g c found recorded last change content 
       are = subst (λ (n : List ℕ). AreLanes {D = T} D.files at.out n c.write_both.new.lanes wrote.after) drafted.name wrote.are;
       stay = wrote.stay;
       settled = refused_settled {T = Whys} {E = QuorumFault} (write_drives looked.set.drives looked.set.parity) (data_drives looked.set.drives looked.set.parity) last
-          (rank_of c.args.ballot) change content recorded wrote.after draft.letters (base_of looked.base) (next_of again) c.in-Err-write_both.fault
-          known.1 known.2 known.0;
+          (rank_of c.args.ballot) change content recorded wrote.after draft.letters (base_of looked.base) (next_of again) (next_of pending) c.in-Err-write_both.fault
+          known.1 known.2 known.3 refl known.0;
     }
 
 pub returns-in-Err-write_both-clause-calls : goal.returns-in-Err-write_both-clause-calls
@@ -104,7 +104,8 @@ returns-in-Err-write_both-clause-served g c serving serve many =
     let D = g.D.Drive in
     let looked = c.args.looked.now in
     let drafted = c.in-Ok.ensures c.requires.pending.0 c.requires.pending.1 in
-    let letters = drafted.letters ∙ ap (λ (p : Option Next). letters_for p looked.whys looked.set.drives) c.requires.pending.1 in
+    let letters = ◌∙◌ {b = letters_for looked.pending looked.whys looked.set.drives} drafted.letters
+    (ap (λ (p : Option Next). letters_for p looked.whys looked.set.drives) c.requires.pending.1) in
     absurd (not_ok (c.in-Err-write_both.ensures.enough serving
     (subst (λ (l : List Why). AllServe {D = T} D.tells D.count c.args.at.now.out serving l c.args.lanes.now c.write_both.new.lanes) (sym letters) serve)
     (subst (λ (s : SetPlan). write_drives s.drives s.parity ≤ count_in serving s.drives) (sym drafted.set) many)))

@@ -7,6 +7,9 @@ use Rattle.register_core.specs.OnLanes.{AllTell, AreLanes, AreUnused}
 use Rattle.register_core.specs.Records.{base_of, next_of}
 use Rattle.register_core.specs.declared.drafts.Draft.{Draft}
 use Rattle.register_core.specs.Proposing.{quorum_of}
+use Rattle.call_types.specs.declared.why.Whys.{Whys}
+use Rattle.register_core.specs.declared.faults.QuorumFault.{QuorumFault}
+use Rattle.register_caller.proofs.LeavingLemmas.{leaves_both, leaves_refused}
 use Rattle.register_caller.proofs.LiveLemmas.{fresh_after_mark, fresh_after_prepare, live_after_both, live_refused}
 use Rattle.register_caller.proofs.CallingLemmas.{mark_few, propose_few, tell_after}
 use Rattle.register_caller.proofs.ServingLemmas.{serve_mark}
@@ -28,6 +31,9 @@ returns-in-Err g c = record {
           live = λ last later change now content shows may here. live_refused c.live_laws.ensures.old_or_own c.value_laws.ensures.one
               (quorum_of c.args.draft.now) last later change now content shows recorded kept.after (base_of base) (next_of next) may.holds
               (kept.leaves.value last later change content may).holds kept.left here;
+          leaving = λ last later change content may. leaves_refused {T = Whys} {E = QuorumFault} c.live_laws.ensures.old_or_own c.place_laws.ensures.members
+              (quorum_of c.args.draft.now) last later change content recorded kept.after c.args.draft.now.letters (base_of base) (next_of next) c.in-Err.fault may
+              (kept.leaves.value last later change content may).holds kept.left;
           fresh = λ other is_fresh base_else next_else. fresh_after_prepare c.fresh_laws.ensures.change other recorded kept.after (base_of base) (next_of next)
               is_fresh base_else next_else kept.left;
         };
@@ -78,6 +84,12 @@ returns g c = record {
               (quorum_of c.args.draft.now) last later change now content shows recorded kept.after marks.after (base_of base) (next_of next)
               may.holds stays.holds stays.ready kept.left marks.left
               (marks.value (base_of base) later change content (record { holds = stays.holds; ready = stays.ready; took = kept.took })) here;
+          leaving = λ last later change content may.
+              let stays = kept.leaves.value last later change content may in
+              leaves_both {T = Whys} {E = QuorumFault} c.live_laws.ensures.old_or_own c.live_laws.ensures.marked c.place_laws.ensures.members c.mark.result
+              (quorum_of c.args.draft.now) last later change content recorded kept.after marks.after c.args.draft.now.letters (base_of base) (next_of next)
+              may stays.holds stays.ready kept.left marks.left
+              (marks.value (base_of base) later change content (record { holds = stays.holds; ready = stays.ready; took = kept.took }));
           fresh = λ other is_fresh base_else next_else. fresh_after_mark c.fresh_laws.ensures.change other kept.after marks.after (next_of next)
               (fresh_after_prepare c.fresh_laws.ensures.change other recorded kept.after (base_of base) (next_of next) is_fresh base_else next_else kept.left)
               next_else marks.left;
