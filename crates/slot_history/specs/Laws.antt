@@ -13,7 +13,8 @@ use Rattle.slot_history.specs.Sections.{IsOnItsWay, SectionMoves}
 use Rattle.slot_history.specs.Standing.{Flying, Records, Stands}
 use Rattle.slot_history.specs.State.{Changes, IsNew, State, Waiting, no_state}
 use Rattle.slot_history.specs.Waiting.{IsLate, IsLawful}
-use Rattle.slot_history.specs.Writing.{LeavesLanes, Written, WritesUnder}
+use Rattle.register_caller.specs.Leaving.{LeavesLanes, Written}
+use Rattle.slot_history.specs.Writing.{WritesUnder}
 
 -- names are of one kind, and a part's name tells its upload and the path of its key
 abbrev pub NamesDiffer : Type 0
