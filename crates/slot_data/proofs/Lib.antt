@@ -1,0 +1,11 @@
+pub mod CarryLemmas
+pub mod FlightLemmas
+pub mod FreshLemmas
+pub mod GoneLemmas
+pub mod HandsLemmas
+pub mod LaneLemmas
+pub mod ListedLemmas
+pub mod NamingLemmas
+pub mod PinLemmas
+pub mod RowLemmas
+pub mod WriteLemmas

@@ -1,0 +1,9 @@
+pub mod Bringing
+pub mod Disks
+pub mod Holding
+pub mod LaneLaws
+pub mod Laws
+pub mod Live
+pub mod Moves
+pub mod Rows
+pub mod Standing
