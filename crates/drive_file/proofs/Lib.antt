@@ -1,1 +1,2 @@
+pub mod MetLemmas
 pub mod PathLemmas

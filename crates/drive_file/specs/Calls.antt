@@ -27,6 +27,13 @@ module _ {R : Type 0} where
   WritesLoose old (Err Failed) new = KnowsTheSame old new
   WritesLoose old (Err NoMemory) new = ⊥
 
+  -- `sync` does so too, but where it fails the drive may be lost
+  abbrev pub SyncsLoose : {T : Type 0} → FileDrive R → Result T DriveFault → FileDrive R → Type 0
+  SyncsLoose old (Ok _) new = (is_lost old ≡ false) × KnowsTheSame old new
+  SyncsLoose old (Err Absent) new = (is_lost old ≡ false) × KnowsTheSame old new
+  SyncsLoose old (Err Failed) new = (is_lost new ≡ true) ⊎ KnowsTheSame old new
+  SyncsLoose old (Err NoMemory) new = ⊥
+
   -- `rename` adds the name; where it fails the drive is lost, or knows the names that it knew
   abbrev pub PutsInPlace : {T : Type 0} → FileDrive R → List ℕ → Result T DriveFault → FileDrive R → Type 0
   PutsInPlace old name (Ok t) new = (is_lost old ≡ false) × (is_lost new ≡ false) × (known new ≡ with_name (known old) name (Some tt))

@@ -1,5 +1,8 @@
 -- What a way to a drive tells of it.
-use Rattle.std.specs.Prelude.{ℕ, Bool, false}
+use Rattle.std.specs.Prelude.{◌≡◌, ℕ, Bool, false, Result, Ok, Err}
+use Rattle.fault_base.specs.Counts.{Rose}
+use Rattle.drive_base.specs.declared.fault.DriveFault.{DriveFault}
+use Rattle.drive_base.specs.declared.fault.DriveFault.TheVariants.{Absent, Failed, NoMemory}
 use Rattle.drive_base.specs.Files.{Files, no_files}
 use Rattle.drive_file.specs.declared.shared.Way.{Way}
 use Rattle.drive_file.specs.declared.shared.Way.TheVariants.{Alone, Shared}
@@ -18,3 +21,10 @@ way_files files (Shared lock) = no_files
 abbrev pub way_count : {D : Type 0} → (D → ℕ) → Way D → ℕ → ℕ
 way_count count (Alone drive) met = count drive
 way_count count (Shared lock) met = met
+
+-- the faults that a shared way met, after a call with this answer: they rise with `Failed` and with no other
+abbrev pub MetAfter : {T : Type 0} → Result T DriveFault → ℕ → ℕ → Type 0
+MetAfter (Ok _) old new = new ≡ old
+MetAfter (Err Absent) old new = new ≡ old
+MetAfter (Err Failed) old new = Rose old new
+MetAfter (Err NoMemory) old new = new ≡ old

@@ -6,7 +6,7 @@ ghost use Rattle.fault_base.specs.Counts.{Rose};
 ghost use Rattle.drive_base.specs.Faults.{Counts, CountsAppend, CountsNames};
 ghost use Rattle.drive_base.specs.Files.{no_files, with_name};
 ghost use Rattle.drive_base.specs.Names.{IsPage};
-ghost use Rattle.drive_file.specs.Calls.{KnowsTheSame, LooksUp, WritesLoose, PutsInPlace, TakesOut, ListsKnown};
+ghost use Rattle.drive_file.specs.Calls.{KnowsTheSame, LooksUp, WritesLoose, SyncsLoose, PutsInPlace, TakesOut, ListsKnown};
 ghost use Rattle.drive_file.specs.FileDrive.{known, is_lost};
 
 use crate::names::NameSet;
@@ -131,6 +131,17 @@ impl<R: Files + AllocGlobal + Clone + Drop> FileDrive<R> {
         found(calls::sync(&self.rt, self.loose_path(loose)?.as_str()))
     }
 
+    /// Removes a loose file whose sync failed: the system tells a failure once, so another sync of it could succeed although the
+    /// bytes aren't on the disk. Where it can't be removed, the drive is lost.
+    fn forget_unsynced(&mut self, loose: &str)
+        ensures known { (is_lost self.new ≡ true) ⊎ KnowsTheSame self.old self.new }
+        ensures faults { self.new.faults ≡ self.old.faults }
+    {
+        if self.remove_loose(loose).is_err() {
+            self.lost = true;
+        }
+    }
+
     /// Removes a loose file, and answers whether it was there.
     fn remove_loose(&self, loose: &str) -> io::Result<bool> {
         if loose.is_empty() {
@@ -240,7 +251,7 @@ impl<R: Files + AllocGlobal + Clone + Drop> Drive for FileDrive<R> {
 
     fn sync(&mut self, loose: &str) -> Result<(), DriveFault>
         ensures count { Counts result self.old.faults self.new.faults }
-        ensures known { WritesLoose self.old result self.new }
+        ensures known { SyncsLoose self.old result self.new }
     {
         if self.lost {
             self.count_fault();
@@ -250,6 +261,7 @@ impl<R: Files + AllocGlobal + Clone + Drop> Drive for FileDrive<R> {
             Ok(true) => Ok(()),
             Ok(false) => Err(DriveFault::Absent),
             Err(_) => {
+                self.forget_unsynced(loose);
                 self.count_fault();
                 Err(DriveFault::Failed)
             }

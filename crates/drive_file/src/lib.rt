@@ -1,4 +1,25 @@
-//! A drive over a folder that survives a loss of power, and a drive that threads share.
+//! A drive over a folder that outlasts a loss of power, a drive that several threads share, and the lock of a folder.
+//!
+//! [`FileDrive`] keeps a file in place under its name's spelling ([`spelling_laws`]: two names have two) and a loose file
+//! under that below `loose`. The set of names is read when the folder is opened, and a call asks it before the system, so a name
+//! that the drive knows is never answered `Absent`: where the system doesn't find its file, the call fails and is counted.
+//!
+//! What lasts is what POSIX says lasts. `sync` waits for the file's fsync. `rename` waits, after the system's rename, for the
+//! fsync of the folder and of each folder that has a new one as its entry; `open` does so for each folder that it finds, since a
+//! process that was killed may have left entries that only the cache has. Where one of these fails, nobody knows what the disk
+//! has, so the drive is lost: every later call fails, until the folder is opened anew. `remove` and `discard` wait for no fsync,
+//! so a file that was removed may be back after a loss of power.
+//!
+//! [`SharedDrive`] is one of several ways to a drive behind a Mutex, each with a count of the faults that it met itself, or the
+//! only way to a drive, without a lock. [`RootLock`] keeps a second process out of a folder.
+//!
+//! It is proved that each call meets the trait `Drive`, how a call changes the names that a drive over a folder knows, how a name
+//! is spelled, and that a lost or closed drive fails each call. What the system does with a file no contract can say: that is
+//! tested on real folders, with each call of the system failing in turn, and `tools/check_durable.sh` shows each fsync. A
+//! drive over a folder and a shared one tell nothing.
+//!
+//! The crate stands on `drive_base`, which has the trait and the listing of names, on `fault_base`, which says when a count rose,
+//! and on the kit's `hex` and `thiserror`; its tests and two lemmas on `drive_memory`.
 #![tactic(auto)]
 
 mod calls;

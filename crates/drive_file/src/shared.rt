@@ -1,7 +1,7 @@
 //! A drive that several threads share.
 
 ghost use Rattle.std.specs.Prelude.{◌≡◌, false, IfOk};
-ghost use Rattle.drive_file.specs.SharedDrive.{way_tells, way_files, way_count};
+ghost use Rattle.drive_file.specs.SharedDrive.{MetAfter, way_tells, way_files, way_count};
 
 use drive_base::{Drive, DriveFault};
 use fault_base::{NoMemory, count_after};
@@ -77,6 +77,17 @@ impl<R: Wait + Clone + Drop, D: Drive + Drop> SharedDrive<R, D> {
     }
 }
 
+/// How many faults a way met, after one more call that answered so.
+fn met_after<T>(met: u64, answer: &Result<T, DriveFault>) -> u64
+    ensures { MetAfter answer.now met result }
+{
+    match answer {
+        Err(DriveFault::Failed) => count_after(met),
+        _ => met,
+    }
+}
+
+#[tactic(auto, using(crate::proofs::MetLemmas::counts_met, crate::proofs::MetLemmas::appends_met, crate::proofs::MetLemmas::names_met))]
 impl<R: Wait + Clone + Drop, D: Drive + Drop> Drive for SharedDrive<R, D> {
     ghost tells = { λ shared. way_tells D.tells shared.way };
 
@@ -89,9 +100,7 @@ impl<R: Wait + Clone + Drop, D: Drive + Drop> Drive for SharedDrive<R, D> {
             Way::Alone(drive) => drive.size(name),
             Way::Shared(lock) => {
                 let answer = lock.lock(&self.rt).size(name);
-                if let Err(DriveFault::Failed) = answer {
-                    self.met = count_after(self.met);
-                }
+                self.met = met_after(self.met, &answer);
                 answer
             }
         }
@@ -102,9 +111,7 @@ impl<R: Wait + Clone + Drop, D: Drive + Drop> Drive for SharedDrive<R, D> {
             Way::Alone(drive) => drive.read(name, at, into),
             Way::Shared(lock) => {
                 let answer = lock.lock(&self.rt).read(name, at, into);
-                if let Err(DriveFault::Failed) = answer {
-                    self.met = count_after(self.met);
-                }
+                self.met = met_after(self.met, &answer);
                 answer
             }
         }
@@ -115,9 +122,7 @@ impl<R: Wait + Clone + Drop, D: Drive + Drop> Drive for SharedDrive<R, D> {
             Way::Alone(drive) => drive.append(loose, bytes),
             Way::Shared(lock) => {
                 let answer = lock.lock(&self.rt).append(loose, bytes);
-                if let Err(DriveFault::Failed) = answer {
-                    self.met = count_after(self.met);
-                }
+                self.met = met_after(self.met, &answer);
                 answer
             }
         }
@@ -128,9 +133,7 @@ impl<R: Wait + Clone + Drop, D: Drive + Drop> Drive for SharedDrive<R, D> {
             Way::Alone(drive) => drive.sync(loose),
             Way::Shared(lock) => {
                 let answer = lock.lock(&self.rt).sync(loose);
-                if let Err(DriveFault::Failed) = answer {
-                    self.met = count_after(self.met);
-                }
+                self.met = met_after(self.met, &answer);
                 answer
             }
         }
@@ -141,9 +144,7 @@ impl<R: Wait + Clone + Drop, D: Drive + Drop> Drive for SharedDrive<R, D> {
             Way::Alone(drive) => drive.rename(loose, name),
             Way::Shared(lock) => {
                 let answer = lock.lock(&self.rt).rename(loose, name);
-                if let Err(DriveFault::Failed) = answer {
-                    self.met = count_after(self.met);
-                }
+                self.met = met_after(self.met, &answer);
                 answer
             }
         }
@@ -154,9 +155,7 @@ impl<R: Wait + Clone + Drop, D: Drive + Drop> Drive for SharedDrive<R, D> {
             Way::Alone(drive) => drive.discard(loose),
             Way::Shared(lock) => {
                 let answer = lock.lock(&self.rt).discard(loose);
-                if let Err(DriveFault::Failed) = answer {
-                    self.met = count_after(self.met);
-                }
+                self.met = met_after(self.met, &answer);
                 answer
             }
         }
@@ -167,9 +166,7 @@ impl<R: Wait + Clone + Drop, D: Drive + Drop> Drive for SharedDrive<R, D> {
             Way::Alone(drive) => drive.remove(name),
             Way::Shared(lock) => {
                 let answer = lock.lock(&self.rt).remove(name);
-                if let Err(DriveFault::Failed) = answer {
-                    self.met = count_after(self.met);
-                }
+                self.met = met_after(self.met, &answer);
                 answer
             }
         }
@@ -180,9 +177,7 @@ impl<R: Wait + Clone + Drop, D: Drive + Drop> Drive for SharedDrive<R, D> {
             Way::Alone(drive) => drive.names(alloc, from, most),
             Way::Shared(lock) => {
                 let answer = lock.lock(&self.rt).names(alloc, from, most);
-                if let Err(DriveFault::Failed) = &answer {
-                    self.met = count_after(self.met);
-                }
+                self.met = met_after(self.met, &answer);
                 answer
             }
         }

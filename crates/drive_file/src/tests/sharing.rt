@@ -1,6 +1,6 @@
 //! Drives that are shared.
 
-use super::{place, read_four};
+use super::{letters, line, place, read_four};
 use crate::SharedDrive;
 use drive_base::{Drive, DriveFault};
 use drive_memory::MemDrive;
@@ -28,28 +28,16 @@ fn two_ways<R: Wait + AllocGlobal + Clone + Drop>(rt: R, calls: u64) -> Result<W
 
 #[test]
 fn two_ways_lead_to_one_drive(rt: HostRuntime) -> Result<(), Fail> {
-    let (mut first, mut second) = two_ways(rt, 12)?;
-    first.append("w1", b"abc")?;
+    let (mut first, mut second) = two_ways(rt, 7)?;
+    place(&mut first, "a", b"abc")?;
     second.append("w1", b"def")?;
-    first.sync("w1")?;
-    second.rename("w1", "a")?;
-    assert_eq!(rt; first.size("a")?, 6);
-    assert_eq!(rt; read_four(&mut second, "a", 3)?, (3, *b"def-"));
-    assert_eq!(rt; first.names(rt.alloc(), "", 2)?.len(), 1);
-    second.append("w2", b"")?;
-    first.discard("w2")?;
-    second.remove("a")?;
-    assert_eq!(rt; first.size("a").err(), Some(DriveFault::Absent));
-    assert_eq!(rt; second.size("a").err(), Some(DriveFault::Absent));
-    assert_eq!(rt; (first.faults(), second.faults()), (0, 0));
+    assert_eq!(rt; read_four(&mut second, "a", 1)?, (2, *b"bc--"));
+    assert_eq!(rt; line(&mut second, rt.alloc(), "", 2)?.as_str(), "a ");
+    first.discard("w1")?;
     // Every call fails from here on, and each way counts its own.
-    assert_eq!(rt; first.size("a").err(), Some(DriveFault::Failed));
+    assert_eq!(rt; letters(&mut first, "a"), ['f'; 6]);
     assert_eq!(rt; second.append("w1", b"").err(), Some(DriveFault::Failed));
-    assert_eq!(rt;
-        second.names(rt.alloc(), "", 1).err(),
-        Some(DriveFault::Failed)
-    );
-    assert_eq!(rt; (first.faults(), second.faults()), (1, 2));
+    assert_eq!(rt; (first.faults(), second.faults()), (6, 1));
     assert_eq!(rt; first.again()?.faults(), 0);
     Ok(())
 }
