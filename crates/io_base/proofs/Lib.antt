@@ -1,4 +1,6 @@
 pub mod Counting
 pub mod Giving
 pub mod Taking
+pub mod Turning
+pub mod Works
 pub mod Writing

@@ -1,9 +1,14 @@
 pub mod Count
+pub mod Door
+pub mod MemDoor
 pub mod MemSink
 pub mod MemSource
 pub mod Sink
 pub mod Source
+pub mod Spawner
 pub mod StdSink
 pub mod StdSource
 pub mod SystemClock
+pub mod Turns
+pub mod Works
 pub mod Wrote

@@ -1,6 +1,7 @@
-//! Where bytes come from and go to, and what tells the time: counted sources, counted sinks, clocks.
+//! Where bytes come from and go to, and what tells the time: counted sources, counted sinks, clocks, doors that give
+//! connections, and what does works beside one another.
 //!
-//! The crate stands on no other crate of the repository. What reads or writes takes a `Source` or a
+//! The crate stands on `fault_base`. What reads or writes takes a `Source` or a
 //! `Sink`, so that its contract can name the bytes. One in memory tells them, and fails at chosen
 //! calls; one over the outside tells nothing, and is where trust in the system begins. Of a reader
 //! or a writer that tells its bytes even that one loses, repeats and changes none.
@@ -11,24 +12,40 @@
 //! together by the lemmas of `proofs/Taking`, `proofs/Giving` and `proofs/Counting`.
 //!
 //! A `Clock` answers a moment that a date with a year of four digits can show, and never fails.
+//!
+//! A `Door` gives connections, each as a source and a sink, until it is over, and takes them back. One in memory tells the
+//! pairs that it gave and those that came back. A `Spawner` does `Work`s, each by a thread of its own or one after another,
+//! and hands all of them back: those done are over, those that could not be started are as they were, and counted.
 #![tactic(auto)]
 
 mod clock;
+mod door;
+#[cfg(test)]
+mod door_tests;
 mod fault;
+mod memory_door;
 mod memory_sink;
 mod memory_source;
 mod sink;
 mod source;
+mod spawner;
 mod standard_sink;
 mod standard_source;
 #[cfg(test)]
 mod tests;
+mod turns;
+mod work;
 
 pub use clock::{Clock, MOMENT_LIMIT, MemClock, SystemClock};
+pub use door::Door;
 pub use fault::IoFault;
+pub use memory_door::MemDoor;
 pub use memory_sink::MemSink;
 pub use memory_source::MemSource;
 pub use sink::Sink;
 pub use source::Source;
+pub use spawner::Spawner;
 pub use standard_sink::StdSink;
 pub use standard_source::StdSource;
+pub use turns::Turns;
+pub use work::{Spawned, Work};
