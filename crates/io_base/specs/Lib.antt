@@ -3,12 +3,14 @@ pub mod Door
 pub mod MemDoor
 pub mod MemSink
 pub mod MemSource
+pub mod Pace
 pub mod Sink
 pub mod Source
 pub mod Spawner
 pub mod StdSink
 pub mod StdSource
 pub mod SystemClock
+pub mod TcpDoor
 pub mod Turns
 pub mod Works
 pub mod Wrote

@@ -14,8 +14,11 @@
 //! A `Clock` answers a moment that a date with a year of four digits can show, and never fails.
 //!
 //! A `Door` gives connections, each as a source and a sink, until it is over, and takes them back. One in memory tells the
-//! pairs that it gave and those that came back. A `Spawner` does `Work`s, each by a thread of its own or one after another,
-//! and hands all of them back: those done are over, those that could not be started are as they were, and counted.
+//! pairs that it gave and those that came back. One over TCP tells nothing; it fails only where it can't be made or the system
+//! takes no connection for it, and cuts peers that are idle, slow or take nothing (`TcpLimits`).
+//!
+//! A `Spawner` does `Work`s, each by a thread of its own or one after another, and hands all of them back: those done are over,
+//! those that could not be started are as they were, and counted.
 #![tactic(auto)]
 
 mod clock;
@@ -26,11 +29,17 @@ mod fault;
 mod memory_door;
 mod memory_sink;
 mod memory_source;
+mod pace;
 mod sink;
 mod source;
 mod spawner;
 mod standard_sink;
 mod standard_source;
+mod tcp_door;
+mod tcp_ends;
+mod tcp_limits;
+#[cfg(test)]
+mod tcp_tests;
 #[cfg(test)]
 mod tests;
 mod turns;
@@ -47,5 +56,8 @@ pub use source::Source;
 pub use spawner::Spawner;
 pub use standard_sink::StdSink;
 pub use standard_source::StdSource;
+pub use tcp_door::TcpDoor;
+pub use tcp_ends::{TcpIn, TcpOut, TcpReader, TcpWriter};
+pub use tcp_limits::TcpLimits;
 pub use turns::Turns;
 pub use work::{Spawned, Work};
