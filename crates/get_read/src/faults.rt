@@ -32,3 +32,11 @@ impl<T: Drop> From<AllocFailed<T>> for ReadFaultKind {
         ReadFaultKind::NoMemory
     }
 }
+
+impl From<fault_base::NoMemory> for ReadFaultKind {
+    ghost from_gives = { λ _ error. error ≡ NoMemory };
+
+    fn from(_refused: fault_base::NoMemory) -> ReadFaultKind {
+        ReadFaultKind::NoMemory
+    }
+}

@@ -5,6 +5,9 @@
 //! every body with that print, whatever the drives did, or two byte strings with one SHA-256 were met, of which the
 //! clause names both. Where the read is refused, each drive's cause is told.
 //!
+//! `read_whole` and `read_manifest` make all calls at once. A `Reader` makes at most one drive call a step, and others may
+//! work on the drives between two steps: what it promises is said of its own calls, each at its moment.
+//!
 //! A digest table is read and verified once for each drive and part. A block is rebuilt only from blocks whose digests
 //! were compared; those of a stripe are computed together, once there are as many blocks as it has data blocks, or all
 //! drives were tried. The crate stands on `body_print` for the print and the names, on `manifest_file` and `shard_file` for
@@ -12,15 +15,24 @@
 #![tactic(auto)]
 
 mod blocks;
+mod calls;
 mod faults;
+mod fetching;
+mod letters;
 mod manifests;
 mod parts;
+mod places;
+mod reader;
+mod searching;
+mod state;
+mod stepping;
 mod stripes;
 mod tables;
 mod whole;
 
 pub use faults::ReadFaultKind;
 pub use manifests::read_manifest;
+pub use reader::{ReadStep, Reader};
 pub use whole::read_whole;
 
 #[cfg(test)]

@@ -109,7 +109,7 @@ fn manifest_on<D: Drive>(
 }
 
 /// The manifest of a file, if it serves.
-fn served(alloc: Global, wanted: &Wanted, file: &[u8]) -> Result<Manifest, NotGiven>
+pub fn served(alloc: Global, wanted: &Wanted, file: &[u8]) -> Result<Manifest, NotGiven>
     ensures { IsServed (wanted_of wanted.now.set wanted.now.print wanted.now.reach) file.now result }
 {
     match read(alloc, file) {

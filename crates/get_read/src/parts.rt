@@ -108,7 +108,7 @@ fn stripe_at<D: Drive>(
 }
 
 /// A table for each drive, none of them held.
-fn no_tables(alloc: Global, drives: u8) -> Result<Vec<Vec<u8>>, AllocError>
+pub fn no_tables(alloc: Global, drives: u8) -> Result<Vec<Vec<u8>>, AllocError>
     ensures count { IfOk result (λ tables. length tables.items ≡ drives) }
     ensures empty { IfOk result (λ tables. All (λ table. table.items ≡ []) tables.items) }
 {

@@ -18,7 +18,7 @@ use shard_file::{STRIPE, check_block, layout};
 use std::alloc::Global;
 
 /// What the type of a slice says of its items: each is a byte. It does nothing.
-fn byte_law(bytes: &[u8])
+pub fn byte_law(bytes: &[u8])
     ensures { IsBytes bytes.now }
 {}
 
@@ -129,7 +129,7 @@ pub fn block_on<D: Drive>(
 }
 
 /// The digest that a table has for a stripe.
-fn digest_of(table: &[u8], stripe: u64) -> [u8; 32]
+pub fn digest_of(table: &[u8], stripe: u64) -> [u8; 32]
     requires { 32 * stripe + 32 ≤ length table.now }
     ensures { result ≡ digest_in table.now stripe }
 {

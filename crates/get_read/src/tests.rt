@@ -6,4 +6,5 @@ mod hello;
 mod made;
 mod rows;
 mod sizes;
+mod stepping;
 mod stripes;

@@ -1,0 +1,51 @@
+-- One call of one drive of a list.
+use Rattle.std.proofs.Common.{◌≡◌, ◌∙◌, ℕ, ◌<◌, List, [], ◌∷◌, length, slice_index_or, slice_set, ap, refl, subst, sym, inl, inr, arith}
+use Rattle.std.specs.Int.{IsBitSet}
+use Rattle.std.proofs.lemmas.Bool.{cases_eq}
+use Rattle.std.proofs.lemmas.List.{get_or-set_other, get_or-set_same, get_or_default, length-set}
+use Rattle.drive_base.proofs.ViewLemmas.{at_each_view, length-views, view_at-views}
+use Rattle.drive_base.specs.View.{AllOnlyRead, DriveView, OnlyRead, view, views, view_at}
+use Rattle.drive_base.specs.declared.drive.Drive.{Ghosts}
+use Rattle.get_read.specs.Account.{Seen, WasSeen}
+use Rattle.get_read.specs.Readers.{AreCalls}
+
+-- what is only read is so, told otherwise
+untouched : (drive : DriveView) → OnlyRead drive drive
+untouched drive = record { goes_on = record { tells = refl; count = omega arith }; files = λ told. refl }
+
+-- an element is found again, whatever stands for one that is not there
+pub again : {D : Type 0} (drives : List D) (k : ℕ) (d : D) → k < length drives → slice_index_or drives k (slice_index_or drives k d) ≡ slice_index_or drives k d
+again drives k d low = get_or_default drives k (slice_index_or drives k d) d low
+
+module _ {D : Type 0} (ghosts : Ghosts D) where
+  -- the call is one of the drives' calls
+  pub called_once : (out k : ℕ) (seen : Seen) (drives : List D) (was now : D) → k < length drives → (IsBitSet out k → ⊥)
+      → slice_index_or drives k was ≡ was → WasSeen seen (view ghosts was) (view ghosts now)
+      → AreCalls ghosts out (record { drive = k; seen = seen } ∷ []) drives (slice_set drives k now)
+  called_once out k seen drives was now low in_use is seen_so =
+      let before : view_at (views ghosts drives) k ≡ view ghosts was = view_at-views ghosts drives k was low ∙ ap (view ghosts) is in
+      let after : view_at (views ghosts (slice_set drives k now)) k ≡ view ghosts now =
+      view_at-views ghosts (slice_set drives k now) k was (omega (arith, length-set drives k now)) ∙ ap (view ghosts) (get_or-set_same drives k now was low) in (
+        record {
+          within = omega (arith, length-views ghosts drives);
+          in_use = in_use;
+          was = subst (λ (v : DriveView). WasSeen seen v (view_at (views ghosts (slice_set drives k now)) k)) (sym before)
+              (subst (λ (v : DriveView). WasSeen seen (view ghosts was) v) (sym after) seen_so);
+        },
+        λ other d apart. get_or-set_other drives k other now d apart,
+      )
+
+  -- and all drives were only read, where that one was
+  pub only_read_at : (k : ℕ) (drives : List D) (was now : D) → k < length drives → slice_index_or drives k was ≡ was
+      → OnlyRead (view ghosts was) (view ghosts now) → AllOnlyRead (views ghosts drives) (views ghosts (slice_set drives k now))
+  only_read_at k drives was now low is read = at_each_view ghosts (λ _. OnlyRead) drives (slice_set drives k now) (length-set drives k now)
+      (λ j d inside. elim (cases_eq j k) [
+        | inl same ↦
+            subst (λ (v : DriveView). OnlyRead v (view ghosts (slice_index_or (slice_set drives k now) j d)))
+            (ap (view ghosts) (sym (ap (λ (i : ℕ). slice_index_or drives i d) same ∙ get_or_default drives k d was low ∙ is)))
+            (subst (λ (v : DriveView). OnlyRead (view ghosts was) v)
+            (ap (view ghosts) (sym (ap (λ (i : ℕ). slice_index_or (slice_set drives k now) i d) same ∙ get_or-set_same drives k now d low))) read)
+        | inr apart ↦
+            subst (λ (v : DriveView). OnlyRead (view ghosts (slice_index_or drives j d)) v)
+            (ap (view ghosts) (sym (get_or-set_other drives k j now d apart))) (untouched (view ghosts (slice_index_or drives j d)))
+      ])

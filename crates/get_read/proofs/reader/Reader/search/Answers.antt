@@ -1,0 +1,18 @@
+use Rattle.get_read.proofs.ReaderLemmas.{search_begun, search_goes_on, search_refused}
+use Rattle.get_read.proofs.reader.Reader.search.Goals as goal
+
+pub returns-in-Ok-None-clause-steps : goal.returns-in-Ok-None-clause-steps
+returns-in-Ok-None-clause-steps g c =
+    let steps = c.in-Ok-None.ensures.steps in
+    rw (c.search_on.ensures.state, c.search_on.ensures.more)
+    (search_goes_on g.D.Drive c.args.self.now.asked c.args.search c.step.new.self _ c.args.drives.now c.step.new.drives c.requires.same (rw c.in-Ok-None.field-0-is at steps))
+
+pub returns-in-Ok-Some-clause-steps : goal.returns-in-Ok-Some-clause-steps
+returns-in-Ok-Some-clause-steps g c =
+    search_begun g.D.Drive c.args.self.now.asked c.args.search c.step.new.self c.in-Ok-Some.manifest c.begin.new.self.state _ c.begin.result c.args.drives.now c.step.new.drives
+    c.requires.same (rw c.in-Ok-Some.field-0-is at c.in-Ok-Some.ensures.steps) (rw c.requires.state at c.begin.ensures.begins)
+
+pub returns-in-Err-clause-steps : goal.returns-in-Err-clause-steps
+returns-in-Err-clause-steps g c =
+    rw (c.refuse.ensures.state, c.refuse.ensures.fault)
+    (search_refused g.D.Drive c.args.self.now.asked c.args.search c.step.new.self _ c.in-Err.fault c.args.drives.now c.step.new.drives c.requires.same c.in-Err.ensures.steps)
