@@ -137,3 +137,8 @@ module _ {D : Type 0} (tells : D → Bool) (files : D → Files) (count : D → 
   Looks set out name fault longest (Err (WriteQuorum _)) old new disks disks_after = ⊥
   Looks set out name fault longest (Err (Undecided k u whys)) old new disks disks_after = IsUndecided set out name longest k u whys old new disks disks_after
   Looks set out name fault longest (Err NoMemory) old new disks disks_after = Unit {0}
+
+-- the rule keeps what it read of the content that a look accepted
+abbrev pub HasRead : {E : Type 0} → (List ℕ → Type 0) → Result Looked E → Type 0
+HasRead read (Ok looked) = read (content_of looked.base looked.pending)
+HasRead read (Err _) = Unit {0}

@@ -23,6 +23,9 @@ pub trait ContentRule {
     /// The greatest number of bytes of a content that meets the rule.
     ghost most_bytes: { Self → ℕ };
 
+    /// What the rule keeps of the content that it checked last, where it accepted it.
+    ghost has_read: { Self → List ℕ → Type 0 };
+
     /// The greatest number of bytes of a content that meets the rule: a lane's file that is too long for two such
     /// contents is damaged, and isn't read.
     fn longest(&self) -> u64
@@ -32,6 +35,7 @@ pub trait ContentRule {
     fn check(&mut self, alloc: Global, content: &[u8]) -> Result<(), ContentFault>
         ensures answer { IsChecked (fault_in self.old content.now) result }
         ensures within { IfOk result (λ _. length content.now ≤ most_bytes self.old) }
+        ensures read { IfOk result (λ _. has_read self.new content.now) }
         ensures same { fault_in self.new ≡ fault_in self.old }
         ensures same_most { most_bytes self.new ≡ most_bytes self.old };
 }

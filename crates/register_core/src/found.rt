@@ -93,6 +93,7 @@ pub fn accept<R: ContentRule>(
     requires { length whys.now ≡ length files.now }
     ensures answer { Accepts (R.fault_in rule.old content.now) files.now content.now whys.now result }
     ensures within { IfOk result (λ _. length content.now ≤ R.most_bytes rule.old) }
+    ensures read { IfOk result (λ _. R.has_read rule.new content.now) }
     ensures rule { R.fault_in rule.new ≡ R.fault_in rule.old }
     ensures most { R.most_bytes rule.new ≡ R.most_bytes rule.old }
 {

@@ -3,7 +3,7 @@
 ghost use Rattle.std.specs.Prelude.{◌≡◌, ◌<◌, ◌≤◌, ℕ, List, IsTrue, IfOk, IfErr, length, map, slice_index_or, string_bytes};
 ghost use Rattle.std.specs.Int.{IsBitSet};
 ghost use Rattle.drive_base.specs.Plan.{data_drives, write_drives};
-ghost use Rattle.register_core.specs.Looking.{Looks};
+ghost use Rattle.register_core.specs.Looking.{HasRead, Looks};
 ghost use Rattle.register_core.specs.LookSteps.{Forwards, IsConcluded};
 ghost use Rattle.register_core.specs.Records.{row_of};
 
@@ -34,7 +34,7 @@ pub struct Concluded {
 /// lawful content is at most. `ReadQuorum` comes where fewer lanes have a good file than a read needs, and where the content that is settled, or that a
 /// forward would complete, breaks the rule: each lane that has it is then `Damaged` with the spelling's place. `Undecided`
 /// comes where a change that adds data may have taken effect and its manifest verifies on fewer data drives than that: the
-/// letters are those of the data drives. No lane is written, and a lane or a data drive that is out isn't called.
+/// letters are those of the data drives. The rule keeps what it read of the content that was accepted. No lane is written, and a lane or a data drive that is out isn't called.
 pub fn look<D: Drive, R: ContentRule>(
     alloc: Global,
     lanes: &mut [D],
@@ -47,6 +47,7 @@ pub fn look<D: Drive, R: ContentRule>(
     requires lanes { length lanes.old ≡ set.drives }
     requires disks { length disks.old ≡ set.drives }
     ensures outcome { Looks D.tells D.files D.count set out name.now (R.fault_in rule.old) (R.most_bytes rule.old) result lanes.old lanes.new disks.old disks.new }
+    ensures read { HasRead (R.has_read rule.new) result }
     ensures rule { R.fault_in rule.new ≡ R.fault_in rule.old }
     ensures most { R.most_bytes rule.new ≡ R.most_bytes rule.old }
     ensures files { (k : ℕ) (d : D) → k < length lanes.old → IsTrue (D.tells (slice_index_or lanes.old k d)) → D.files (slice_index_or lanes.new k d) ≡ D.files (slice_index_or lanes.old k d) }

@@ -34,6 +34,8 @@ impl ContentRule for Anything {
 
     ghost most_bytes = { λ _. 18446744073709551615 };
 
+    ghost has_read = { λ _ _. Unit {0} };
+
     fn longest(&self) -> u64 {
         u64::MAX
     }

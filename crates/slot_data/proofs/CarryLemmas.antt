@@ -157,6 +157,7 @@ module _ (set : SetPlan) (slot last later : ℕ) (old new : Records) (state next
     of_slot = d.pins.of_slot;
     drawn = λ id is. (let low = d.pins.drawn id is in omega (arith, low, above));
     named = d.pins.named;
+    held = d.pins.held;
     parts = λ id is whole. elim (whole_before id whole) [
       | inl was ↦ d.pins.parts id is was
       | inr f ↦

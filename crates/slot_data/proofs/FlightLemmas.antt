@@ -6,17 +6,17 @@ use Rattle.drive_base.specs.declared.plan.SetPlan.{SetPlan}
 use Rattle.drive_base.specs.Plan.{write_drives}
 use Rattle.manifest_file.specs.Spelling.{file_of}
 use Rattle.manifest_file.specs.declared.manifest.Manifest.{Manifest}
-use Rattle.slot_history.specs.Contents.{NamedData, number_of_id}
+use Rattle.slot_history.specs.Contents.{number_of_id}
 use Rattle.slot_history.specs.Standing.{Flying, Records}
 use Rattle.slot_history.specs.State.{State, TakesOut}
 use Rattle.slot_history.proofs.TakenLemmas.{taken_there, left_there, taken_or_left, left_distinct, left_apart}
-use Rattle.slot_data.specs.Disks.{Disks, IsForKeyOf, IsPieceOf, Keeps, Reaches}
-use Rattle.slot_data.specs.Holding.{Hands, Holding, IsInFlight, IsPinned, IsPinnedFor, Known, Pinned}
+use Rattle.slot_data.specs.Disks.{Disks, IsPieceOf, Keeps}
+use Rattle.slot_data.specs.Holding.{Hands, Holding, IsPinned, Known}
 use Rattle.slot_data.specs.Holding.Purpose.{ForComplete}
 use Rattle.slot_data.specs.Laws.{PutBegins, PutIsGivenUp}
-use Rattle.slot_data.specs.Live.{IsComing, IsHeldData, IsLiveData, IsNamed, IsWanted}
+use Rattle.slot_data.specs.Live.{IsHeldData, IsLiveData, IsWanted}
 use Rattle.slot_data.specs.Moves.{LanesStand, given_up, with_flight}
-use Rattle.slot_data.specs.Standing.{DataStands, FlightsStand, IsListed, RecordNames, RecordNamesId}
+use Rattle.slot_data.specs.Standing.{DataStands, FlightsStand, RecordNamesId}
 use Rattle.slot_data.proofs.HandsLemmas.{files_drawn, pins_drawn}
 use Rattle.slot_data.proofs.ListedLemmas.{Within, held_more, listed_more, live_more, one_there, put_distinct, put_last, some_pin}
 use Rattle.slot_data.proofs.NamingLemmas.{record_drawn, record_names_id, record_of_coming, record_of_named}

@@ -1,8 +1,9 @@
--- A slot in which nothing was done names nothing.
+-- The data stands of a slot in which nothing was done, and of one in which nothing is under way.
 use Rattle.std.proofs.Common.{◌≡◌, inl, inr, ℕ, true, List, [], replicate, None, Some, Contains, sym, subst, ◌∙◌, arith}
 use Rattle.std.proofs.lemmas.List.{get_or-replicate, length-replicate}
 use Rattle.stamp_id.specs.declared.version.VersionId.{VersionId}
 use Rattle.call_types.specs.declared.version.PartRecord.{PartRecord}
+use Rattle.drive_base.specs.declared.plan.SetPlan.{SetPlan}
 use Rattle.version_list.specs.NamesId.{names_id}
 use Rattle.version_list.specs.State.{IsCanonical}
 use Rattle.version_list.specs.declared.state.KeyState.{KeyState}
@@ -10,9 +11,13 @@ use Rattle.version_list.proofs.LawProofs.{injective}
 use Rattle.upload_book.proofs.ContentLemmas.{content_injective}
 use Rattle.vote_core.specs.Lane.{HasNext, HasRecord, Lane, Next, blank_lane}
 use Rattle.slot_history.specs.Contents.{NamedData, NamesData, NamesId, SpellsKey, SpellsPart, no_key}
+use Rattle.slot_history.specs.Standing.{Records}
+use Rattle.slot_history.specs.State.{State, no_state}
 use Rattle.slot_history.proofs.TakenLemmas.{none_there}
-use Rattle.slot_data.specs.Laws.{FreshDataStands}
-use Rattle.slot_data.specs.Standing.{RecordNames, RecordNamesId}
+use Rattle.slot_data.specs.Disks.{Disks}
+use Rattle.slot_data.specs.Holding.{no_hands, no_holding}
+use Rattle.slot_data.specs.Laws.{FreshDataStands, LifeEnds}
+use Rattle.slot_data.specs.Standing.{FlightsStand, HandsStand, PinsStand, RecordNames, RecordNamesId, TrashStands}
 use Rattle.slot_data.proofs.NamingLemmas.{record_names_id}
 
 -- a key that has nothing is canonical
@@ -66,7 +71,61 @@ no_record_id n name id r =
 no_record : (n : ℕ) (name : List ℕ) (id : VersionId) → RecordNames (λ _. replicate n blank_lane) name id → ⊥
 no_record n name id r = no_record_id n name id (record_names_id (λ _. replicate n blank_lane) name id r)
 
--- and the data stands
+-- ---- a slot in which nothing is under way
+
+no_flights : (set : SetPlan) (slot : ℕ) (records : Records) (disks : Disks) → FlightsStand set slot records no_holding disks
+no_flights set slot records disks = record {
+  of_slot = λ f there. absurd (none_there f there);
+  differ = tt;
+  unnamed = λ f name there r. none_there f there;
+  unpinned = λ f there pinned. none_there f there;
+  no_trash = λ f there trash. none_there f there;
+  no_part = λ f whole there piece. absurd (none_there f there);
+  gathered = λ f id there piece. absurd (none_there f there);
+  named = λ f m there kept. absurd (none_there f there);
+}
+
+no_pins : (set : SetPlan) (slot last : ℕ) (records : Records) (disks : Disks) → PinsStand set slot last records [] disks
+no_pins set slot last records disks = record {
+  differ = tt;
+  of_slot = λ id is. absurd (none_there is.pin is.there);
+  drawn = λ id is. absurd (none_there is.pin is.there);
+  named = λ p id m there. absurd (none_there p there);
+  held = λ p id there. absurd (none_there p there);
+  parts = λ id is whole. none_there is.pin is.there;
+}
+
+no_trash : (set : SetPlan) (slot last : ℕ) (records : Records) (state : State) (disks : Disks) → TrashStands set slot last records state no_holding disks
+no_trash set slot last records state disks = record {
+  unheld = λ id there held. none_there id there;
+  no_part = λ id whole there. absurd (none_there id there);
+  of_slot = λ id there. absurd (none_there id there);
+  drawn = λ id there. absurd (none_there id there);
+}
+
+none_in_hand : (set : SetPlan) (slot last : ℕ) (records : Records) (state : State) (disks : Disks)
+    → HandsStand set slot last records state no_holding disks no_hands
+none_in_hand set slot last records state disks = record {
+  dead = λ id there live. none_there id there;
+  of_slot = λ id there. absurd (none_there id there);
+  drawn = λ id there. absurd (none_there id there);
+  listed = λ x there. absurd (none_there x there);
+  holders = λ x there. absurd (none_there x there);
+}
+
+-- a life ends
+pub life_ends : LifeEnds
+life_ends set slot last records state holding disks hands d = record {
+  names = d.names;
+  files = d.files;
+  flights = no_flights set slot records disks;
+  pins = no_pins set slot last records disks;
+  trash = no_trash set slot last records state disks;
+  in_hand = none_in_hand set slot last records state disks;
+  holders = d.holders;
+}
+
+-- the data stands where nothing was done
 pub fresh_data_stands : FreshDataStands
 fresh_data_stands set slot last disks files = record {
   names = record {
@@ -74,36 +133,10 @@ fresh_data_stands set slot last disks files = record {
     one_name = λ id name other r s. absurd (no_record set.drives name id r);
   };
   files = files;
-  flights = record {
-    of_slot = λ f there. absurd (none_there f there);
-    differ = tt;
-    unnamed = λ f name there r. none_there f there;
-    unpinned = λ f there pinned. none_there f there;
-    no_trash = λ f there trash. none_there f there;
-    no_part = λ f whole there piece. absurd (none_there f there);
-    gathered = λ f id there piece. absurd (none_there f there);
-    named = λ f m there kept. absurd (none_there f there);
-  };
-  pins = record {
-    differ = tt;
-    of_slot = λ id is. absurd (none_there is.pin is.there);
-    drawn = λ id is. absurd (none_there is.pin is.there);
-    named = λ p id m there. absurd (none_there p there);
-    parts = λ id is whole. none_there is.pin is.there;
-  };
-  trash = record {
-    unheld = λ id there held. none_there id there;
-    no_part = λ id whole there. absurd (none_there id there);
-    of_slot = λ id there. absurd (none_there id there);
-    drawn = λ id there. absurd (none_there id there);
-  };
-  in_hand = record {
-    dead = λ id there live. none_there id there;
-    of_slot = λ id there. absurd (none_there id there);
-    drawn = λ id there. absurd (none_there id there);
-    listed = λ x there. absurd (none_there x there);
-    holders = λ x there. absurd (none_there x there);
-  };
+  flights = no_flights set slot (λ name. replicate set.drives blank_lane) disks;
+  pins = no_pins set slot last (λ name. replicate set.drives blank_lane) disks;
+  trash = no_trash set slot last (λ name. replicate set.drives blank_lane) no_state disks;
+  in_hand = none_in_hand set slot last (λ name. replicate set.drives blank_lane) no_state disks;
   holders = record {
     named = λ name named is. absurd (no_bytes_data name named is.names);
     coming = λ name named is. absurd (no_next set.drives is.lane is.next is.there is.has);

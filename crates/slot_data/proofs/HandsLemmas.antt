@@ -8,12 +8,11 @@ use Rattle.slot_history.specs.Standing.{Records}
 use Rattle.slot_history.specs.State.{State}
 use Rattle.slot_data.specs.Disks.{AreInOrder, Disks, HasHolders}
 use Rattle.slot_data.specs.Holding.{Hands, Holding, IsPinned, Known, Pinned}
-use Rattle.slot_data.specs.Holding.Purpose.{ForHeal, ForRead}
 use Rattle.slot_data.specs.Laws.{DeadIsTaken, HandsAreFreed, HoldersAreKnown, NumbersAreDrawn, TrashIsTaken}
 use Rattle.slot_data.specs.Live.{IsLiveData}
 use Rattle.slot_data.specs.Moves.{with_known, with_taken, with_trash}
 use Rattle.slot_data.specs.Standing.{DataStands, HandsStand, IsListed, PinsStand, TrashStands}
-use Rattle.slot_data.proofs.ListedLemmas.{Within, held_more, listed_more, live_more, one_there, some_pin}
+use Rattle.slot_data.proofs.ListedLemmas.{Within, held_more, listed_more, live_more, one_there, read_pin}
 
 -- numbers are drawn
 pub files_drawn : (set : SetPlan) (slot last later : ℕ) (disks : Disks) → last ≤ later → AreInOrder set slot last disks → AreInOrder set slot later disks
@@ -23,6 +22,7 @@ files_drawn set slot last later disks above files = record {
   pieces = λ whole id of piece. (let low = files.pieces whole id of piece in omega (arith, low, above));
   of_slot = files.of_slot;
   joined = files.joined;
+  single = files.single;
 }
 
 pub pins_drawn :
@@ -33,6 +33,7 @@ pins_drawn set slot last later records pins disks above p = record {
   of_slot = p.of_slot;
   drawn = λ id is. (let low = p.drawn id is in omega (arith, low, above));
   named = p.named;
+  held = p.held;
   parts = p.parts;
 }
 
@@ -128,10 +129,7 @@ pub trash_not_live :
 trash_not_live set slot last records state holding disks id t there unpinned live = elim live [
   | inl held ↦ t.unheld id there held
   | inr read ↦
-      let pinned : IsPinned holding.pins read.0 = elim read.1 [
-        | inl r ↦ some_pin ForRead holding.pins read.0 r
-        | inr h ↦ some_pin ForHeal holding.pins read.0 h
-      ] in
+      let pinned = read_pin holding.pins read.0 read.1 in
       let same : id ≡ read.0 = elim read.2 [
         | inl whole ↦ whole
         | inr piece ↦ t.no_part id read.0 there pinned piece

@@ -27,7 +27,7 @@ use Rattle.slot_data.specs.Standing.{AddsAreNamed, DataStands, RecordNames, Reco
 use Rattle.slot_data.proofs.CarryLemmas.{Carries, carried}
 use Rattle.slot_data.proofs.ListedLemmas.{Within}
 use Rattle.slot_data.proofs.NamingLemmas.{record_of_coming, record_of_named}
-use Rattle.slot_data.proofs.WriteLemmas.{Wrote, adds_makes, adds_waits, by_name, coming_makes, coming_waits, named_elsewhere, named_makes, not_same, of_slot, recorded, unnamed, written_at}
+use Rattle.slot_data.proofs.WriteLemmas.{Makes, Wrote, adds_makes, adds_waits, by_name, coming_makes, coming_waits, named_elsewhere, named_makes, not_same, of_slot, recorded, unnamed, written_at}
 
 -- ---- a put that ends
 
@@ -59,8 +59,6 @@ module _ (set : SetPlan) (slot last later : ℕ) (old new : Records) (state : St
     held = may.held;
     leaves = leaves;
     under = under;
-    some = may.some;
-    is_new = fresh.not_applied;
     opens = may.opens;
     content_was = λ named names. elim (may.brings named names) [
       | inl before ↦ inl (record { held = may.held; names = before })
@@ -69,7 +67,7 @@ module _ (set : SetPlan) (slot last later : ℕ) (old new : Records) (state : St
     added_was = λ named names added. inr (inr (refl, brings.brought named names added));
     ids_of_slot = brings.of_slot;
     ids_landed = λ g there names. (may.ids g.id names).landed g there refl;
-    adds = brings.adds;
+    adds = λ a next added live written. brings.adds added;
     others = ends_others holding.flights rest ends;
   }
 
@@ -99,7 +97,7 @@ module _ (set : SetPlan) (slot last later : ℕ) (old new : Records) (state : St
     go_on = go_on;
   }
 
-  module _ (made : State) (changes : Changes name (record { change = x.change; content = x.content }) state.registers made.registers) (value : now ≡ x.change)
+  module _ (made : State) (makes : Makes state made name x now)
       (gone : List VersionId) (is_gone : (id : VersionId) → Contains gone id → IsGone name (state.registers name).content x.content id) where
     -- a record of this register named what is gone
     gone_recorded : (id : VersionId) → Contains gone id → RecordNames old name id
@@ -119,13 +117,13 @@ module _ (set : SetPlan) (slot last later : ℕ) (old new : Records) (state : St
       recorded = recorded set slot last later old new state holding rest disks hands name x after now shows (BroughtTo holding rest hands name) own_wrote;
       of_slot = of_slot set slot last later old new state holding rest disks hands name x after now shows (BroughtTo holding rest hands name) own_wrote;
       unnamed = unnamed set slot last later old new state holding rest disks hands name x after now shows (BroughtTo holding rest hands name) own_wrote;
-      is_named = named_makes set slot last later old new state holding rest disks hands name x after now shows (BroughtTo holding rest hands name) own_wrote made changes value;
+      is_named = named_makes set slot last later old new state holding rest disks hands name x after now shows (BroughtTo holding rest hands name) own_wrote made makes;
       is_coming = λ n named is. inr (inl (coming_makes set slot last later old new state holding rest disks hands name x after now shows
-          (BroughtTo holding rest hands name) own_wrote made changes value n named is).1);
+          (BroughtTo holding rest hands name) own_wrote made makes n named is).1);
       flying = λ n named b. b.1.flying;
       one_name = λ n m named other b c. b.0 ∙ sym c.0;
       has_holders = brought_held;
-      adds = adds_makes set slot last later old new state holding rest disks hands name x after now shows (BroughtTo holding rest hands name) own_wrote made changes value;
+      adds = adds_makes set slot last later old new state holding rest disks hands name x after now shows (BroughtTo holding rest hands name) own_wrote made makes;
       others = ends_others holding.flights rest ends;
       differ = ends_differ holding.flights rest ends d.flights.differ;
       gone_was = λ id there. (
@@ -134,14 +132,14 @@ module _ (set : SetPlan) (slot last later : ℕ) (old new : Records) (state : St
       gone_named = λ id n named there is same. by_name name n
           (λ at_name. (is_gone id there).unnamed named
           (written_at set slot last later old new state holding rest disks hands name x after now shows (BroughtTo holding rest hands name) own_wrote
-          made changes value n named at_name is) same)
+          made makes n named at_name is) same)
           (λ differ. not_elsewhere id n there differ
           (record_of_named (write_drives set.drives set.parity) set.drives last holding.flights old state n named id stands
           (named_elsewhere set slot last later old new state holding rest disks hands name x after now shows (BroughtTo holding rest hands name) own_wrote
-          made changes value n named differ is) same));
+          made makes n named differ is) same));
       gone_coming = λ id n named there is same. (
           let before = coming_makes set slot last later old new state holding rest disks hands name x after now shows
-          (BroughtTo holding rest hands name) own_wrote made changes value n named is in
+          (BroughtTo holding rest hands name) own_wrote made makes n named is in
           not_elsewhere id n there before.0 (record_of_coming old state n named id before.1 same));
       go_on = go_on;
     }
@@ -156,12 +154,12 @@ own_makes_data set slot last later old new state made holding rest disks hands l
     ends brings go_on is_gone d =
     carried set slot last later old new state made holding rest disks hands less gone (BroughtTo holding rest hands name) above stands
     (makes_carries set slot last later old new state holding rest disks hands name x after now shows stands may fresh leaves under ends brings d
-    made is_made.changes value gone is_gone less go_on) d
+    made (record { changes = is_made.changes; value = value; some = may.some; is_new = fresh.not_applied }) gone is_gone less go_on) d
 
 -- ---- a change that was on its way
 
 -- nothing is brought
-abbrev Nothing : List ℕ → NamedData → Type 0
+abbrev pub Nothing : List ℕ → NamedData → Type 0
 Nothing n named = ⊥
 
 -- what a change makes
@@ -169,7 +167,7 @@ abbrev register_made : ℕ → List ℕ → Register
 register_made change content = record { change = change; content = content }
 
 -- a slot that ends no put and has no new trash keeps what it kept
-same_holding : (holding : Holding) → with_gone holding holding.flights [] ≡ holding
+pub same_holding : (holding : Holding) → with_gone holding holding.flights [] ≡ holding
 same_holding holding = ap (λ (t : List VersionId). with_trash holding t) (append-nil holding.trash)
 
 module _ (set : SetPlan) (slot last later : ℕ) (old new : Records) (state : State) (holding : Holding) (disks : Disks)
@@ -213,8 +211,6 @@ module _ (set : SetPlan) (slot last later : ℕ) (old new : Records) (state : St
     held = way.held;
     leaves = leaves;
     under = under;
-    some = subst (λ (c : ℕ). 0 < c) (sym change_is) (stands.lawful.some p way.waits.there);
-    is_new = λ applied. stands.lawful.once p way.waits.there (subst (λ (c : ℕ). Contains state.applied c) change_is applied);
     opens = λ at upload named opened.
         subst (λ (c : ℕ). HasOpen (state.registers p.name).content upload ⊎ (number_of_id upload ≡ c)) (sym change_is)
         (stands.lawful.opens p way.waits.there (way.waits.parent_is ∙ way.live.parent) at upload named
@@ -228,7 +224,7 @@ module _ (set : SetPlan) (slot last later : ℕ) (old new : Records) (state : St
     added_was = λ named names added. inr (inl (was_coming named names (subst (λ (o : Option Added). IsAdded o named) adds_is added)));
     ids_of_slot = λ id names. d.names.of_slot p.name id (was_recorded id names);
     ids_landed = λ g there names. d.flights.unnamed g p.name there (was_recorded g.id names);
-    adds = λ added same.
+    adds = λ a next added live written same.
         subst (λ (bytes : List ℕ). AddsAreNamed p.name bytes added) (sym same_content)
         (d.holders.adds p.name way.lane way.next added way.held way.there way.has way.live (sym adds_is ∙ same));
     others = λ g there. there;
@@ -264,20 +260,25 @@ module _ (set : SetPlan) (slot last later : ℕ) (old new : Records) (state : St
       ap (λ (c : ℕ). register_made c p.content) (sym change_is) ∙ ap (λ (bytes : List ℕ). register_made x.change bytes) (sym content_is) in
       let changes : Changes p.name (register_made x.change x.content) state.registers moved.registers =
       record { is = late.changes.is ∙ made; stays = late.changes.stays } in
-      let value : now ≡ x.change = is ∙ sym change_is in
+      let makes : Makes state moved p.name x now = record {
+        changes = changes;
+        value = is ∙ sym change_is;
+        some = subst (λ (c : ℕ). 0 < c) (sym change_is) (stands.lawful.some p way.waits.there);
+        is_new = λ applied. stands.lawful.once p way.waits.there (subst (λ (c : ℕ). Contains state.applied c) change_is applied);
+      } in
       record {
         recorded = recorded set slot last later old new state holding holding.flights disks hands p.name x after now shows Nothing again_wrote;
         of_slot = of_slot set slot last later old new state holding holding.flights disks hands p.name x after now shows Nothing again_wrote;
         unnamed = unnamed set slot last later old new state holding holding.flights disks hands p.name x after now shows Nothing again_wrote;
         is_named = named_makes set slot last later old new state holding holding.flights disks hands p.name x after now shows Nothing again_wrote
-            moved changes value;
+            moved makes;
         is_coming = λ n named coming. inr (inl (coming_makes set slot last later old new state holding holding.flights disks hands p.name x after now shows
-            Nothing again_wrote moved changes value n named coming).1);
+            Nothing again_wrote moved makes n named coming).1);
         flying = λ n named b. absurd b;
         one_name = λ n m named other b c. absurd b;
         has_holders = λ n named b. absurd b;
         adds = adds_makes set slot last later old new state holding holding.flights disks hands p.name x after now shows Nothing again_wrote
-            moved changes value;
+            moved makes;
         others = λ g there. there;
         differ = d.flights.differ;
         gone_was = λ id there. absurd (none_there id there);

@@ -76,6 +76,12 @@ any_pinned_more xs ys more id is = record { pin = is.pin; there = more is.pin is
 pub some_pin : (purpose : Purpose) (xs : List Pinned) (id : VersionId) → IsPinnedFor purpose xs id → IsPinned xs id
 some_pin purpose xs id is = record { pin = is.pin; there = is.there; names = is.names }
 
+pub read_pin : (pins : List Pinned) (id : VersionId) → IsPinnedFor ForRead pins id ⊎ IsPinnedFor ForHeal pins id → IsPinned pins id
+read_pin pins id is = elim is [
+  | inl r ↦ some_pin ForRead pins id r
+  | inr h ↦ some_pin ForHeal pins id h
+]
+
 pub listed_more : (one other : Holding) → Within one.flights other.flights → Within one.pins other.pins → (id : VersionId) → IsListed one id → IsListed other id
 listed_more one other flights pins id is = elim is [
   | inl f ↦ inl (flight_more one.flights other.flights flights id f)

@@ -1,24 +1,24 @@
 -- The data of a slot stands while pins begin and end.
-use Rattle.std.proofs.Common.{◌≡◌, ◌≢◌, ◌⊎◌, inl, inr, ℕ, ◌≤◌, List, [], ◌∷◌, ◌++◌, Contains, refl, sym, subst, ap, ◌∙◌}
+use Rattle.std.proofs.Common.{◌≡◌, ◌⊎◌, inl, inr, ℕ, List, Contains, sym, subst, ap, ◌∙◌}
 use Rattle.stamp_id.specs.declared.version.VersionId.{VersionId}
 use Rattle.drive_base.specs.declared.plan.SetPlan.{SetPlan}
 use Rattle.drive_base.specs.Plan.{write_drives}
 use Rattle.manifest_file.specs.Spelling.{file_of}
 use Rattle.manifest_file.specs.declared.manifest.Manifest.{Manifest}
 use Rattle.manifest_file.proofs.LawProofs.{files_injective}
-use Rattle.slot_history.specs.Contents.{NamedData, number_of_id}
+use Rattle.slot_history.specs.Contents.{NamedData}
 use Rattle.slot_history.specs.Names.{key_name}
-use Rattle.slot_history.specs.Standing.{Flying, Records}
+use Rattle.slot_history.specs.Standing.{Records}
 use Rattle.slot_history.specs.State.{State, TakesOut}
 use Rattle.slot_history.proofs.NameLemmas.{key_not_part}
 use Rattle.slot_history.proofs.TakenLemmas.{left_there, taken_or_left, left_distinct}
-use Rattle.slot_data.specs.Disks.{Disks, HasHolders, IsForKeyOf, IsPartName, IsPieceOf, Keeps}
-use Rattle.slot_data.specs.Holding.{Hands, Holding, IsPinned, IsPinnedFor, Known, Pinned, Purpose}
+use Rattle.slot_data.specs.Disks.{Disks, HasHolders, HasHoldersFor, IsForKeyOf, Keeps}
+use Rattle.slot_data.specs.Holding.{Hands, Holding, IsPinned, IsPinnedFor, Pinned, Purpose}
 use Rattle.slot_data.specs.Holding.Purpose.{ForComplete, ForHeal, ForRead}
 use Rattle.slot_data.specs.Laws.{PinBegins, PinEnds}
 use Rattle.slot_data.specs.Live.{IsHeldData, IsLiveData, IsWanted}
 use Rattle.slot_data.specs.Moves.{IsToPin, LanesStand, MayPin, MayUnpin, with_pins}
-use Rattle.slot_data.specs.Standing.{DataStands, IsListed, IsWhole, RecordNames, RecordNamesId}
+use Rattle.slot_data.specs.Standing.{DataStands, IsWhole, RecordNames, RecordNamesId}
 use Rattle.slot_data.proofs.ListedLemmas.{Within, any_pinned_more, held_more, listed_more, live_more, pinned_more, put_distinct}
 use Rattle.slot_data.proofs.NamingLemmas.{record_drawn, record_names_id, record_of_named}
 
@@ -67,6 +67,7 @@ module _ (set : SetPlan) (slot last : ℕ) (records : Records) (state : State) (
           of_slot = λ id is. d.pins.of_slot id (any_pinned_more rest holding.pins rest_were id is);
           drawn = λ id is. d.pins.drawn id (any_pinned_more rest holding.pins rest_were id is);
           named = λ q id m there. d.pins.named q id m (rest_were q there);
+          held = λ q id there. d.pins.held q id (rest_were q there);
           parts = λ id is. d.pins.parts id (pinned_more ForComplete rest holding.pins rest_were id is);
         };
         trash = record {
@@ -206,6 +207,18 @@ module _ (set : SetPlan) (slot last : ℕ) (records : Records) (state : State) (
                 let for = kept_is_for set disks is.named is.name id m (d.holders.named is.name is.named is.names) is.id_is kept in
                 subst (λ (r : Pinned). IsForKeyOf r.name m.name) same_pin (subst (λ (n : List ℕ). IsForKeyOf p.name n) (sym for) is.key)
             | inr old ↦ d.pins.named q id m old names kept
+          ];
+          held = λ q id there names. elim (new_or_old q there) [
+            | inl same_pin ↦
+                let is = may.each id (subst (λ (r : Pinned). Contains r.ids id) (sym same_pin) names) in
+                subst (λ (r : Pinned). HasHoldersFor set disks r.name id) same_pin (record {
+                  named = is.named;
+                  register = is.name;
+                  id_is = is.id_is;
+                  key = is.key;
+                  holders = d.holders.named is.name is.named is.names;
+                })
+            | inr old ↦ d.pins.held q id old names
           ];
           parts = λ id is whole. elim (new_or_old is.pin is.there) [
             | inl same_pin ↦

@@ -1,16 +1,13 @@
 -- What the tests of rows find.
 use Rattle.std.proofs.Common.{◌≡◌, ◌⊎◌, inl, inr, ◌∙◌, Bool, true, false, List, [], ◌∷◌, map, Contains, ap, refl, sym, subst}
-use Rattle.std.specs.Prelude.{◌↔◌, ◌||◌}
+use Rattle.std.specs.Prelude.{◌||◌}
 use Rattle.std.specs.List.{list_any}
 use Rattle.stamp_id.specs.declared.version.VersionId.{VersionId}
 use Rattle.version_list.proofs.NamingLemmas.{same_id_law}
-use Rattle.version_list.specs.Naming.{same_id}
 use Rattle.slot_history.proofs.TakenLemmas.{first_there, none_there, rest_there, there_cases}
 use Rattle.slot_history.specs.Standing.{Flying}
-use Rattle.slot_data.specs.Holding.{IsInFlight, IsPinned, Pinned}
+use Rattle.slot_data.specs.Holding.{Pinned}
 use Rattle.slot_data.specs.Rows.{FlightsAreFound, PinsAreFound, flies, flying_of, is_id, pin_names, pinned_of}
-use Rattle.slot_data.specs.declared.rows.FlightRow.{FlightRow}
-use Rattle.slot_data.specs.declared.rows.PinRow.{PinRow}
 
 -- a test finds an item that passes it, which is there
 any_found : {A : Type 0} (p : A → Bool) (xs : List A) → list_any p xs ≡ true → (x : A) × Contains xs x × (p x ≡ true)

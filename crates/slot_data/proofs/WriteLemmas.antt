@@ -43,16 +43,21 @@ pub record Wrote (set : SetPlan) (slot last later : ℕ) (old new : Records) (st
   pub held : IsHeld state.registers name
   pub leaves : LeavesLanes (write_drives set.drives set.parity) later x (old name) (state.registers name).change (state.registers name).content after now shows
   pub under : WritesUnder name after old new
-  pub some : 0 < x.change
-  pub is_new : Contains state.applied x.change → ⊥
   pub opens : (at : Key) (upload : VersionId) → name ≡ key_name at → HasOpen x.content upload
       → HasOpen (state.registers name).content upload ⊎ (number_of_id upload ≡ x.change)
   pub content_was : (named : NamedData) → NamesData name x.content named → Was old state Brought name named
   pub added_was : (named : NamedData) → NamesData name x.content named → IsAdded x.adds named → Was old state Brought name named
   pub ids_of_slot : (id : VersionId) → NamesId name x.content id → id.slot ≡ slot
   pub ids_landed : (g : Flying) → Contains rest g → NamesId name x.content g.id → ⊥
-  pub adds : (added : Added) → x.adds ≡ Some added → AddsAreNamed name x.content added
+  pub adds : (a : Lane) (next : Next) (added : Added) → IsLive after now a next → IsWritten x next → x.adds ≡ Some added → AddsAreNamed name x.content added
   pub others : (g : Flying) → Contains rest g → Contains holding.flights g
+
+-- what was written is new, and is the value of a state
+pub record Makes (state made : State) (name : List ℕ) (x : Written) (now : ℕ) : Type 0 where
+  pub changes : Changes name (record { change = x.change; content = x.content }) state.registers made.registers
+  pub value : now ≡ x.change
+  pub some : 0 < x.change
+  pub is_new : Contains state.applied x.change → ⊥
 
 module _ (set : SetPlan) (slot last later : ℕ) (old new : Records) (state : State) (holding : Holding) (rest : List Flying) (disks : Disks)
     (hands : Hands) (name : List ℕ) (x : Written) (after : List Lane) (now : ℕ) (shows : List ℕ) (Brought : List ℕ → NamedData → Type 0)
@@ -143,16 +148,21 @@ module _ (set : SetPlan) (slot last later : ℕ) (old new : Records) (state : St
 
   -- ---- the value is as it was
 
-  -- a next that may become the value could so before, or was written
+  -- a next may become the value of what the write left
+  live_after :
+      now ≡ (state.registers name).change → (a : Lane) (next : Next) → IsLive (new name) (state.registers name).change a next → IsLive after now a next
+  live_after same a next live =
+      subst (λ (c : ℕ). IsLive after c a next) (sym same)
+      (subst (λ (l : List Lane). IsLive l (state.registers name).change a next) w.under.is live)
+
+  -- it could so before, or was written
   next_was :
       now ≡ (state.registers name).change → (a : Lane) (next : Next) → Contains (new name) a → HasNext a next
       → IsLive (new name) (state.registers name).change a next → WasLive (old name) (state.registers name).change next ⊎ IsWritten x next
   next_was same a next there has live =
       let here : Contains after a = subst (λ (l : List Lane). Contains l a) w.under.is there in
-      let live_here : IsLive after now a next = subst (λ (c : ℕ). IsLive after c a next) (sym same)
-      (subst (λ (l : List Lane). IsLive l (state.registers name).change a next) w.under.is live) in
       elim w.leaves.moves [
-        | inl stays ↦ stays.2 a next here has live_here
+        | inl stays ↦ stays.2 a next here has (live_after same a next live)
         | inr moves ↦ absurd (moves.2 (sym moves.0 ∙ same))
       ]
 
@@ -188,7 +198,8 @@ module _ (set : SetPlan) (slot last later : ℕ) (old new : Records) (state : St
     | inl was ↦
         subst (λ (bytes : List ℕ). AddsAreNamed name bytes added) (sym was.content_is)
         (w.standing.holders.adds name was.lane was.found added w.held was.there was.has was.live (sym was.adds_is ∙ adds))
-    | inr written ↦ subst (λ (bytes : List ℕ). AddsAreNamed name bytes added) (sym written.content_is) (w.adds added (sym written.adds_is ∙ adds))
+    | inr written ↦ subst (λ (bytes : List ℕ). AddsAreNamed name bytes added) (sym written.content_is)
+        (w.adds a next added (live_after same a next live) written (sym written.adds_is ∙ adds))
   ]
 
   pub adds_waits :
@@ -201,20 +212,19 @@ module _ (set : SetPlan) (slot last later : ℕ) (old new : Records) (state : St
 
   -- ---- what was written is the value
 
-  module _ (made : State) (changes : Changes name (record { change = x.change; content = x.content }) state.registers made.registers)
-      (value : now ≡ x.change) where
+  module _ (made : State) (m : Makes state made name x now) where
     -- it wasn't the value before
     changed : now ≢ (state.registers name).change
     changed same = elim (w.stands.lawful.lasts name) [
-      | inl zero ↦ (let some = w.some in let none : x.change ≡ 0 = sym value ∙ same ∙ zero in omega (arith, some, none))
-      | inr applied ↦ w.is_new (subst (λ (c : ℕ). Contains state.applied c) (sym same ∙ value) applied)
+      | inl zero ↦ (let some = m.some in let none : x.change ≡ 0 = sym m.value ∙ same ∙ zero in omega (arith, some, none))
+      | inr applied ↦ m.is_new (subst (λ (c : ℕ). Contains state.applied c) (sym same ∙ m.value) applied)
     ]
 
     -- so nothing is on its way over it
     calm : (a : Lane) (next : Next) → Contains (new name) a → HasNext a next → IsLive (new name) (made.registers name).change a next → ⊥
     calm a next there has live =
         let here : Contains after a = subst (λ (l : List Lane). Contains l a) w.under.is there in
-        let change : (made.registers name).change ≡ now = ap (λ (r : Register). r.change) changes.is ∙ sym value in
+        let change : (made.registers name).change ≡ now = ap (λ (r : Register). r.change) m.changes.is ∙ sym m.value in
         let live_here : IsLive after now a next = subst (λ (c : ℕ). IsLive after c a next) change
         (subst (λ (l : List Lane). IsLive l (made.registers name).change a next) w.under.is live) in
         elim w.leaves.moves [
@@ -236,7 +246,7 @@ module _ (set : SetPlan) (slot last later : ℕ) (old new : Records) (state : St
     held_back n (inr (inr o)) = by_name name (key_name o.at)
         (λ same.
         let at_name : HasOpen (made.registers name).content o.upload = subst (λ (m : List ℕ). HasOpen (made.registers m).content o.upload) (sym same) o.opened in
-        let opened : HasOpen x.content o.upload = subst (λ (r : Register). HasOpen r.content o.upload) changes.is at_name in
+        let opened : HasOpen x.content o.upload = subst (λ (r : Register). HasOpen r.content o.upload) m.changes.is at_name in
         elim (w.opens o.at o.upload same opened) [
           | inl before ↦ inl (inr (inr (record {
             at = o.at;
@@ -252,12 +262,12 @@ module _ (set : SetPlan) (slot last later : ℕ) (old new : Records) (state : St
           upload = o.upload;
           number = o.number;
           name_is = o.name_is;
-          opened = subst (λ (r : Register). HasOpen r.content o.upload) (changes.stays (key_name o.at) differ) o.opened;
+          opened = subst (λ (r : Register). HasOpen r.content o.upload) (m.changes.stays (key_name o.at) differ) o.opened;
         }))))
 
     -- nothing stands under the name of such a part, and no lane keeps a file of it
     part_not_applied : (upload : VersionId) → number_of_id upload ≡ x.change → Contains state.applied (number_of_id upload) → ⊥
-    part_not_applied upload number applied = w.is_new (subst (λ (c : ℕ). Contains state.applied c) number applied)
+    part_not_applied upload number applied = m.is_new (subst (λ (c : ℕ). Contains state.applied c) number applied)
 
     part_blank : (n : List ℕ) → IsNewPart n → state.registers n ≡ blank
     part_blank n p = subst (λ (m : List ℕ). state.registers m ≡ blank) (sym p.3) (elim (w.stands.lawful.parts.none_stands p.0 p.1 p.2) [
@@ -277,14 +287,14 @@ module _ (set : SetPlan) (slot last later : ℕ) (old new : Records) (state : St
     pub named_elsewhere : (n : List ℕ) (named : NamedData) → bytes_eq name n ≡ false → IsNamed made n named → IsNamed state n named
     named_elsewhere n named differ is =
         let names : NamesData n (state.registers n).content named =
-        subst (λ (r : Register). NamesData n r.content named) (changes.stays n differ) is.names in
+        subst (λ (r : Register). NamesData n r.content named) (m.changes.stays n differ) is.names in
         elim (held_back n is.held) [
           | inl held ↦ record { held = held; names = names }
           | inr part ↦ absurd (no_bytes_data n named (subst (λ (r : Register). NamesData n r.content named) (part_blank n part) names))
         ]
 
     named_here : (named : NamedData) → IsNamed made name named → NamesData name x.content named
-    named_here named is = subst (λ (r : Register). NamesData name r.content named) changes.is is.names
+    named_here named is = subst (λ (r : Register). NamesData name r.content named) m.changes.is is.names
 
     pub written_at : (n : List ℕ) (named : NamedData) → name ≡ n → IsNamed made n named → NamesData name x.content named
     written_at n named same is = named_here named (subst (λ (m : List ℕ). IsNamed made m named) (sym same) is)
@@ -299,7 +309,7 @@ module _ (set : SetPlan) (slot last later : ℕ) (old new : Records) (state : St
     coming_makes n named is = by_name name n
         (λ same. absurd (calm_at n same is.lane is.next is.there is.has is.live))
         (λ differ. elim (held_back n is.held) [
-          | inl held ↦ (differ, coming_elsewhere made n named differ (changes.stays n differ) held is)
+          | inl held ↦ (differ, coming_elsewhere made n named differ (m.changes.stays n differ) held is)
           | inr part ↦ absurd (part_next n part is.lane is.next (subst (λ (l : List Lane). Contains l is.lane) (w.under.stays n differ) is.there) is.has)
         ])
 
@@ -309,6 +319,6 @@ module _ (set : SetPlan) (slot last later : ℕ) (old new : Records) (state : St
     adds_makes n a next added held there has live adds = by_name name n
         (λ same. absurd (calm_at n same a next there has live))
         (λ differ. elim (held_back n held) [
-          | inl before ↦ adds_elsewhere made n a next added differ (changes.stays n differ) before there has live adds
+          | inl before ↦ adds_elsewhere made n a next added differ (m.changes.stays n differ) before there has live adds
           | inr part ↦ absurd (part_next n part a next (subst (λ (l : List Lane). Contains l a) (w.under.stays n differ) there) has)
         ])

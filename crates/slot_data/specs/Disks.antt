@@ -1,5 +1,7 @@
--- What the data drives of a set keep of the data of an id. A drive that is out keeps nothing that counts.
-use Rattle.std.specs.Prelude.{◌≡◌, ◌⊎◌, ℕ, ◌<◌, ◌≤◌, List, Contains, None, Some, slice_index_or, sum_by}
+-- What the data drives of a set keep of the data of an id. In the place of a drive that is out any files may stand, not only what it keeps now: with
+-- those that it kept last it is a holder still. A reader has the holders that are in: as many as a stripe has data blocks, while no more drives are out
+-- than a write takes beyond these.
+use Rattle.std.specs.Prelude.{◌≡◌, ◌⊎◌, ℕ, ◌<◌, ◌≤◌, List, [], ◌∷◌, Contains, None, Some, slice_index_or, sum_by}
 use Rattle.std.specs.Int.{IsBitSet}
 use Rattle.stamp_id.specs.declared.version.VersionId.{VersionId}
 use Rattle.call_types.specs.declared.names.Key.{Key}
@@ -37,6 +39,10 @@ pub record HasPart (m : Manifest) (id : VersionId) : Type 0 where
   pub there : Contains m.parts part
   pub id_is : part.id ≡ id
 
+-- a manifest has one part alone, which has this id
+abbrev pub IsSingle : Manifest → VersionId → Type 0
+IsSingle m id = (part : ManifestPart) × (m.parts ≡ part ∷ []) × (part.id ≡ id)
+
 -- a part of a body: some drive keeps a manifest of the whole that has a part of this id. The data of a single PUT is its own part
 pub record IsPieceOf (set : SetPlan) (disks : Disks) (whole id : VersionId) : Type 0 where
   pub manifest : Manifest
@@ -60,8 +66,8 @@ pub record IsPartName (name : List ℕ) : Type 0 where
   pub number : ℕ
   pub is : name ≡ part_name at upload number
 
--- What drives keep under the ids of a slot is in order: all ids were drawn, those of parts too; the parts of a body are of its slot; and a part that is
--- a body of its own is for a part of the key that the whole is for
+-- What drives keep under the ids of a slot is in order: all ids were drawn, those of parts too; the parts of a body are of its slot; a part that is a
+-- body of its own is for a part of the key that the whole is for; and what is for a part has its own data alone
 pub record AreInOrder (set : SetPlan) (slot last : ℕ) (disks : Disks) : Type 0 where
   pub manifests : (k : ℕ) (id : VersionId) (bytes : List ℕ) → k < set.drives → id.slot ≡ slot → kept_on disks k (manifest_name id) ≡ Some bytes
       → number_of_id id ≤ last
@@ -71,6 +77,7 @@ pub record AreInOrder (set : SetPlan) (slot last : ℕ) (disks : Disks) : Type 0
   pub of_slot : (whole id : VersionId) → whole.slot ≡ slot → IsPieceOf set disks whole id → id.slot ≡ slot
   pub joined : (whole id : VersionId) (m n : Manifest) → whole.slot ≡ slot → Keeps set disks whole m → HasPart m id → Keeps set disks id n
       → (id ≡ whole) ⊎ (IsForKeyOf m.name n.name × IsPartName n.name)
+  pub single : (id : VersionId) (m : Manifest) → id.slot ≡ slot → Keeps set disks id m → IsPartName m.name → IsSingle m id
 
 -- at least so many drives of a set do so
 pub record AtLeast (set : SetPlan) (count : ℕ) (does : ℕ → Type 0) : Type 0 where
@@ -95,3 +102,11 @@ pub record HasHolders (set : SetPlan) (disks : Disks) (named : NamedData) (name 
   pub alike : (k : ℕ) (bytes : List ℕ) → k < set.drives → kept_on disks k (manifest_name named.id) ≡ Some bytes → bytes ≡ file_of manifest
   pub parts : (part : ManifestPart) → Contains manifest.parts part
       → AtLeast set (write_drives set.drives set.parity) (λ k. HoldsPart set.drives (data_drives set.drives set.parity) part k (kept_on disks k))
+
+-- the data of an id has its holders, for the key of this name or a part of it
+pub record HasHoldersFor (set : SetPlan) (disks : Disks) (name : List ℕ) (id : VersionId) : Type 0 where
+  pub named : NamedData
+  pub register : List ℕ
+  pub id_is : named.id ≡ id
+  pub key : IsForKeyOf name register
+  pub holders : HasHolders set disks named register

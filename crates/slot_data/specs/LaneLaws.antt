@@ -13,7 +13,7 @@ use Rattle.slot_history.specs.Laws.{IsMade, with_waiting}
 use Rattle.slot_history.specs.Names.{key_name}
 use Rattle.slot_history.specs.Sections.{IsOnItsWay}
 use Rattle.slot_history.specs.Standing.{Flying, Records}
-use Rattle.slot_history.specs.State.{IsNew, State, Waiting}
+use Rattle.slot_history.specs.State.{IsHeld, IsNew, State, Waiting}
 use Rattle.slot_history.specs.Waiting.{IsLate}
 use Rattle.register_caller.specs.Leaving.{LeavesLanes, Written}
 use Rattle.slot_history.specs.Writing.{WritesUnder}
@@ -50,6 +50,17 @@ OwnMakesData = (set : SetPlan) (slot last later : ℕ) (old new : Records) (stat
 abbrev pub GoneIdsAreGone : Type 0
 GoneIdsAreGone = (at : Key) (old new : List ℕ) (before after : KeyState) (id : VersionId) → SpellsKey old before → SpellsKey new after
     → Contains (gone_ids before.versions after.versions) id → IsGone (key_name at) old new id
+
+-- the change of the value was written again: the data goes on to stand
+abbrev pub ValueStaysData : Type 0
+ValueStaysData = (set : SetPlan) (slot last later : ℕ) (old new : Records) (state : State) (holding : Holding) (disks : Disks) (hands : Hands)
+    (name : List ℕ) (x : Written) (after : List Lane) (now : ℕ) (shows : List ℕ)
+    → last ≤ later → LanesStand set last holding old state → IsHeld state.registers name
+    → x.change ≡ (state.registers name).change → x.content ≡ (state.registers name).content
+    → LeavesLanes (write_drives set.drives set.parity) later x (old name) (state.registers name).change (state.registers name).content after now shows
+    → WritesUnder name after old new
+    → DataStands set slot last old state holding disks hands
+    → DataStands set slot later new state holding disks hands
 
 -- a change that is on its way was written again: the data goes on to stand where the state stays, and after the late step
 abbrev pub AgainStaysData : Type 0

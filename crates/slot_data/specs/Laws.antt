@@ -17,7 +17,20 @@ abbrev pub FreshDataStands : Type 0
 FreshDataStands = (set : SetPlan) (slot last : ℕ) (disks : Disks) → AreInOrder set slot last disks
     → DataStands set slot last (λ name. replicate set.drives blank_lane) no_state no_holding disks no_hands
 
--- it goes on to stand while numbers are drawn
+-- it goes on to stand when a life ends: then nothing is under way
+abbrev pub LifeEnds : Type 0
+LifeEnds = (set : SetPlan) (slot last : ℕ) (records : Records) (state : State) (holding : Holding) (disks : Disks) (hands : Hands)
+    → DataStands set slot last records state holding disks hands
+    → DataStands set slot last records state no_holding disks no_hands
+
+-- it stands for each set of as many drives and as much parity, whichever drives are out: a life may begin with others out than the one before
+abbrev pub OutMayChange : Type 0
+OutMayChange = (set other : SetPlan) (slot last : ℕ) (records : Records) (state : State) (holding : Holding) (disks : Disks) (hands : Hands)
+    → other.drives ≡ set.drives → other.parity ≡ set.parity
+    → DataStands set slot last records state holding disks hands
+    → DataStands other slot last records state holding disks hands
+
+-- while numbers are drawn
 abbrev pub NumbersAreDrawn : Type 0
 NumbersAreDrawn = (set : SetPlan) (slot last later : ℕ) (records : Records) (state : State) (holding : Holding) (disks : Disks) (hands : Hands)
     → last ≤ later → DataStands set slot last records state holding disks hands → DataStands set slot later records state holding disks hands

@@ -1,4 +1,5 @@
 pub mod Bringing
+pub mod DiskLaws
 pub mod Disks
 pub mod Holding
 pub mod LaneLaws

@@ -1,4 +1,4 @@
--- When the data of a slot stands: live data keeps its holders, and nothing that is to be removed is live.
+-- When the data of a slot stands: what is named, coming or pinned has its holders, and nothing that is to be removed is live.
 use Rattle.std.specs.Prelude.{◌≡◌, ◌⊎◌, ℕ, ◌≤◌, List, map, Contains, Some}
 use Rattle.stamp_id.specs.VersionId.{id_bytes}
 use Rattle.stamp_id.specs.declared.version.VersionId.{VersionId}
@@ -12,7 +12,7 @@ use Rattle.slot_history.specs.Contents.{NamedData, NamesData, NamesId, number_of
 use Rattle.slot_history.specs.Names.{key_name}
 use Rattle.slot_history.specs.Standing.{Flying, Records}
 use Rattle.slot_history.specs.State.{IsHeld, State}
-use Rattle.slot_data.specs.Disks.{AreInOrder, Disks, HasHolders, IsForKeyOf, IsPieceOf, Keeps}
+use Rattle.slot_data.specs.Disks.{AreInOrder, Disks, HasHolders, HasHoldersFor, IsForKeyOf, IsPieceOf, Keeps}
 use Rattle.slot_data.specs.Holding.{Hands, Holding, IsInFlight, IsPinned, IsPinnedFor, Known, Pinned}
 use Rattle.slot_data.specs.Holding.Purpose.{ForComplete}
 use Rattle.slot_data.specs.Live.{IsComing, IsHeldData, IsLiveData, IsNamed}
@@ -65,13 +65,14 @@ pub record FlightsStand (set : SetPlan) (slot : ℕ) (records : Records) (holdin
   pub gathered : (f : Flying) (id : VersionId) → Contains holding.flights f → IsPieceOf set disks f.id id → (id ≡ f.id) ⊎ IsPinnedFor ForComplete holding.pins id
   pub named : (f : Flying) (m : Manifest) → Contains holding.flights f → Keeps set disks f.id m → IsForKeyOf f.name m.name
 
--- pins differ by their tickets; their ids are of the slot and were drawn, and their manifests are for the key that the pin names; and the ids of a
--- Complete's pin are of no whole body
+-- pins differ by their tickets; their ids are of the slot and were drawn; what they name has its holders, and manifests for the key that the pin names;
+-- and the ids of a Complete's pin are of no whole body
 pub record PinsStand (set : SetPlan) (slot last : ℕ) (records : Records) (pins : List Pinned) (disks : Disks) : Type 0 where
   pub differ : AreDistinct (map (λ (p : Pinned). p.ticket) pins)
   pub of_slot : (id : VersionId) → IsPinned pins id → id.slot ≡ slot
   pub drawn : (id : VersionId) → IsPinned pins id → number_of_id id ≤ last
   pub named : (p : Pinned) (id : VersionId) (m : Manifest) → Contains pins p → Contains p.ids id → Keeps set disks id m → IsForKeyOf p.name m.name
+  pub held : (p : Pinned) (id : VersionId) → Contains pins p → Contains p.ids id → HasHoldersFor set disks p.name id
   pub parts : (id : VersionId) → IsPinnedFor ForComplete pins id → IsWhole records id → ⊥
 
 -- what is trash isn't held, and is no part of what is pinned but of itself; its ids are of the slot and were drawn

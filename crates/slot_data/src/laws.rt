@@ -1,15 +1,21 @@
 //! The laws of a slot's data.
 
-ghost use Rattle.slot_data.specs.Laws.{FreshDataStands, NumbersAreDrawn};
+ghost use Rattle.slot_data.specs.Laws.{FreshDataStands, LifeEnds, NumbersAreDrawn, OutMayChange};
 ghost use Rattle.slot_data.specs.Laws.{PutBegins, PutIsGivenUp};
 ghost use Rattle.slot_data.specs.Laws.{PinBegins, PinEnds};
 ghost use Rattle.slot_data.specs.Laws.{TrashIsTaken, DeadIsTaken, HoldersAreKnown, HandsAreFreed};
-ghost use Rattle.slot_data.specs.LaneLaws.{OwnWaitsData, OwnMakesData, GoneIdsAreGone, AgainStaysData, AgainIsLateData};
+ghost use Rattle.slot_data.specs.LaneLaws.{OwnWaitsData, OwnMakesData, GoneIdsAreGone, AgainStaysData, AgainIsLateData, ValueStaysData};
 
-/// The data stands of a slot in which nothing was done, and goes on to stand while numbers are drawn.
+/// The data stands of a slot in which nothing was done, and goes on to stand when a life ends, and while numbers are drawn.
 pub fn fresh_data_law()
     ensures fresh { FreshDataStands }
+    ensures ends { LifeEnds }
     ensures drawn { NumbersAreDrawn }
+{}
+
+/// It stands whichever drives are out.
+pub fn out_law()
+    ensures { OutMayChange }
 {}
 
 /// It stands while puts begin and are given up.
@@ -39,8 +45,9 @@ pub fn own_data_laws()
     ensures gone { GoneIdsAreGone }
 {}
 
-/// It stands once a change that is on its way was written again.
+/// It stands once a change that is on its way, or that of the value, was written again.
 pub fn again_data_laws()
     ensures stays { AgainStaysData }
     ensures late { AgainIsLateData }
+    ensures value { ValueStaysData }
 {}

@@ -85,7 +85,6 @@ module _ (s : Setting) (p : Waiting) (way : IsOnItsWay s.old s.state p) (again :
     ids = λ id names. again_spent (number_of_id id) (again_lawful_under.ids way.lane s.x.change s.x.content id way.there again_record names);
     brings = again_brings;
     opens = again_opens;
-    unapplied = λ done. again.stands.lawful.once p way.waits.there (subst (λ c. Contains s.state.applied c) again.change_is done);
     parts = λ at upload number is. again.stands.lawful.parts.none_waits at upload number p way.waits.there (sym again.name_is ∙ is);
   }
 
@@ -122,9 +121,7 @@ module _ (s : Setting) (p : Waiting) (way : IsOnItsWay s.old s.state p) (again :
         content_is = sym again.content_is;
       } in
       let stays : Stayed s s.state.pending = record {
-        own = p;
-        there = way.waits.there;
-        itself = itself;
+        waits = λ a next live written. (p, way.waits.there, itself);
         kept = λ q h. h;
         before = λ q h. inl h;
         lawful = again.stands.lawful;
@@ -173,6 +170,7 @@ module _ (s : Setting) (p : Waiting) (way : IsOnItsWay s.old s.state p) (again :
       | inr there ↦ inr there
     ];
     before = λ q h. taken_before p s.state.pending again_rest is_late.waits q h;
+    unapplied = λ done. again.stands.lawful.once p way.waits.there (subst (λ c. Contains s.state.applied c) again.change_is done);
     applied = refl;
     lawful = late_lawful p s.state late_state again.stands.lawful is_late;
     now_is = now_is;

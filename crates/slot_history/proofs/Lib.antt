@@ -12,4 +12,5 @@ pub mod StandLemmas
 pub mod StayLemmas
 pub mod StepLemmas
 pub mod TakenLemmas
+pub mod ValueLemmas
 pub mod WroteLemmas

@@ -30,6 +30,7 @@ pub record Moved (s : Setting) (moved : State) : Type 0 where
   pub changes : Changes s.name (made s) s.state.registers moved.registers
   pub kept : (q : Waiting) → Contains s.state.pending q → (q.name ≡ s.name) ⊎ Contains moved.pending q
   pub before : (q : Waiting) → Contains moved.pending q → Contains s.state.pending q
+  pub unapplied : Contains s.state.applied s.x.change → ⊥
   pub applied : moved.applied ≡ s.x.change ∷ s.state.applied
   pub lawful : IsLawful moved
   pub now_is : s.now ≡ s.x.change
@@ -67,7 +68,7 @@ held_before s wrote moved moves name held = elim held [
             })))
             | inr number ↦
                 let never : Contains s.state.applied (number_of_id part.upload) → ⊥ =
-                λ done. wrote.unapplied (subst (λ c. Contains s.state.applied c) number done) in
+                λ done. moves.unapplied (subst (λ c. Contains s.state.applied c) number done) in
                 inr (
                   subst (λ n. AreBlank (s.old n)) (sym part.name_is) (elim (wrote.stands.uploads part.at part.upload part.number) [
                     | inl none ↦ none

@@ -4,11 +4,11 @@ use Rattle.vote_core.specs.Lane.{HasNext, Lane, Next}
 use Rattle.vote_core.specs.Laws.{DrawingKeeps, FreshIsCalm}
 use Rattle.vote_core.specs.Sound.{IsLive}
 use Rattle.slot_history.specs.Committing.{MayCommit}
-use Rattle.slot_history.specs.Laws.{IsMade, MadeIsLate, OnlyTheOld, OnlyTheOldOr, OwnStands, with_waiting}
+use Rattle.slot_history.specs.Laws.{IsMade, MadeIsLate, OnlyTheOld, OnlyTheOldOr, OwnIsFresh, OwnStands, with_waiting}
 use Rattle.slot_history.specs.Standing.{Flying, IsSpent, Stands}
 use Rattle.slot_history.specs.State.{IsNew, State, Waiting}
 use Rattle.slot_history.specs.Waiting.{IsLawful, OpensItsOwn}
-use Rattle.register_caller.specs.Leaving.{IsWritten, LeavesLanes, WasLive}
+use Rattle.register_caller.specs.Leaving.{IsWritten, LeavesLanes, WasLive, Written}
 use Rattle.slot_history.specs.Writing.{WritesUnder}
 use Rattle.slot_history.proofs.LawfulLemmas.{late_lawful}
 use Rattle.slot_history.proofs.MemberLemmas.{all_images, cons_cases, head_there, tail_there}
@@ -40,12 +40,27 @@ record Commits (s : Setting) : Type 0 where
   left : LeavesLanes s.w s.later s.x (s.old s.name) (stood s).change (stood s).content s.after s.now s.shows
   writes : WritesUnder s.name s.after s.old s.new
 
--- its number was not spent
-own_unspent : (s : Setting) → Commits s → (c : ℕ) → IsSpent s.last s.flights c → c ≡ s.x.change → ⊥
-own_unspent s commits c spent same = elim commits.may.number [
+-- the number of a change that may be written was not spent
+unspent : (last later : ℕ) (flights rest : List Flying) (state : State) (name : List ℕ) (x : Written) → MayCommit last later flights rest state name x
+    → (c : ℕ) → IsSpent last flights c → c ≡ x.change → ⊥
+unspent last later flights rest state name x may c spent same = elim may.number [
   | inl ends ↦ spent.landed ends.flight ends.listed (ends.number_is ∙ sym same)
   | inr drawn ↦ let low = spent.drawn in let above = drawn.0 in omega arith
 ]
+
+-- so no record carries it
+pub own_is_fresh : OwnIsFresh
+own_is_fresh w drives last later flights rest old state name x stands may = record {
+  bases = λ a there same.
+      unspent last later flights rest state name x may a.base.change
+      ((stands.lawful_under name).changes a a.base.change a.base.content there (inl (refl, refl))) same;
+  nexts = λ a next there has same.
+      unspent last later flights rest state name x may next.change
+      ((stands.lawful_under name).changes a next.change next.content there (inr (next, has, refl, refl))) same;
+}
+
+own_unspent : (s : Setting) → Commits s → (c : ℕ) → IsSpent s.last s.flights c → c ≡ s.x.change → ⊥
+own_unspent s commits = unspent s.last s.later s.flights s.rest s.state s.name s.x commits.may
 
 own_new : (s : Setting) → Commits s → IsNew s.x.change s.state
 own_new s commits = record {
@@ -90,7 +105,6 @@ own_wrote s commits = record {
   ids = commits.may.ids;
   brings = commits.may.brings;
   opens = commits.may.opens;
-  unapplied = (own_new s commits).not_applied;
   parts = λ at upload number is. commits.stands.lawful.opened at upload (commits.may.part at upload number is);
 }
 
@@ -142,9 +156,7 @@ own_stays drawing s commits now_is shows_is lives =
     let itself : IsItself s (own_waiting s) = record { change_is = refl; name_is = refl; parent_is = refl; content_is = refl } in
     let pending : List Waiting = own_waiting s ∷ s.state.pending in
     let stays : Stayed s pending = record {
-      own = own_waiting s;
-      there = head_there (own_waiting s) s.state.pending;
-      itself = itself;
+      waits = λ a next live written. (own_waiting s, head_there (own_waiting s) s.state.pending, itself);
       kept = λ q h. tail_there (own_waiting s) s.state.pending q h;
       before = λ q h. elim (cons_cases (own_waiting s) s.state.pending q h) [
         | inl own ↦ inr (subst (λ (v : Waiting). IsItself s v) own itself)
@@ -180,6 +192,7 @@ own_moves drawing fresh s commits now_is shows_is none =
       changes = put_changes s.name (made s) s.state.registers;
       kept = λ q h. inr h;
       before = λ q h. h;
+      unapplied = (own_new s commits).not_applied;
       applied = refl;
       lawful = late_lawful late.0 (with_waiting s.state s.name s.x) (made_state s) (waiting_lawful s commits) late.2;
       now_is = now_is;

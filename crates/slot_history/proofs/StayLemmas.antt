@@ -23,11 +23,9 @@ pub record IsItself (s : Setting) (q : Waiting) : Type 0 where
 abbrev pub stayed : Setting → List Waiting → State
 stayed s pending = record { registers = s.state.registers; pending = pending; applied = s.state.applied }
 
--- the value stays, and what was written waits
+-- the value stays, and what was written waits where it may become the value
 pub record Stayed (s : Setting) (pending : List Waiting) : Type 0 where
-  pub own : Waiting
-  pub there : Contains pending own
-  pub itself : IsItself s own
+  pub waits : (a : Lane) (next : Next) → IsLive s.after s.now a next → IsWritten s.x next → (own : Waiting) × Contains pending own × IsItself s own
   pub kept : (q : Waiting) → Contains s.state.pending q → Contains pending q
   pub before : (q : Waiting) → Contains pending q → Contains s.state.pending q ⊎ IsItself s q
   pub lawful : IsLawful (stayed s pending)
@@ -61,16 +59,18 @@ under_stayed s wrote pending stays =
                 content_is = one.content_is ∙ sym before.content_is;
               },
             )
-        | inr written ↦ (
-          stays.own,
-          record {
-            there = stays.there;
-            change_is = stays.itself.change_is ∙ sym written.change_is;
-            name_is = stays.itself.name_is;
-            parent_is = stays.itself.parent_is ∙ sym live.parent;
-            content_is = stays.itself.content_is ∙ sym written.content_is;
-          },
-        )
+        | inr written ↦
+            let own = stays.waits a next (subst (λ c. IsLive s.after c a next) (sym stays.now_is) live) written in
+            let itself : IsItself s own.0 = own.2 in (
+              own.0,
+              record {
+                there = own.1;
+                change_is = itself.change_is ∙ sym written.change_is;
+                name_is = itself.name_is;
+                parent_is = itself.parent_is ∙ sym live.parent;
+                content_is = itself.content_is ∙ sym written.content_is;
+              },
+            )
       ];
       brings = λ a next there has live named names. elim (stayed_lives s pending stays a next there has live) [
         | inl before ↦ elim (was.brings before.lane before.found before.there before.has before.live named

@@ -55,7 +55,6 @@ pub record Wrote (s : Setting) : Type 0 where
   pub brings : (named : NamedData) → NamesData s.name s.x.content named → NamesData s.name (stood s).content named ⊎ IsAdded s.x.adds named
   pub opens : (at : Key) (upload : VersionId) → s.name ≡ key_name at → HasOpen s.x.content upload
       → HasOpen (stood s).content upload ⊎ (number_of_id upload ≡ s.x.change)
-  pub unapplied : Contains s.state.applied s.x.change → ⊥
   pub parts : (at : Key) (upload : VersionId) (number : ℕ) → s.name ≡ part_name at upload number → Contains s.state.applied (number_of_id upload)
 
 -- the lanes under each name are those that the write left, or as before

@@ -1,5 +1,5 @@
 -- What the content of a register means, by its name: the state of a key, the record of a bucket or that of a part; and what it names.
-use Rattle.std.specs.Prelude.{◌≡◌, ◌⊎◌, ℕ, Bool, true, false, List, [], ◌∷◌, Option, Some, None, Contains}
+use Rattle.std.specs.Prelude.{◌≡◌, ◌⊎◌, ℕ, true, List, [], Option, Some, Contains}
 use Rattle.stamp_id.specs.Rank.{change_of}
 use Rattle.stamp_id.specs.declared.version.VersionId.{VersionId}
 use Rattle.call_types.specs.declared.names.Key.{Key}

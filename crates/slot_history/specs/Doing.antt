@@ -1,5 +1,5 @@
 -- What a call does to the content of a register, and what it is replied, as S3 has it for keys, buckets and parts.
-use Rattle.std.specs.Prelude.{◌≡◌, ℕ, true, false, List, map, All, Option, Some, None, Result, Ok, Err, slice_get}
+use Rattle.std.specs.Prelude.{◌≡◌, ℕ, true, false, List, map, All, Option, Some, Result, Ok, Err, slice_get}
 use Rattle.stamp_id.specs.declared.version.VersionId.{VersionId}
 use Rattle.call_types.specs.Refusals.{refusal_of}
 use Rattle.call_types.specs.declared.act.Act.{Act}

@@ -10,8 +10,8 @@ use Rattle.audit_trail.specs.declared.entry.Deed.{Deed}
 use Rattle.audit_trail.specs.declared.entry.Deed.TheVariants.{Done, Refused, Kept, Opened}
 use Rattle.audit_trail.specs.declared.entry.Entry.{Entry}
 use Rattle.slot_history.specs.Doing.{Does}
-use Rattle.slot_history.specs.State.{Changes, IsNew, Register, Registers, State, Waiting}
-use Rattle.slot_history.specs.Waiting.{IsLate, Lates}
+use Rattle.slot_history.specs.State.{Changes, IsNew, Register, State, Waiting}
+use Rattle.slot_history.specs.Waiting.{Lates}
 
 -- the change that a call drew, where it drew one
 abbrev pub drawn_by : Brief → Option ChangeId

@@ -8,14 +8,15 @@
 //!
 //! The crate is definitions and their laws, over lists of records, and makes the names of registers: no drive is called here. Each law is the
 //! contract of a function that does nothing. It promises that a run leads from lawful states to lawful ones, in which each change was applied once,
-//! and that lanes go on to stand for the state through every write of one register, whether it succeeds, fails or waits. It stands on `vote_core` for lanes, on `version_list`, `bucket_book` and `upload_book` for contents and the steps on them, and on
-//! `audit_trail` for entries.
+//! and that lanes go on to stand for the state through each write of a change to one register, whether it succeeds, fails or waits: a change of one's
+//! own, which no record carries before, one that is on its way, or that of the value itself. It stands on `vote_core` for lanes, on `version_list`,
+//! `bucket_book` and `upload_book` for contents and the steps on them, and on `audit_trail` for entries.
 #![tactic(auto)]
 
 mod laws;
 mod names;
 
-pub use laws::{fresh_law, name_laws, own_laws, pending_law, resting_laws, run_laws};
+pub use laws::{fresh_law, name_laws, own_laws, pending_law, resting_laws, run_laws, value_law};
 pub use names::{SLOTS, bucket_name, bucket_slot, key_name, key_slot, part_name};
 
 #[cfg(test)]

@@ -1,5 +1,4 @@
 use Rattle.slot_data.proofs.HandsLemmas.{dead_is_taken, hands_are_freed, holders_are_known, trash_is_taken}
-use Rattle.slot_data.proofs.NamingLemmas.{record_drawn}
 use Rattle.slot_data.proofs.laws.hands_laws.Goals as goal
 
 pub returns-clause-trash : goal.returns-clause-trash
