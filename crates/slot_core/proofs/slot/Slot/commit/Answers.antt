@@ -1,0 +1,114 @@
+use Rattle.std.proofs.Common.{◌≡◌, ◌+◌, ◌∙◌, List, map, ap, subst, sym, refl}
+use Rattle.std.proofs.lemmas.List.{with_items_is}
+use Rattle.std.specs.Vec.{with_items}
+use Rattle.stamp_id.specs.declared.version.VersionId.{VersionId}
+use Rattle.register_core.specs.Loops.{CountsRise, TellsStay}
+use Rattle.slot_history.specs.Standing.{Flying}
+use Rattle.slot_data.specs.Rows.{flying_of}
+use Rattle.slot_core.specs.Carrying.{kept_with}
+use Rattle.slot_core.specs.Committing.{MayCommitData, ShowsTrash}
+use Rattle.slot_core.specs.Landing.{flight_put, handed, put_of}
+use Rattle.slot_core.specs.Settling.{numbers_at}
+use Rattle.slot_core.specs.Stubs.{entry_of}
+use Rattle.slot_core.specs.Views.{holding_of, numbers_of}
+use Rattle.slot_core.specs.declared.fault.SlotFault.TheVariants.{SeqSpent}
+use Rattle.slot_core.specs.declared.site.Drawn.{Drawn}
+use Rattle.slot_core.specs.declared.site.Site.{Site}
+use Rattle.slot_core.proofs.CommitLemmas.{lost_leaves}
+use Rattle.slot_core.proofs.LandLemmas.{LandLaws}
+use Rattle.slot_core.proofs.PeekLemmas.{leaves_turned}
+use Rattle.slot_core.proofs.SlotCommitLemmas.{checks_flight, checks_spent, commit_holds, commit_holds_none, commit_turned, fits_landing, handed_flight, lands_row}
+use Rattle.slot_core.proofs.slot.Slot.commit.Goals as goal
+
+pub returns-then-is_spent-clause-holds : goal.returns-then-is_spent-clause-holds
+returns-then-is_spent-clause-holds g c =
+    let self = c.args.self.now in
+    commit_holds_none c.args.flight c.land-landing.result self.flights.items c.land-landing.new.flights.items SeqSpent c.spent_turn.result.answer (holding_of self) _ refl
+    c.land-landing.ensures.lands c.spent_turn.ensures.answer refl
+
+pub returns-then-is_spent-clause-checks : goal.returns-then-is_spent-clause-checks
+returns-then-is_spent-clause-checks g c = checks_spent c.args.flight (holding_of c.args.self.now) c.spent_turn.result.answer c.spent_turn.ensures.answer
+
+pub returns-then-is_spent-clause-leaves : goal.returns-then-is_spent-clause-leaves
+returns-then-is_spent-clause-leaves g c fits =
+    let T : Type 0 = g.row.D.Denot in
+    let D = g.D.Drive in
+    let self = c.args.self.now in
+    let site : Site = record { set = self.set; index = self.index; term = self.term; turns = self.turns } in
+    let drawn : Drawn = record { seq = self.seq; count = self.count } in
+    let deed = c.args.deed.now in
+    let trash : List VersionId = self.trash.items in
+    let rest : List Flying = map flying_of c.land-landing.new.flights.items in
+    let turn = c.spent_turn.result in
+    let laws : LandLaws = record { ends = c.resting_laws.ensures.end; given_up = c.flight_laws.ensures.given_up; trash = c.hands_laws.ensures.trash; freed = c.hands_laws.ensures.freed } in
+    let lands = lands_row c.args.flight c.land-landing.result self.flights.items c.land-landing.new.flights.items self.flights_differ c.land-landing.ensures.lands in
+    leaves_turned {D = T} D.tells D.files (numbers_of self) (numbers_at site drawn) (self.turns + 1) (holding_of self) (kept_with (holding_of self) rest trash) self.lanes.items self.lanes.items
+    self.lanes.items self.lanes.items turn.stub (ShowsTrash deed turn.answer trash trash) (MayCommitData deed (kept_with (holding_of self) rest trash)) refl refl
+    (lost_leaves {D = T} D.tells D.files D.count laws site drawn deed (put_of c.land-landing.result) trash trash self.lanes.items turn.stub (ShowsTrash deed turn.answer trash trash)
+    (holding_of self) rest (ap entry_of c.spent_turn.ensures.stub_is ∙ c.spent_turn.ensures.no_entry) lands refl refl)
+
+pub returns-clause-holds : goal.returns-clause-holds
+returns-clause-holds g c =
+    let self = c.args.self.now in
+    let gone = c.commit_landed-turn.ensures.gone in
+    commit_holds c.args.flight c.land-landing.result self.flights.items c.land-landing.new.flights.items c.commit_landed-turn.result.answer (holding_of self) _ gone.0
+    c.commit_landed-turn.new.trash.items refl c.land-landing.ensures.lands gone.2 gone.1 refl
+
+pub returns-clause-checks : goal.returns-clause-checks
+returns-clause-checks g c =
+    let self = c.args.self.now in
+    checks_flight c.args.flight c.land-landing.result self.flights.items c.land-landing.new.flights.items (holding_of self) c.commit_landed-turn.result.answer refl
+    c.land-landing.ensures.lands c.commit_landed-turn.ensures.checks
+
+pub returns-clause-leaves : goal.returns-clause-leaves
+returns-clause-leaves g c fits =
+    let T : Type 0 = g.row.D.Denot in
+    let D = g.D.Drive in
+    let self = c.args.self.now in
+    let site : Site = record { set = self.set; index = self.index; term = self.term; turns = self.turns } in
+    let deed = c.args.deed.now in
+    let lanes : List T = c.commit_landed-turn.new.lanes in
+    let is : lanes ≡ (with_items self.lanes lanes).items = sym (with_items_is self.lanes lanes (c.commit_landed-turn.auto.lanes ∙ c.as_mut_slice.ensures.len)) in
+    let turn = c.commit_landed-turn.result in
+    let trash : List VersionId = c.commit_landed-turn.new.trash.items in
+    let rows = c.land-landing.new.flights.items in
+    let rest : List Flying = map flying_of rows in
+    let row = c.land-landing.ensures.lands in
+    leaves_turned {D = T} D.tells D.files (numbers_of self) (numbers_at site c.commit_landed-turn.new.drawn) (self.turns + 1) (holding_of self) (kept_with (holding_of self) rest trash)
+    self.lanes.items c.as_mut_slice.result.now (with_items self.lanes lanes).items lanes turn.stub (ShowsTrash deed turn.answer self.trash.items trash)
+    (MayCommitData deed (kept_with (holding_of self) rest trash)) c.as_mut_slice.ensures.value is
+    (c.commit_landed-turn.ensures.leaves (holding_of self) rest (lands_row c.args.flight c.land-landing.result self.flights.items rows self.flights_differ row)
+    (fits_landing deed c.args.flight c.land-landing.result self.flights.items rows fits row) refl)
+
+pub returns-clause-cause : goal.returns-clause-cause
+returns-clause-cause g c =
+    let T : Type 0 = g.row.D.Denot in
+    let D = g.D.Drive in
+    let self = c.args.self.now in
+    let site : Site = record { set = self.set; index = self.index; term = self.term; turns = self.turns } in
+    let lanes : List T = c.commit_landed-turn.new.lanes in
+    let is : lanes ≡ (with_items self.lanes lanes).items = sym (with_items_is self.lanes lanes (c.commit_landed-turn.auto.lanes ∙ c.as_mut_slice.ensures.len)) in
+    commit_turned {D = T} D.tells D.files D.count (numbers_of self) (numbers_at site c.commit_landed-turn.new.drawn) (self.turns + 1) c.args.deed.now (flight_put c.args.flight)
+    (handed c.land-landing.result) c.args.now c.commit_landed-turn.result.answer self.lanes.items c.as_mut_slice.result.now (with_items self.lanes lanes).items lanes c.args.disks.now
+    c.commit_landed-turn.new.disks (handed_flight c.args.flight c.land-landing.result self.flights.items c.land-landing.new.flights.items c.land-landing.ensures.lands)
+    c.as_mut_slice.ensures.value is c.commit_landed-turn.ensures.cause
+
+pub returns-clause-tells : goal.returns-clause-tells
+returns-clause-tells g c =
+    let T : Type 0 = g.row.D.Denot in
+    let D = g.D.Drive in
+    let self = c.args.self.now in
+    let lanes : List T = c.commit_landed-turn.new.lanes in
+    let is : lanes ≡ (with_items self.lanes lanes).items = sym (with_items_is self.lanes lanes (c.commit_landed-turn.auto.lanes ∙ c.as_mut_slice.ensures.len)) in
+    subst (λ (l : List T). TellsStay {D = T} D.tells D.files D.count self.lanes.items l) is
+    (subst (λ (l : List T). TellsStay {D = T} D.tells D.files D.count l lanes) c.as_mut_slice.ensures.value c.commit_landed-turn.ensures.tells)
+
+pub returns-clause-counts : goal.returns-clause-counts
+returns-clause-counts g c =
+    let T : Type 0 = g.row.D.Denot in
+    let D = g.D.Drive in
+    let self = c.args.self.now in
+    let lanes : List T = c.commit_landed-turn.new.lanes in
+    let is : lanes ≡ (with_items self.lanes lanes).items = sym (with_items_is self.lanes lanes (c.commit_landed-turn.auto.lanes ∙ c.as_mut_slice.ensures.len)) in
+    subst (λ (l : List T). CountsRise {D = T} D.tells D.files D.count self.lanes.items l) is
+    (subst (λ (l : List T). CountsRise {D = T} D.tells D.files D.count l lanes) c.as_mut_slice.ensures.value c.commit_landed-turn.ensures.counts)

@@ -1,0 +1,295 @@
+//! A read of a key, apart from the slot that has it.
+
+ghost use Rattle.std.specs.Prelude.{◌≡◌, ◌+◌, ◌*◌, ◌<◌, ◌≤◌, ◌^◌, IfOk, IsUtf8, OnOk, length, string_bytes, vec_capacity, vec_len};
+ghost use Rattle.register_core.specs.Loops.{CountsRise, TellsStay};
+ghost use Rattle.register_caller.specs.Steps.{FilesStay};
+ghost use Rattle.audit_trail.specs.Entries.{with_entry};
+ghost use Rattle.slot_data.specs.Holding.{Holding};
+ghost use Rattle.slot_history.specs.Names.{key_name};
+ghost use Rattle.slot_history.specs.Standing.{Records};
+ghost use Rattle.slot_history.specs.State.{State};
+ghost use Rattle.slot_core.specs.Hands.{HandsStay};
+ghost use Rattle.slot_core.specs.Looked.{FirstFits};
+ghost use Rattle.slot_core.specs.Peeking.{GivesBy, GivesOver, TurnsAt};
+ghost use Rattle.slot_core.specs.Pen.{IsKeptOf, has_late};
+ghost use Rattle.slot_core.specs.Reading.{BeginsPlan, FinishesPlan, IsNewTicket, KnownRead, LooksForRead, PinIsListed, PlansRead, ReadCause, ReadGave, entries_of};
+ghost use Rattle.slot_core.specs.Sections.{ReadHolds, SaysRead, ShowsNoMore};
+ghost use Rattle.slot_core.specs.Settling.{numbers_at};
+ghost use Rattle.slot_core.specs.Standing.{SlotStands};
+ghost use Rattle.slot_core.specs.Stubs.{Says, completed_by};
+ghost use Rattle.slot_core.specs.Turning.{Leaves};
+
+use crate::fault::SlotFault;
+use crate::looked::{Ready, forward, look_at};
+use crate::numbers::{LAST_COUNT, LAST_SEQ};
+use crate::peeking::{Peeked, refusal};
+use crate::pen::{
+    Entries, Unreserved, audit_failed, kept_entries, no_memory, refuse, reserve, write_down,
+};
+use crate::reading::{ReadPlan, ReadStart, plan_read};
+use crate::rules::KeyRule;
+use crate::site::{Drawn, Site};
+use crate::stub::Turn;
+use audit_trail::Audit;
+use call_types::{Key, Mode, Pick};
+use drive_base::Drive;
+use fault_base::NoMemory;
+use register_core::QuorumFault;
+use slot_data::{PinRow, pin_laws};
+use slot_history::key_name;
+use stamp_id::ChangeId;
+use std::alloc::Global;
+
+/// What a look at a key's register found, and what a read answers over it.
+#[derive(Drop)]
+pub(crate) struct Planned {
+    /// What was found, and the draft of what is pending.
+    pub(crate) ready: Ready,
+    /// The plan of the read.
+    pub(crate) plan: ReadPlan,
+}
+
+/// Looks at a key's register, and plans what a read answers over its state. Nothing is written. `QuorumFault::NoMemory` is told for the plan's memory too.
+fn look_and_plan<D: Drive>(
+    alloc: Global,
+    lanes: &mut [D],
+    disks: &mut [D],
+    site: &Site,
+    name: &str,
+    at: &Key,
+    mode: Mode,
+    pick: &Pick,
+    drawn: &Drawn,
+) -> Result<Planned, QuorumFault>
+    requires lanes { length lanes.old ≡ site.now.set.drives }
+    requires disks { length disks.old ≡ site.now.set.drives }
+    requires named { name.now ≡ key_name at.now }
+    requires short { length name.now ≤ 1129 }
+    requires term { site.now.term < 2 ^ 48 }
+    requires seq { drawn.now.seq + 1 < 2 ^ 62 }
+    ensures looks { LooksForRead D.tells D.files D.count site.now drawn.now name.now at.now mode pick.now result lanes.old lanes.new disks.old disks.new }
+    ensures fits { IfOk result (λ planned. FirstFits site.now.set planned.ready.first) }
+    ensures files { FilesStay D.tells D.files D.count lanes.old lanes.new }
+    ensures disk_files { FilesStay D.tells D.files D.count disks.old disks.new }
+    ensures tells { TellsStay D.tells D.files D.count lanes.old lanes.new }
+    ensures disk_tells { TellsStay D.tells D.files D.count disks.old disks.new }
+    ensures counts { CountsRise D.tells D.files D.count lanes.old lanes.new }
+    ensures disk_counts { CountsRise D.tells D.files D.count disks.old disks.new }
+{
+    let mut rule = KeyRule {
+        first: None,
+        second: None,
+        state: None,
+    };
+    let ready = match look_at(alloc, lanes, disks, site, name, &mut rule, drawn) {
+        Ok(ready) => ready,
+        Err(fault) => return Err(fault),
+    };
+    let Some(state) = &rule.state else {
+        unreachable!()
+    };
+    match plan_read(alloc, site, name, at, mode, pick, state) {
+        Ok(plan) => Ok(Planned { ready, plan }),
+        Err(_) => Err(QuorumFault::NoMemory),
+    }
+}
+
+/// Looks at a key's register, plans what a read answers over its state, and completes what is pending. All memory is taken before the first write.
+fn read_register<D: Drive>(
+    alloc: Global,
+    lanes: &mut [D],
+    disks: &mut [D],
+    site: &Site,
+    name: &str,
+    at: &Key,
+    mode: Mode,
+    pick: &Pick,
+    drawn: &mut Drawn,
+) -> Peeked<ReadPlan>
+    requires lanes { length lanes.old ≡ site.now.set.drives }
+    requires disks { length disks.old ≡ site.now.set.drives }
+    requires named { name.now ≡ key_name at.now }
+    requires short { length name.now ≤ 1129 }
+    requires term { site.now.term < 2 ^ 48 }
+    requires seq { drawn.old.seq ≤ LAST_SEQ }
+    requires count { drawn.old.count ≤ LAST_COUNT }
+    ensures leaves { (holding : Holding) (records : Records) (state : State) → SlotStands D.tells D.files (numbers_at site.now drawn.old) holding.flights lanes.old records state
+        → GivesOver D.tells D.files (numbers_at site.now drawn.old) (numbers_at site.now drawn.new) holding
+        (λ plan late now. KnownRead site.now.turns at.now mode pick.now plan late now) result lanes.new records state }
+    ensures calls { GivesBy D.tells D.files D.count (numbers_at site.now drawn.old) (numbers_at site.now drawn.new) (key_name at.now)
+        (λ plan late. ReadGave D.tells D.files D.count (numbers_at site.now drawn.old) (numbers_at site.now drawn.new) at.now
+        (λ state. PlansRead site.now.turns at.now mode pick.now state plan) late lanes.old lanes.new disks.old disks.new) result
+        lanes.old lanes.new disks.old disks.new }
+    ensures tells { TellsStay D.tells D.files D.count lanes.old lanes.new }
+    ensures counts { CountsRise D.tells D.files D.count lanes.old lanes.new }
+    ensures disk_files { FilesStay D.tells D.files D.count disks.old disks.new }
+    ensures disk_tells { TellsStay D.tells D.files D.count disks.old disks.new }
+    ensures disk_counts { CountsRise D.tells D.files D.count disks.old disks.new }
+    ensures rises { drawn.old.count ≤ drawn.new.count }
+    ensures few { drawn.new.count ≤ drawn.old.count + 32 }
+    ensures seq_rises { drawn.old.seq ≤ drawn.new.seq }
+    ensures seq_few { drawn.new.seq ≤ drawn.old.seq + 1 }
+{
+    match look_and_plan(alloc, lanes, disks, site, name, at, mode, pick, drawn) {
+        Ok(planned) => {
+            let Planned { mut ready, plan } = planned;
+            finish_planned(lanes, site, name, &mut ready, plan, drawn)
+        }
+        Err(fault) => refusal(fault),
+    }
+}
+
+/// Completes what was found pending, and gives the plan of the read. It takes no memory.
+fn finish_planned<D: Drive>(
+    lanes: &mut [D],
+    site: &Site,
+    name: &str,
+    ready: &mut Ready,
+    plan: ReadPlan,
+    drawn: &mut Drawn,
+) -> Peeked<ReadPlan>
+    requires lanes { length lanes.old ≡ site.now.set.drives }
+    requires fits { FirstFits site.now.set ready.old.first }
+    requires seq { drawn.old.seq + 1 < 2 ^ 64 }
+    requires room { drawn.old.count + 2 * site.now.set.drives < 2 ^ 64 }
+    ensures finishes { FinishesPlan D.tells D.files D.count site.now drawn.old drawn.new name.now (record { ready = ready.old; plan = plan }) result lanes.old lanes.new }
+    ensures tells { TellsStay D.tells D.files D.count lanes.old lanes.new }
+    ensures counts { CountsRise D.tells D.files D.count lanes.old lanes.new }
+    ensures rises { drawn.old.count ≤ drawn.new.count }
+    ensures few { drawn.new.count ≤ drawn.old.count + 2 * site.now.set.drives }
+    ensures seq_rises { drawn.old.seq ≤ drawn.new.seq }
+    ensures seq_few { drawn.new.seq ≤ drawn.old.seq + 1 }
+{
+    match forward(lanes, site, name, ready, drawn) {
+        Ok(late) => Peeked::Found(plan, late),
+        Err(fault) => {
+            drop(plan);
+            refusal(fault)
+        }
+    }
+}
+
+/// Begins what was planned: its pin is listed, and its entry written down. It takes no memory.
+fn begin_planned<A: Audit>(
+    audit: &mut A,
+    pins: &mut Vec<PinRow>,
+    site: &Site,
+    plan: ReadPlan,
+    late: Option<ChangeId>,
+) -> Turn<ReadStart>
+    requires room { 1 ≤ A.room audit.old }
+    requires spare { vec_len pins.old < vec_capacity pins.old }
+    requires same { (entries_of plan).stub ≡ (entries_of plan).audit }
+    ensures begins { BeginsPlan site.now plan late result pins.old.items pins.new.items }
+    ensures entries { A.entries audit.new ≡ with_entry (A.entries audit.old) (has_late (entries_of plan).audit late) }
+    ensures count { A.count audit.new ≡ A.count audit.old }
+{
+    match plan {
+        ReadPlan::Gives(start, row, entries) => {
+            pins.push_reserved(row);
+            Turn {
+                answer: Ok(start),
+                stub: Some(write_down(audit, site, entries, late)),
+            }
+        }
+        ReadPlan::Refuses(why, entries) => refuse(audit, site, entries, late, SlotFault::Key(why)),
+    }
+}
+
+/// What a read takes memory for before its look.
+#[derive(Drop)]
+struct Prepared {
+    /// The name of the key's register.
+    name: String,
+    /// The entries where the register refuses the read.
+    entries: Entries,
+}
+
+/// Makes the name of a key's register, the entries of a section at it that does nothing of its own, and room for a pin.
+fn prepare(
+    alloc: Global,
+    pins: &mut Vec<PinRow>,
+    site: &Site,
+    at: &Key,
+) -> Result<Prepared, NoMemory>
+    requires bucket { IsUtf8 at.now.bucket }
+    requires key { IsUtf8 at.now.key }
+    ensures named { IfOk result (λ made. string_bytes made.name ≡ key_name at.now) }
+    ensures kept { IfOk result (λ made. IsKeptOf site.now.turns (key_name at.now) made.entries) }
+    ensures pins { pins.new.items ≡ pins.old.items }
+    ensures spare { OnOk result (vec_len pins.new < vec_capacity pins.new) }
+{
+    let name = key_name(alloc, at)?;
+    let entries = kept_entries(alloc, site, name.as_str())?;
+    pins.reserve(1)?;
+    Ok(Prepared { name, entries })
+}
+
+/// A whole read, with its entry and its pin.
+pub(crate) fn read_at<D: Drive, A: Audit>(
+    alloc: Global,
+    lanes: &mut [D],
+    audit: &mut A,
+    pins: &mut Vec<PinRow>,
+    disks: &mut [D],
+    site: &Site,
+    at: &Key,
+    mode: Mode,
+    pick: &Pick,
+    drawn: &mut Drawn,
+) -> Turn<ReadStart>
+    requires lanes { length lanes.old ≡ site.now.set.drives }
+    requires disks { length disks.old ≡ site.now.set.drives }
+    requires bucket { IsUtf8 at.now.bucket }
+    requires key { IsUtf8 at.now.key }
+    requires short { length (key_name at.now) ≤ 1129 }
+    requires term { site.now.term < 2 ^ 48 }
+    requires seq { drawn.old.seq ≤ LAST_SEQ }
+    requires count { drawn.old.count ≤ LAST_COUNT }
+    ensures turns { TurnsAt (numbers_at site.now drawn.old) (A.entries audit.old) (A.entries audit.new) (A.count audit.old) (A.count audit.new) result.answer result.stub }
+    ensures says { Says result.stub (SaysRead at.now mode pick.now result.answer) }
+    ensures pins { PinIsListed site.now.turns at.now result.answer pins.old.items pins.new.items }
+    ensures leaves { (holding kept : Holding) → ReadHolds (numbers_at site.now drawn.old) at.now result.answer holding kept → IsNewTicket site.now.turns holding.pins
+        → Leaves D.tells D.files (numbers_at site.now drawn.old) (numbers_at site.now drawn.new) holding kept lanes.old lanes.new result.stub ShowsNoMore HandsStay }
+    ensures cause { ReadCause D.tells D.files D.count (numbers_at site.now drawn.old) (numbers_at site.now drawn.new) at.now pick.now result.answer (completed_by result.stub)
+        lanes.old lanes.new disks.old disks.new }
+    ensures tells { TellsStay D.tells D.files D.count lanes.old lanes.new }
+    ensures counts { CountsRise D.tells D.files D.count lanes.old lanes.new }
+    ensures disk_files { FilesStay D.tells D.files D.count disks.old disks.new }
+    ensures disk_tells { TellsStay D.tells D.files D.count disks.old disks.new }
+    ensures disk_counts { CountsRise D.tells D.files D.count disks.old disks.new }
+    ensures rises { drawn.old.count ≤ drawn.new.count }
+    ensures few { drawn.new.count ≤ drawn.old.count + 32 }
+    ensures seq_rises { drawn.old.seq ≤ drawn.new.seq }
+    ensures seq_few { drawn.new.seq ≤ drawn.old.seq + 1 }
+{
+    // The laws for the proof, that the data goes on to stand where a pin begins. The call does nothing.
+    pin_laws();
+    let made = match prepare(alloc, pins, site, at) {
+        Ok(made) => made,
+        Err(_) => return no_memory(),
+    };
+    match reserve(audit) {
+        Ok(()) => {}
+        Err(Unreserved::Failed { before, after }) => {
+            return audit_failed(site, before, after);
+        }
+        Err(Unreserved::NoMemory) => return no_memory(),
+    }
+    let Prepared { name, entries } = made;
+    match read_register(
+        alloc,
+        lanes,
+        disks,
+        site,
+        name.as_str(),
+        at,
+        mode,
+        pick,
+        drawn,
+    ) {
+        Peeked::Found(plan, late) => begin_planned(audit, pins, site, plan, late),
+        Peeked::Refused(fault) => { refuse(audit, site, entries, None, SlotFault::Quorum(fault)) }
+        Peeked::LacksMemory => no_memory(),
+    }
+}

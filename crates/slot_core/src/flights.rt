@@ -1,0 +1,145 @@
+//! Puts that begin and are given up.
+
+ghost use Rattle.std.specs.Prelude.{◌≡◌, ◌↔◌, ◌+◌, ◌*◌, ◌<◌, ◌≤◌, ◌^◌, ℕ, All, IsSome, IsUtf8, MatchOption, length, slice_index_or, vec_capacity, vec_len};
+ghost use Rattle.slot_history.specs.Contents.{number_of_id};
+ghost use Rattle.slot_data.specs.declared.rows.FlightRow.{FlightRow};
+ghost use Rattle.slot_core.specs.Fields.{AreApart};
+ghost use Rattle.slot_core.specs.Hands.{HandsStay};
+ghost use Rattle.slot_core.specs.Numbers.{AreSpent, with_seq};
+ghost use Rattle.slot_core.specs.Sections.{MayGiveUp, PutGoes, PutHolds, ShowsNoMore};
+ghost use Rattle.slot_core.specs.Taking.{TakesRow};
+ghost use Rattle.slot_core.specs.Turning.{Leaves, TurnsQuietly};
+ghost use Rattle.slot_core.specs.Views.{audit_of, holding_of, lanes_of, numbers_of};
+
+use crate::fault::SlotFault;
+use crate::handles::Flight;
+use crate::numbers::next_ballot;
+use crate::slot::Slot;
+use crate::stub::{Stub, Turn};
+use audit_trail::Audit;
+use call_types::Key;
+use drive_base::Drive;
+use fault_base::NoMemory;
+use seal_file::Text;
+use slot_data::{FlightRow, flight_laws};
+use slot_history::{key_name, resting_laws};
+use stamp_id::{ChangeId, VersionId};
+use std::alloc::Global;
+
+impl<D: Drive, A: Audit> Slot<D, A> {
+    /// Begins a put of a key: draws the id of its data, and lists it as under way. It makes the room in the trash that giving it up needs. `SeqSpent` where
+    /// the slot's numbers are spent, and `NoMemory`; no lane is called.
+    pub fn begin_put(&mut self, alloc: Global, at: &Key) -> Turn<Flight>
+        requires turns { (numbers_of self.old).turns + 1 < 2 ^ 64 }
+        requires bucket { IsUtf8 at.now.bucket }
+        requires key { IsUtf8 at.now.key }
+        ensures turns { TurnsQuietly (numbers_of self.old) (numbers_of self.new) (A.entries (audit_of self.old)) (A.entries (audit_of self.new))
+            (A.count (audit_of self.old)) (A.count (audit_of self.new)) result.answer result.stub }
+        ensures spent { (result.answer ≡ Err SlotFault.SeqSpent) ↔ AreSpent (numbers_of self.old) }
+        ensures holds { PutHolds (numbers_of self.old) (numbers_of self.new) at.now result.answer (holding_of self.old) (holding_of self.new) }
+        ensures lanes { lanes_of self.new ≡ lanes_of self.old }
+        ensures leaves { Leaves D.tells D.files (numbers_of self.old) (numbers_of self.new) (holding_of self.old) (holding_of self.new)
+            (lanes_of self.old) (lanes_of self.new) result.stub ShowsNoMore HandsStay }
+    {
+        // The laws for the proof, that lanes and data go on to stand where a put begins. The calls do nothing.
+        resting_laws();
+        flight_laws();
+        let ticket = self.turns;
+        self.turns += 1;
+        if self.is_spent() {
+            return Turn {
+                answer: Err(SlotFault::SeqSpent),
+                stub: Some(Stub::refused(self.index, ticket, SlotFault::SeqSpent)),
+            };
+        }
+        match self.list_put(alloc, at) {
+            Ok(flight) => Turn {
+                answer: Ok(flight),
+                stub: None,
+            },
+            Err(_) => Turn {
+                answer: Err(SlotFault::NoMemory),
+                stub: None,
+            },
+        }
+    }
+
+    /// Draws the next number for a put of a key, and lists the put.
+    fn list_put(&mut self, alloc: Global, at: &Key) -> Result<Flight, NoMemory>
+        requires bucket { IsUtf8 at.now.bucket }
+        requires key { IsUtf8 at.now.key }
+        requires unspent { (numbers_of self.old).seq + 1 < 2 ^ 62 }
+        ensures numbers { numbers_of self.new ≡ with_seq (numbers_of self.old) (numbers_of self.new).seq }
+        ensures holds { PutHolds (numbers_of self.old) (numbers_of self.new) at.now result (holding_of self.old) (holding_of self.new) }
+        ensures lanes { lanes_of self.new ≡ lanes_of self.old }
+        ensures audit { audit_of self.new ≡ audit_of self.old }
+    {
+        let full = key_name(alloc, at)?;
+        let name = Text::from_slice(alloc, full.as_bytes())?;
+        let listed = Text::from_slice(alloc, full.as_bytes())?;
+        self.flights.reserve(1)?;
+        self.trash.reserve(self.flights.len() + 1)?;
+        let change = ChangeId(next_ballot(self.term, self.seq));
+        let id = VersionId::from_parts(change, self.index);
+        self.seq += 1;
+        self.flights.push_reserved(FlightRow { id, name: listed });
+        Ok(Flight { id, name })
+    }
+
+    /// Gives a put up: it isn't under way any more, and its data is trash. A flight that isn't listed changes nothing. It takes no memory, and is always done.
+    pub fn drop_put(&mut self, flight: Flight) -> Turn<()>
+        requires turns { (numbers_of self.old).turns + 1 < 2 ^ 64 }
+        ensures turns { TurnsQuietly (numbers_of self.old) (numbers_of self.new) (A.entries (audit_of self.old)) (A.entries (audit_of self.new))
+            (A.count (audit_of self.old)) (A.count (audit_of self.new)) result.answer result.stub }
+        ensures done { result.answer ≡ Ok tt }
+        ensures drawn { (numbers_of self.new).seq ≡ (numbers_of self.old).seq }
+        ensures holds { PutGoes flight.id (holding_of self.old) (holding_of self.new) }
+        ensures lanes { lanes_of self.new ≡ lanes_of self.old }
+        ensures leaves { Leaves D.tells D.files (numbers_of self.old) (numbers_of self.new) (holding_of self.old) (holding_of self.new)
+            (lanes_of self.old) (lanes_of self.new) result.stub ShowsNoMore (MayGiveUp flight.id) }
+    {
+        // The laws for the proof, that lanes and data go on to stand where a put is given up. The calls do nothing.
+        resting_laws();
+        flight_laws();
+        self.turns += 1;
+        self.give_up(flight.id);
+        Turn {
+            answer: Ok(()),
+            stub: None,
+        }
+    }
+
+    /// Takes the put of this id off the list, and puts its data into the trash, if it is listed.
+    fn give_up(&mut self, id: VersionId)
+        ensures numbers { numbers_of self.new ≡ numbers_of self.old }
+        ensures holds { PutGoes id (holding_of self.old) (holding_of self.new) }
+        ensures lanes { lanes_of self.new ≡ lanes_of self.old }
+        ensures audit { audit_of self.new ≡ audit_of self.old }
+    {
+        let Some(row) = take_flight(&mut self.flights, id) else {
+            return;
+        };
+        self.trash.push_reserved(row.id);
+    }
+}
+
+/// Takes the put of this id off the list, if it is there. It takes no memory.
+pub(crate) fn take_flight(flights: &mut Vec<FlightRow>, id: VersionId) -> Option<FlightRow>
+    ensures takes { TakesRow (λ (row : FlightRow). row.id ≡ id) result flights.old.items flights.new.items }
+    ensures fewer { IsSome result → vec_len flights.new + 1 ≡ vec_len flights.old }
+    ensures at_most { vec_len flights.new ≤ vec_len flights.old }
+    ensures apart { AreApart flights.old.items → AreApart flights.new.items }
+    ensures drawn { (last : ℕ) → All (λ (row : FlightRow). number_of_id row.id ≤ last) flights.old.items
+        → All (λ (row : FlightRow). number_of_id row.id ≤ last) flights.new.items }
+{
+    let place = place_of(flights, id)?;
+    Some(flights.remove(place))
+}
+
+/// The place of the put of this id in the list.
+fn place_of(flights: &[FlightRow], id: VersionId) -> Option<usize>
+    ensures { MatchOption result (All (λ (row : FlightRow). row.id ≡ id → ⊥) flights.now)
+        (λ place. (place < length flights.now) × ((d : FlightRow) → (slice_index_or flights.now place d).id ≡ id)) }
+{
+    flights.iter().position(|row| row.id == id)
+}

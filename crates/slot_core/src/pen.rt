@@ -1,0 +1,167 @@
+//! Entries, and how they are written down.
+
+ghost use Rattle.std.specs.Prelude.{◌≡◌, ◌≤◌, None, OnOk, IfOk, Some};
+ghost use Rattle.audit_trail.specs.Entries.{with_entry};
+ghost use Rattle.slot_core.specs.declared.stub.Stub.{Stub};
+ghost use Rattle.slot_core.specs.Pen.{IsKeptOf, IsRefusedTurn, Reserves, WritesDown, has_late};
+
+use crate::fault::SlotFault;
+use crate::site::Site;
+use crate::stub::{Stub, Turn};
+use audit_trail::{Audit, AuditFault, Deed, Entry};
+use fault_base::NoMemory;
+use seal_file::Text;
+use stamp_id::ChangeId;
+use std::alloc::Global;
+
+/// An entry in the two copies that a section needs: one for the audit, and one for its stub.
+#[derive(Drop)]
+pub(crate) struct Entries {
+    /// The audit's.
+    pub(crate) audit: Entry,
+    /// The stub's.
+    pub(crate) stub: Entry,
+}
+
+/// The entries of a section that does nothing of its own.
+pub(crate) fn kept_entries(alloc: Global, site: &Site, name: &str) -> Result<Entries, NoMemory>
+    ensures { IfOk result (λ entries. IsKeptOf site.now.turns name.now entries) }
+{
+    let audit = kept_entry(alloc, site.turns, name)?;
+    let stub = kept_entry(alloc, site.turns, name)?;
+    Ok(Entries { audit, stub })
+}
+
+fn kept_entry(alloc: Global, ticket: u64, name: &str) -> Result<Entry, NoMemory>
+    ensures { IfOk result (λ entry. entry ≡ record { ticket = ticket; late = None; name = name.now; deed = Deed.Kept }) }
+{
+    let name = Text::from_slice(alloc, name.as_bytes())?;
+    Ok(Entry {
+        ticket,
+        late: None,
+        name,
+        deed: Deed::Kept,
+    })
+}
+
+/// Why an audit has no place for an entry.
+#[derive(Clone, Copy)]
+pub(crate) enum Unreserved {
+    /// It failed: its count of faults before and after.
+    Failed {
+        /// The count before.
+        before: u64,
+        /// The count after.
+        after: u64,
+    },
+    /// There was not enough memory.
+    NoMemory,
+}
+
+/// Makes room for an entry in an audit.
+pub(crate) fn reserve<A: Audit>(audit: &mut A) -> Result<(), Unreserved>
+    ensures reserves { Reserves (A.count audit.old) (A.count audit.new) result }
+    ensures room { OnOk result (1 ≤ A.room audit.new) }
+    ensures entries { A.entries audit.new ≡ A.entries audit.old }
+{
+    let before = audit.faults();
+    match audit.reserve() {
+        Ok(()) => Ok(()),
+        Err(AuditFault::Failed) => Err(Unreserved::Failed {
+            before,
+            after: audit.faults(),
+        }),
+        Err(AuditFault::NoMemory) => Err(Unreserved::NoMemory),
+    }
+}
+
+/// Writes an entry down, with the change that was completed for an earlier section, and makes the stub of the section.
+pub(crate) fn write_down<A: Audit>(
+    audit: &mut A,
+    site: &Site,
+    entries: Entries,
+    late: Option<ChangeId>,
+) -> Stub
+    requires room { 1 ≤ A.room audit.old }
+    requires same { entries.stub ≡ entries.audit }
+    ensures stub { WritesDown site.now (has_late entries.audit late) None result }
+    ensures entries { A.entries audit.new ≡ with_entry (A.entries audit.old) (has_late entries.audit late) }
+    ensures count { A.count audit.new ≡ A.count audit.old }
+{
+    let mut entry = entries.audit;
+    entry.late = late;
+    audit.add(entry);
+    let mut entry = entries.stub;
+    entry.late = late;
+    Stub {
+        slot: site.index,
+        ticket: site.turns,
+        entry: Some(entry),
+        fault: None,
+    }
+}
+
+/// Writes an entry down for a section that is refused, and answers the refusal.
+pub(crate) fn refuse<A: Audit, T>(
+    audit: &mut A,
+    site: &Site,
+    entries: Entries,
+    late: Option<ChangeId>,
+    fault: SlotFault,
+) -> Turn<T>
+    requires room { 1 ≤ A.room audit.old }
+    requires same { entries.stub ≡ entries.audit }
+    ensures answer { result.answer ≡ Err fault }
+    ensures stub { (stub : Stub) × (result.stub ≡ Some stub) × WritesDown site.now (has_late entries.audit late) (Some fault) stub }
+    ensures entries { A.entries audit.new ≡ with_entry (A.entries audit.old) (has_late entries.audit late) }
+    ensures count { A.count audit.new ≡ A.count audit.old }
+{
+    let mut stub = write_down(audit, site, entries, late);
+    stub.fault = Some(same(&fault));
+    Turn {
+        answer: Err(fault),
+        stub: Some(stub),
+    }
+}
+
+/// The same refusal.
+fn same(fault: &SlotFault) -> SlotFault
+    ensures { result ≡ fault.now }
+{
+    *fault
+}
+
+/// The turn of a section whose audit failed.
+pub(crate) fn audit_failed<T>(site: &Site, before: u64, after: u64) -> Turn<T>
+    ensures { IsRefusedTurn site.now (SlotFault.AuditFailed before after) result }
+{
+    Turn {
+        answer: Err(SlotFault::AuditFailed { before, after }),
+        stub: Some(Stub::refused(
+            site.index,
+            site.turns,
+            SlotFault::AuditFailed { before, after },
+        )),
+    }
+}
+
+/// The turn of a section that found its slot's numbers spent.
+pub(crate) fn spent_turn<T>(site: &Site) -> Turn<T>
+    ensures { IsRefusedTurn site.now SlotFault.SeqSpent result }
+{
+    Turn {
+        answer: Err(SlotFault::SeqSpent),
+        stub: Some(Stub::refused(site.index, site.turns, SlotFault::SeqSpent)),
+    }
+}
+
+/// The turn of a section that found no memory.
+pub(crate) fn no_memory<T>() -> Turn<T>
+    ensures answer { result.answer ≡ Err SlotFault.NoMemory }
+    ensures stub { result.stub ≡ None }
+{
+    Turn {
+        answer: Err(SlotFault::NoMemory),
+        stub: None,
+    }
+}

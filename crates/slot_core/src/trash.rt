@@ -1,0 +1,80 @@
+//! Trash that is taken.
+
+ghost use Rattle.std.specs.Prelude.{◌≡◌, ◌+◌, ◌<◌, ◌≤◌, ◌^◌, None, filter, not, take, vec_capacity, vec_len, IfOk};
+ghost use Rattle.std.specs.List.{list_any};
+ghost use Rattle.slot_data.specs.Rows.{is_id, pin_names};
+ghost use Rattle.slot_core.specs.Sections.{ShowsNoMore, TakesInHand, TrashHolds};
+ghost use Rattle.slot_core.specs.Turning.{Leaves, TurnsQuietly};
+ghost use Rattle.slot_core.specs.Views.{audit_of, holding_of, lanes_of, numbers_of, pins_of};
+
+use crate::pen::no_memory;
+use crate::slot::Slot;
+use crate::stub::Turn;
+use audit_trail::Audit;
+use call_types::Listing;
+use drive_base::Drive;
+use fault_base::NoMemory;
+use slot_data::{PinRow, hands_laws, is_pinned, row_laws};
+use stamp_id::VersionId;
+use std::alloc::Global;
+
+/// Ids of data.
+pub type Ids = Listing<VersionId>;
+
+impl<D: Drive, A: Audit> Slot<D, A> {
+    /// Takes trash: the first ids that no pin names, in the order in which they came, and so many at most. They leave the trash, and whoever has them
+    /// is to remove their files. `NoMemory` takes none.
+    pub fn take_trash(&mut self, alloc: Global, most: u32) -> Turn<Ids>
+        requires turns { (numbers_of self.old).turns + 1 < 2 ^ 64 }
+        ensures turns { TurnsQuietly (numbers_of self.old) (numbers_of self.new) (A.entries (audit_of self.old)) (A.entries (audit_of self.new))
+            (A.count (audit_of self.old)) (A.count (audit_of self.new)) result.answer result.stub }
+        ensures stubless { result.stub ≡ None }
+        ensures drawn { (numbers_of self.new).seq ≡ (numbers_of self.old).seq }
+        ensures holds { TrashHolds most (pins_of self.old) (holding_of self.old) (holding_of self.new) result.answer }
+        ensures lanes { lanes_of self.new ≡ lanes_of self.old }
+        ensures leaves { Leaves D.tells D.files (numbers_of self.old) (numbers_of self.new) (holding_of self.old) (holding_of self.new)
+            (lanes_of self.old) (lanes_of self.new) result.stub ShowsNoMore (TakesInHand result.answer) }
+    {
+        // The laws for the proof, that the data goes on to stand where trash is taken that no pin names. The calls do nothing.
+        hands_laws();
+        row_laws();
+        self.turns += 1;
+        let Ok(ids) = first_free(alloc, &self.trash, &self.pins, most) else {
+            return no_memory();
+        };
+        leave_out(&mut self.trash, &ids);
+        Turn {
+            answer: Ok(Listing::from_vec(ids)),
+            stub: None,
+        }
+    }
+}
+
+/// The first ids that no pin names, so many at most.
+fn first_free(
+    alloc: Global,
+    trash: &[VersionId],
+    pins: &[PinRow],
+    most: u32,
+) -> Result<Vec<VersionId>, NoMemory>
+    ensures { IfOk result (λ ids. ids.items ≡ take most (filter (λ id. not (list_any (pin_names id) pins.now)) trash.now)) }
+{
+    let free = trash.iter().copied().filter(|id| !is_pinned(pins, *id));
+    Ok(free.take(most as usize).collect(alloc)?)
+}
+
+/// Takes these ids out of the trash, and leaves the others in their order. It takes no memory.
+fn leave_out(trash: &mut Vec<VersionId>, ids: &[VersionId])
+    ensures left { trash.new.items ≡ filter (λ id. not (list_any (is_id id) ids.now)) trash.old.items }
+    ensures fewer { vec_len trash.new ≤ vec_len trash.old }
+    ensures room { vec_capacity trash.new ≡ vec_capacity trash.old }
+{
+    trash.retain(|id| !is_among(ids, *id));
+}
+
+/// Whether an id is one of these. It takes no memory.
+fn is_among(ids: &[VersionId], id: VersionId) -> bool
+    ensures { result ≡ list_any (is_id id) ids.now }
+{
+    ids.iter().any(|other| *other == id)
+}
