@@ -1,26 +1,63 @@
 -- A desk that tells one refusal does what is asked of a desk.
-use Rattle.std.proofs.Common.{◌≡◌, ℕ, List, [], Option, Some, None, ap, refl, subst, sym, append-nil}
+use Rattle.std.proofs.Common.{◌≡◌, ℕ, ◌+◌, List, [], Option, Some, None, inl, inr, refl, sym, arith, length}
 use Rattle.std.specs.Prelude.{Result, Ok, Err}
+use Rattle.std.specs.Io.KnownBytes.{prepend_known}
+use Rattle.call_types.specs.Feeds.{FeedView, Gave}
 use Rattle.call_types.specs.declared.feed.Cut.{Cut}
 use Rattle.call_types.specs.declared.feed.Cut.TheVariants.{ReadFault, BodyCut, WriteFault, ShardCut, NoMemory}
 use Rattle.call_types.specs.declared.reply.Reply.TheVariants.{Refused}
 use Rattle.call_types.specs.declared.refusal.Refusal.{Refusal}
-use Rattle.desk_base.specs.Answering.{CallTells, with_tellings}
-use Rattle.desk_base.specs.Telling.{Telling, Tells, TellsCause}
+use Rattle.desk_base.specs.Answering.{CallTells, CutCause, Serves, tale_of}
+use Rattle.desk_base.specs.Telling.{Effect, Telling, Tells, TellsCause}
 use Rattle.desk_base.specs.Telling.Telling.{Head}
 use Rattle.desk_base.specs.declared.call.Call.{Call}
 
--- nothing more was told
-with_none : (tale : Option (List Telling)) → tale ≡ with_tellings tale []
-with_none None = refl
-with_none (Some before) = ap Some (sym (append-nil before))
+-- nothing more is left
+nothing_left : (left : Option (List ℕ)) → left ≡ prepend_known [] left
+nothing_left None = refl
+nothing_left (Some left) = refl
+
+-- no byte was given
+gave_none : (feed : FeedView) → Gave [] feed feed
+gave_none feed = record { stated = refl; given = omega arith; left = nothing_left feed.left }
 
 -- one refusal is a whole reply
-pub refusal_tells : (call : Call) (why : Refusal) (result : Result (Unit {0}) Cut) (old new : Option (List Telling)) (a b : ℕ)
-    → Tells result (Head (Refused why)) old new → TellsCause result a b → CallTells call result old new
-refusal_tells call why (Ok _) old new a b told cause = (Refused why, [], refl, told)
-refusal_tells call why (Err ReadFault) old new a b told cause = absurd cause
-refusal_tells call why (Err (BodyCut _ _)) old new a b told cause = absurd cause
-refusal_tells call why (Err WriteFault) old new a b told cause = ([], subst (λ tale. tale ≡ with_tellings old []) (sym told) (with_none old))
-refusal_tells call why (Err (ShardCut _)) old new a b told cause = absurd cause
-refusal_tells call why (Err NoMemory) old new a b told cause = ([], subst (λ tale. tale ≡ with_tellings old []) (sym told) (with_none old))
+pub refusal_serves : {T : Type 0} (takes breaks : Effect T) (call : Call) (why : Refusal) (result : Result (Unit {0}) Cut) (feed : FeedView) (old new : T) (a b : ℕ)
+    → Tells takes breaks result (Head (Refused why)) old new → TellsCause result a b
+    → Serves takes breaks (λ body tale. CallTells call result tale) call result feed feed old new
+refusal_serves takes breaks call why (Ok _) feed old new a b told cause = record {
+  body = [];
+  took = gave_none feed;
+  tale = tale_of (Refused why) [];
+  told = (new, told, refl);
+  whole = (Refused why, [], refl, refl);
+  answers = (Refused why, [], refl, refl);
+}
+refusal_serves takes breaks call why (Err ReadFault) feed old new a b told cause = absurd cause
+refusal_serves takes breaks call why (Err (BodyCut _ _)) feed old new a b told cause = absurd cause
+refusal_serves takes breaks call why (Err WriteFault) feed old new a b told cause = record {
+  body = [];
+  took = gave_none feed;
+  tale = tale_of (Refused why) [];
+  told = record { earlier = []; last = Head (Refused why); are = refl; mid = old; took = refl; broke = told };
+  whole = inr (Refused why, [], omega arith, refl);
+  answers = inr (Refused why, [], omega arith, refl);
+}
+refusal_serves takes breaks call why (Err (ShardCut _)) feed old new a b told cause = absurd cause
+refusal_serves takes breaks call why (Err NoMemory) feed old new a b told cause = record {
+  body = [];
+  took = gave_none feed;
+  tale = [];
+  told = sym told;
+  whole = inl refl;
+  answers = inl refl;
+}
+
+-- and has its cause
+pub refusal_cause : (result : Result (Unit {0}) Cut) (feed : FeedView) (reads a b : ℕ) → TellsCause result a b → CutCause result feed reads reads a b
+refusal_cause (Ok _) feed reads a b cause = (refl, cause)
+refusal_cause (Err ReadFault) feed reads a b cause = absurd cause
+refusal_cause (Err (BodyCut _ _)) feed reads a b cause = absurd cause
+refusal_cause (Err WriteFault) feed reads a b cause = (refl, cause)
+refusal_cause (Err (ShardCut _)) feed reads a b cause = absurd cause
+refusal_cause (Err NoMemory) feed reads a b cause = (refl, cause)

@@ -1,10 +1,10 @@
 //! What serves calls.
 
-ghost use Rattle.std.specs.Prelude.{◌≡◌, ◌<◌, ℕ, Result};
-ghost use Rattle.call_types.specs.Feeds.{FeedView};
+ghost use Rattle.std.specs.Prelude.{◌≡◌, ◌<◌, ℕ, List, Result};
 ghost use Rattle.call_types.specs.declared.feed.Cut.{Cut};
 ghost use Rattle.desk_base.specs.Calls.{IsFeedOf, IsLawful};
-ghost use Rattle.desk_base.specs.Answering.{CallTells, CutCause, Task, TellerView, teller_of};
+ghost use Rattle.desk_base.specs.Answering.{CutCause, Serves, Task};
+ghost use Rattle.desk_base.specs.Telling.{Telling};
 
 use crate::call::Call;
 use crate::teller::Teller;
@@ -23,7 +23,7 @@ pub trait Desk {
     type Pass;
 
     /// What a call gives beside its reply: what was done for it.
-    type Receipt;
+    type Receipt: Drop;
 
     /// What a pass holds that no call changes, as plain data.
     ghost Holds: { Type 0 };
@@ -31,9 +31,9 @@ pub trait Desk {
     /// That of a pass.
     ghost holds: { Self.Pass → Holds };
 
-    /// What a call comes to: the desk, the call and its moment, the pass before and after, what was taken of the body and what was told, and the
-    /// receipt, or why it was cut.
-    ghost answers: { Self → Task → Self.Pass → Self.Pass → FeedView → FeedView → TellerView → TellerView → Result Self.Receipt Cut → Type 0 };
+    /// What a call comes to: the desk, the call and its moment, the pass before and after, the bytes that were taken of the body, all that was
+    /// told, and the receipt, or why it was cut.
+    ghost answers: { Self → Task → Self.Pass → Self.Pass → List ℕ → List Telling → Result Self.Receipt Cut → Type 0 };
 
     /// Serves a call: takes its body from the feed, which states the call's length and has given nothing yet, and tells the whole reply to the
     /// teller. `now` is the Unix second of the call, one that the clock gave before it. The answer is the receipt, or why the call was cut:
@@ -50,9 +50,9 @@ pub trait Desk {
         requires lawful { IsLawful call.now }
         requires feed { IsFeedOf (F.seen feed.old) call.now }
         requires moment { now < 253402300800 }
-        ensures tells { CallTells call.now result (T.tale teller.old) (T.tale teller.new) }
+        ensures serves { Serves T.takes T.breaks
+            (λ body tale. answers self.now (record { call = call.now; now = now }) pass.old pass.new body tale result)
+            call.now result (F.seen feed.old) (F.seen feed.new) teller.old teller.new }
         ensures cause { CutCause result (F.seen feed.new) (F.faults feed.old) (F.faults feed.new) (T.faults teller.old) (T.faults teller.new) }
-        ensures holds { holds pass.new ≡ holds pass.old }
-        ensures answers { answers self.now (record { call = call.now; now = now }) pass.old pass.new (F.seen feed.old) (F.seen feed.new)
-            (teller_of (T.tale teller.old) (T.faults teller.old)) (teller_of (T.tale teller.new) (T.faults teller.new)) result };
+        ensures holds { holds pass.new ≡ holds pass.old };
 }

@@ -1,8 +1,5 @@
 //! Tests of what no clause says, and a desk and a teller of the smallest kind.
 
-ghost use Rattle.std.specs.Prelude.{None};
-ghost use Rattle.std.specs.Option.{option_map};
-
 use crate::{Call, Desk, Gate, Teller};
 use call_types::{Cut, Feed, Refusal, Reply};
 use seal_file::Text;
@@ -17,7 +14,9 @@ struct Counter {
 }
 
 impl Teller for Counter {
-    ghost tale = { λ _. None };
+    ghost takes = { λ old telling new. Unit {0} };
+
+    ghost breaks = { λ old telling new. ⊥ };
 
     ghost faults = { λ _. 0 };
 
@@ -53,6 +52,8 @@ impl Feed for Nothing {
 struct Closed;
 
 impl Desk for Closed {
+    ghost use Rattle.desk_base.specs.Answering.{CallTells};
+
     type Pass = ();
 
     type Receipt = ();
@@ -61,7 +62,7 @@ impl Desk for Closed {
 
     ghost holds = { λ pass. pass };
 
-    ghost answers = { λ desk task before after fed_before fed_after told_before told_after result. Unit {0} };
+    ghost answers = { λ desk task before after body tale result. CallTells task.call result tale };
 
     fn call<F: Feed, T: Teller>(
         &self,

@@ -1,6 +1,10 @@
-use Rattle.desk_base.proofs.TellingLemmas.{refusal_tells}
+use Rattle.std.proofs.Common.{refl}
+use Rattle.desk_base.proofs.TellingLemmas.{refusal_cause, refusal_serves}
 use Rattle.desk_base.proofs.tests.ClosedDesk.call.Goals as goal
 
--- src/tests.rt:66:5
-pub returns-clause-tells : goal.returns-clause-tells
-returns-clause-tells g c = refusal_tells _ _ _ _ _ _ _ c.head.ensures.tells c.head.ensures.cause
+pub returns : goal.returns
+returns g c = record {
+  serves = refusal_serves _ _ _ _ _ _ _ _ _ _ c.head.ensures.tells c.head.ensures.cause;
+  cause = refusal_cause _ _ _ _ _ c.head.ensures.cause;
+  holds = refl;
+}
