@@ -1,0 +1,4 @@
+pub mod BeginLemmas
+pub mod LookLemmas
+pub mod OpLemmas
+pub mod TellLemmas

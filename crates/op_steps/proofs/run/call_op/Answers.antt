@@ -1,0 +1,19 @@
+use Rattle.std.proofs.Common.{◌∙◌, ◌++◌, [], ap, subst, sym}
+use Rattle.receipts.specs.Events.{notes_of}
+use Rattle.receipts.specs.Paying.{Pays}
+use Rattle.op_steps.specs.Claims.{no_claim}
+use Rattle.op_steps.specs.Notes.{notes_by}
+use Rattle.op_steps.proofs.run.call_op.Goals as goal
+
+pub returns-clause-done : goal.returns-clause-done
+returns-clause-done g c = λ slot holds.
+    let got = c.run_op.ensures.ran (no_claim slot) [] holds in
+    record {
+      left = got.0;
+      log = got.1;
+      lets_go = c.run_op.ensures.ends got.0 got.1 got.2;
+      pays = subst (λ cut. Pays (g.O.Op.set c.args.op.now) (g.O.Op.task c.args.op.now) cut got.1) (sym c.cut.ensures)
+          (c.run_op.ensures.pays got.0 got.1 got.2);
+      ran = got.3;
+      notes = got.4 ∙ ap (λ items. notes_by items ++ notes_of got.1) c.new-stubs.ensures.items;
+    }

@@ -1,0 +1,9 @@
+pub mod Claims
+pub mod Going
+pub mod Laws
+pub mod Looking
+pub mod Moves
+pub mod Notes
+pub mod Steps
+pub mod Store
+pub mod Words

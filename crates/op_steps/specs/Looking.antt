@@ -1,0 +1,60 @@
+-- Looks of slots and reads of data drives, as steps: what they say of themselves is all that a step of any claim says.
+use Rattle.std.specs.Prelude.{◌≡◌, ◌≢◌, ℕ, ◌<◌, List, length, Option, Result, Ok, Err}
+use Rattle.std.specs.Int.{IsBitSet}
+use Rattle.drive_base.specs.View.{AllOnlyRead, DriveView, view_at, views}
+use Rattle.drive_base.specs.declared.plan.SetPlan.{SetPlan}
+use Rattle.drive_base.specs.declared.drive.Drive.{Ghosts}
+use Rattle.register_caller.specs.Steps.{FilesStay}
+use Rattle.register_core.specs.Loops.{CountsRise, TellsStay}
+use Rattle.slot_core.specs.Hands.{HandsStay}
+use Rattle.slot_core.specs.Sections.{SaysKept, ShowsContent}
+use Rattle.slot_core.specs.Stubs.{Says}
+use Rattle.slot_core.specs.Turning.{Leaves, Turns}
+use Rattle.slot_core.specs.declared.fault.SlotFault.{SlotFault}
+use Rattle.slot_core.specs.declared.stub.Stub.{Stub}
+use Rattle.receipts.specs.Events.{Seen, Shown}
+use Rattle.receipts.specs.Events.Shown.{ContentShown, NoneShown}
+use Rattle.op_steps.specs.Claims.{Claim}
+use Rattle.op_steps.specs.Moves.{CallMoves, TurnMoves, WasSo}
+use Rattle.op_steps.specs.Notes.{noted}
+use Rattle.op_steps.specs.Store.{SlotSeen}
+
+-- what a look shows, by its answer
+abbrev pub shown_by : {E : Type 0} → Result (List ℕ) E → Shown
+shown_by (Ok content) = ContentShown content
+shown_by (Err fault) = NoneShown
+
+module _ {D : Type 0} (ghosts : Ghosts D) where
+  -- data drives were only read
+  pub record AreOnlyRead (old new : List D) : Type 0 where
+    pub long : length new ≡ length old
+    pub files : FilesStay ghosts.tells ghosts.files ghosts.count old new
+    pub tells : TellsStay ghosts.tells ghosts.files ghosts.count old new
+    pub counts : CountsRise ghosts.tells ghosts.files ghosts.count old new
+
+  -- what a section says that looks at a register
+  pub record LookSays (was now : SlotSeen D) (name : List ℕ) (answer : Result (List ℕ) SlotFault) (stub : Option Stub) (old new : List D) : Type 0 where
+    pub turns : Turns was.numbers now.numbers was.entries now.entries was.faults now.faults answer stub
+    pub says : Says stub (SaysKept name)
+    pub holds : now.holding ≡ was.holding
+    pub leaves : Leaves ghosts.tells ghosts.files was.numbers now.numbers was.holding now.holding was.lanes now.lanes stub (ShowsContent name answer) HandsStay
+    pub read : AreOnlyRead old new
+
+  -- it is a step that leaves any claim
+  abbrev pub LookIsTurn : Type 0
+  LookIsTurn = (was now : SlotSeen D) (name : List ℕ) (answer : Result (List ℕ) SlotFault) (stub : Option Stub) (old new : List D) (claim : Claim)
+      → LookSays was now name answer stub old new
+      → TurnMoves ghosts.tells ghosts.files was now (noted stub) (shown_by answer) claim claim (views ghosts old) (views ghosts new)
+
+-- a call of a data drive in use, which gave this, and by which all drives were only read
+pub record ReadSays (set : SetPlan) (k : ℕ) (seen : Seen) (old new : List DriveView) : Type 0 where
+  pub within : k < length old
+  pub in_use : IsBitSet set.out k → ⊥
+  pub was_so : WasSo seen (view_at old k) (view_at new k)
+  pub read : AllOnlyRead old new
+  pub others : (other : ℕ) → other ≢ k → view_at new other ≡ view_at old other
+
+-- it is a step that leaves any claim
+abbrev pub ReadIsCall : Type 0
+ReadIsCall = (set : SetPlan) (k : ℕ) (seen : Seen) (old new : List DriveView) (claim : Claim) → ReadSays set k seen old new
+    → CallMoves set k seen claim claim old new

@@ -1,0 +1,123 @@
+-- What one step does to what it works on.
+use Rattle.std.specs.Prelude.{◌≡◌, ◌≢◌, ℕ, ◌+◌, ◌<◌, ◌≤◌, Bool, IsTrue, List, length, min, max, Option, Some, None, MatchOption}
+use Rattle.std.specs.Int.{IsBitSet}
+use Rattle.std.specs.Io.KnownBytes.{IsAtEnd}
+use Rattle.audit_trail.specs.declared.entry.Entry.{Entry}
+use Rattle.call_types.specs.Feeds.{Gave}
+use Rattle.call_types.specs.declared.feed.Cut.{Cut}
+use Rattle.call_types.specs.declared.feed.Cut.TheVariants.{BodyCut, NoMemory, ReadFault, ShardCut, WriteFault}
+use Rattle.desk_base.specs.Telling.{Effect, Telling}
+use Rattle.drive_base.specs.Files.{Files}
+use Rattle.drive_base.specs.View.{AllOnlyRead, DriveView, GoesOn, view_at}
+use Rattle.drive_base.specs.declared.plan.SetPlan.{SetPlan}
+use Rattle.fault_base.specs.Counts.{Rose}
+use Rattle.field_reader.specs.Spelling.{IsBytes}
+use Rattle.file_access.specs.Reading.{HasLength, IsPieceAt}
+use Rattle.slot_history.specs.Standing.{Records, Stands}
+use Rattle.slot_history.specs.State.{IsHeld, State}
+use Rattle.slot_data.specs.Holding.{Holding}
+use Rattle.slot_core.specs.Listing.{IsGiven, IsListable}
+use Rattle.slot_core.specs.Numbers.{NumbersMove}
+use Rattle.slot_core.specs.Turning.{EntryMoves}
+use Rattle.slot_core.specs.Views.{SlotNumbers, last_of, quorum_of}
+use Rattle.receipts.specs.Events.{Note, Seen, Shown}
+use Rattle.receipts.specs.Events.Seen.{CutShort, Faulted, Missing, Showed, Sized, Unwritten, Wrote}
+use Rattle.receipts.specs.Events.Shown.{ContentShown, NamesShown, NoneShown}
+use Rattle.receipts.specs.declared.barred.Barred.{Barred}
+use Rattle.receipts.specs.declared.barred.Barred.TheVariants as barred
+use Rattle.op_steps.specs.Claims.{Claim, DataHolds, among}
+use Rattle.op_steps.specs.Notes.{AuditCounts, AuditHas, IsNoted, entry_in}
+use Rattle.op_steps.specs.Store.{FeedSeen, LanesStand, SlotSeen, TellerSeen}
+
+-- what a section showed is so of the state before its deed: the content is that of its entry's register; of the registers that are held and that some
+-- change made each is named that is in the stretch of the names
+abbrev pub ShowsBy : Option Entry → Shown → State → State → Type 0
+ShowsBy entry NoneShown before after = Unit {0}
+ShowsBy entry (ContentShown content) before after = MatchOption entry ⊥ (λ made. content ≡ (before.registers made.name).content)
+ShowsBy entry (NamesShown from most names) before after = (name : List ℕ) → IsHeld before.registers name → (before.registers name).change ≢ 0
+    → IsListable from name → IsGiven most names name
+
+-- a section changes what its op holds of its own slot alone
+pub record ClaimMoves (index : ℕ) (claim later : Claim) : Type 0 where
+  pub slot : later.slot ≡ claim.slot
+  pub elsewhere : claim.slot ≢ index → later ≡ claim
+
+module _ {D : Type 0} (tells : D → Bool) (files : D → Files) where
+  -- what a section leaves of lanes that stood for a state: they stand for a state to which its entry moved, and whatever other ops hold, the data goes
+  -- on to hold
+  pub record TurnLeaves (was now : SlotSeen D) (note : Option Note) (shown : Shown) (claim later : Claim) (disks_old disks_new : List DriveView)
+      (records : Records) (state : State) : Type 0 where
+    pub records_after : Records
+    pub state_after : State
+    pub stands : LanesStand tells files now records_after state_after
+    pub moves : EntryMoves was.numbers.index (entry_in note) (ShowsBy (entry_in note) shown) records state records_after state_after
+    pub holds : (front rest : List Claim) → DataHolds was.numbers was.holding disks_old (among front claim rest) records state
+        → DataHolds now.numbers now.holding disks_new (among front later rest) records_after state_after
+
+  -- one section of a slot: one turn more, with its note; its entry is what the audit got; data drives are only read; and what it leaves of its lanes
+  pub record TurnMoves (was now : SlotSeen D) (note : Option Note) (shown : Shown) (claim later : Claim) (disks_old disks_new : List DriveView) : Type 0 where
+    pub numbers : NumbersMove was.numbers now.numbers
+    pub note_is : IsNoted was.numbers note
+    pub audit : AuditHas note was.entries now.entries
+    pub faults : AuditCounts note was.faults now.faults
+    pub claims : ClaimMoves was.numbers.index claim later
+    pub read : AllOnlyRead disks_old disks_new
+    pub leaves : (records : Records) (state : State) → LanesStand tells files was records state
+        → TurnLeaves was now note shown claim later disks_old disks_new records state
+
+-- why a section could not be done: the slot's turns are spent. For want of memory there is no cause
+abbrev pub BarCause : Barred → SlotNumbers → Type 0
+BarCause barred.Spent numbers = 18446744073709551615 ≤ numbers.turns
+BarCause barred.NoMemory numbers = Unit {0}
+
+-- what a call of a drive gave was so at its moment, by what a drive that tells showed, and its count of faults
+abbrev pub WasSo : Seen → DriveView → DriveView → Type 0
+WasSo (Sized name n) old new = (new.count ≡ old.count) × (IsTrue old.tells → HasLength old.files name n)
+WasSo (Showed name at bytes) old new = (new.count ≡ old.count) × IsBytes bytes × (IsTrue old.tells → IsPieceAt old.files name at bytes)
+WasSo (CutShort name at long place) old new = (new.count ≡ old.count) × (IsTrue old.tells → (file : List ℕ) × (old.files.shown name ≡ Some file)
+    × (length file < at + long) × (place ≡ min (max at (length file)) 18446744073709551615))
+WasSo (Missing name) old new = (new.count ≡ old.count) × (IsTrue old.tells → old.files.shown name ≡ None)
+WasSo (Unwritten name) old new = (new.count ≡ old.count) × (IsTrue old.tells → old.files.loose name ≡ None)
+WasSo Wrote old new = new.count ≡ old.count
+WasSo (Faulted before after) old new = (before ≡ old.count) × (after ≡ new.count) × Rose old.count new.count
+
+-- the lanes of a slot of these numbers stand for a state, with the puts that it lists
+abbrev pub RecordsStand : SlotNumbers → Holding → Records → State → Type 0
+RecordsStand numbers holding records state = Stands (quorum_of numbers) numbers.set.drives (last_of numbers) holding.flights records state
+
+-- one call of a data drive that is in use, and none of another; whatever other ops hold, the data of each slot goes on to hold
+pub record CallMoves (set : SetPlan) (k : ℕ) (seen : Seen) (claim later : Claim) (old new : List DriveView) : Type 0 where
+  pub within : k < length old
+  pub in_use : IsBitSet set.out k → ⊥
+  pub was_so : WasSo seen (view_at old k) (view_at new k)
+  pub goes_on : GoesOn (view_at old k) (view_at new k)
+  pub long : length new ≡ length old
+  pub others : (other : ℕ) → other ≢ k → view_at new other ≡ view_at old other
+  pub slot : later.slot ≡ claim.slot
+  pub holds : (numbers : SlotNumbers) (holding : Holding) (records : Records) (state : State) (front rest : List Claim) → numbers.set ≡ set
+      → RecordsStand numbers holding records state → DataHolds numbers holding old (among front claim rest) records state
+      → DataHolds numbers holding new (among front later rest) records state
+
+-- why taking bytes failed, after those that were given
+abbrev pub FeedCause : Option Cut → FeedSeen → FeedSeen → Type 0
+FeedCause None old new = new.faults ≡ old.faults
+FeedCause (Some ReadFault) old new = Rose old.faults new.faults
+FeedCause (Some (BodyCut read stated)) old new = (read ≡ new.view.given) × (stated ≡ new.view.stated) × (new.view.given < new.view.stated)
+    × IsAtEnd new.view.left × (new.faults ≡ old.faults)
+FeedCause (Some WriteFault) old new = ⊥
+FeedCause (Some (ShardCut whys)) old new = ⊥
+FeedCause (Some NoMemory) old new = ⊥
+
+-- bytes were taken of the body, the next ones
+pub record FeedMoves (bytes : List ℕ) (cut : Option Cut) (old new : FeedSeen) : Type 0 where
+  pub gave : Gave bytes old.view new.view
+  pub cause : FeedCause cut old new
+
+-- something was told and taken, or its sink failed in the midst of it, or nothing was done for want of memory
+abbrev pub TellMoves : {T : Type 0} → Effect T → Effect T → Telling → Option Cut → TellerSeen T → TellerSeen T → Type 0
+TellMoves takes breaks telling None old new = takes old.value telling new.value × (new.faults ≡ old.faults)
+TellMoves takes breaks telling (Some ReadFault) old new = ⊥
+TellMoves takes breaks telling (Some (BodyCut read stated)) old new = ⊥
+TellMoves takes breaks telling (Some WriteFault) old new = breaks old.value telling new.value × Rose old.faults new.faults
+TellMoves takes breaks telling (Some (ShardCut whys)) old new = ⊥
+TellMoves takes breaks telling (Some NoMemory) old new = (new.value ≡ old.value) × (new.faults ≡ old.faults)

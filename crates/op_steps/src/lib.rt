@@ -1,0 +1,22 @@
+//! The steps of a call on a store, and the one loop that does them for every call.
+//!
+//! An [`Op`] serves one call step by step: a step is a section of a slot, a call of a data drive, some bytes of the body, or a telling. Its contracts say what
+//! each step adds to the log of the call and what the event does to the store (`specs/Words.antt`, `specs/Moves.antt`), and where nothing is left that each log
+//! which it may have pays what the call owes (`Pays` of `receipts`). What an op holds of its slot and of the data drives between two steps is its claim, plain
+//! data (`specs/Claims.antt`); each step is said over whatever other ops claim, so ops need to know nothing of one another.
+//!
+//! [`run_op`] does the steps of any op over 64 slots and the data drives, and [`call_op`] serves a call by it. The laws say of any log of steps that the
+//! histories of the slots run by its entries, and that each step keeps the data of every slot. The crate stands on `receipts` for what is owed, on `slot_core`,
+//! `slot_history` and `slot_data` for slots and their data, on `put_stage` for the names of an id's files, and on `desk_base` for calls and tellers.
+#![tactic(auto)]
+
+mod laws;
+mod next;
+mod op;
+mod run;
+mod turning;
+
+pub use laws::{data_law, history_law, look_law, read_law};
+pub use next::OpNext;
+pub use op::Op;
+pub use run::{Served, call_op, run_op};

@@ -1,0 +1,6 @@
+pub mod ActLemmas
+pub mod GrowLemmas
+pub mod JoinLemmas
+pub mod OutcomeLemmas
+pub mod OweLemmas
+pub mod PayLemmas

@@ -1,0 +1,124 @@
+-- What is paid stays paid while quiet events are added.
+use Rattle.std.proofs.Common.{◌∙◌, ℕ, List, ◌∷◌, ◌++◌, All, None, length, append_assoc, inl, inr, sym, ap, subst}
+use Rattle.call_types.specs.declared.feed.Cut.{Cut}
+use Rattle.call_types.specs.declared.feed.Cut.TheVariants as cut_of
+use Rattle.call_types.specs.declared.names.Span.{Span}
+use Rattle.call_types.specs.declared.reply.Reply.{Reply}
+use Rattle.call_types.specs.declared.reply.Reply.TheVariants.{Found}
+use Rattle.call_types.specs.declared.version.Version.{Version}
+use Rattle.call_types.specs.declared.version.What.{What}
+use Rattle.call_types.specs.declared.version.What.TheVariants.{Marker, Object}
+use Rattle.call_types.specs.declared.why.Why.{Why}
+use Rattle.desk_base.specs.Answering.{Task}
+use Rattle.desk_base.specs.Telling.{Telling}
+use Rattle.desk_base.specs.Telling.Telling.{Head as TheHead}
+use Rattle.desk_base.specs.declared.call.Call.{Call}
+use Rattle.desk_base.specs.declared.call.Call.TheVariants.{Get}
+use Rattle.drive_base.specs.declared.plan.SetPlan.{SetPlan}
+use Rattle.receipts.specs.Clashes.{ClashIn, WasMet}
+use Rattle.receipts.specs.Events.{IsQuiet, Log}
+use Rattle.receipts.specs.Events.Event.{Told}
+use Rattle.receipts.specs.Laws.{QuietKeepsPay}
+use Rattle.receipts.specs.Paying.{BodyIsCut, IsTaleOf, Outcome, Owes, OwesCut, OwesPart, TellsFront, TellsOutcome, WasOwed}
+use Rattle.receipts.specs.Paying.Outcome.{CutOff, Replied}
+use Rattle.receipts.specs.Spans.{AreOfVersion, GivesBytes, GivesFound}
+use Rattle.receipts.proofs.GrowLemmas.{Grows, quiet_bodies, quiet_cuts, quiet_grows, quiet_tales}
+use Rattle.receipts.proofs.OweLemmas.{body_lost}
+
+-- a clash stays one
+met : (bytes : List ℕ) (log later : Log) → Grows log later → WasMet bytes log → WasMet bytes later
+met bytes log later g (inl x) =
+    inl (record { drive = x.drive; name = x.name; place = x.place; more = x.more; called = g.calls _ x.called; piece = x.piece })
+met bytes log later g (inr x) =
+    inr (record { drive = x.drive; name = x.name; manifest = x.manifest; canonical = x.canonical; called = g.calls _ x.called; text = x.text })
+
+clash_in : (set : SetPlan) (body print : List ℕ) (log later : Log) → Grows log later → ClashIn set body print log → ClashIn set body print later
+clash_in set body print log later g x = record { read = x.read; met = met x.read log later g x.met; clash = x.clash }
+
+-- bytes that are given stay those of a version
+of_version : (set : SetPlan) (what : What) (span : Span) (bytes : List ℕ) (log later : Log) → Grows log later
+    → AreOfVersion set what span bytes log → AreOfVersion set what span bytes later
+of_version set Marker span bytes log later g x = x
+of_version set (Object data_id print size md5 parts upload kind) span bytes log later g x = λ body has. elim (x body has) [
+  | inl given ↦ inl given
+  | inr clash ↦ inr (clash_in set body print log later g clash)
+]
+
+gives_found : (set : SetPlan) (call : Call) (version : Version) (span : Span) (bytes : List ℕ) (log later : Log) → Grows log later
+    → GivesFound set call version span bytes log → GivesFound set call version span bytes later
+gives_found set (Get at pick ask) version span bytes log later g x = of_version set version.what span bytes log later g x
+gives_found set other version span bytes log later g x = x
+
+gives_bytes : (set : SetPlan) (call : Call) (reply : Reply) (bytes : List ℕ) (log later : Log) → Grows log later
+    → GivesBytes set call reply bytes log → GivesBytes set call reply bytes later
+gives_bytes set call (Found version span id) bytes log later g x = gives_found set call version span bytes log later g x
+gives_bytes set call other bytes log later g x = x
+
+was_owed : (set : SetPlan) (task : Task) (reply : Reply) (log more : Log) → All IsQuiet more → WasOwed set task reply log
+    → WasOwed set task reply (log ++ more)
+was_owed set task reply log more quiet x = record {
+  before = x.before;
+  rest = x.rest ++ more;
+  parts = ap (λ l. l ++ more) x.parts ∙ append_assoc x.before (Told (TheHead reply) None ∷ x.rest) more;
+  first = x.first;
+  owed = x.owed;
+  over = quiet_bodies x.rest more quiet ∙ x.over;
+}
+
+front : (set : SetPlan) (task : Task) (reply : Reply) (bytes : List ℕ) (log more : Log) → All IsQuiet more
+    → TellsFront set task reply bytes log → TellsFront set task reply bytes (log ++ more)
+front set task reply bytes log more quiet x = record {
+  was_owed = was_owed set task reply log more quiet x.was_owed;
+  given = gives_bytes set task.call reply bytes log (log ++ more) (quiet_grows log more quiet) x.given;
+}
+
+part : (set : SetPlan) (task : Task) (tale : List Telling) (log more : Log) → All IsQuiet more → OwesPart set task tale log → OwesPart set task tale (log ++ more)
+part set task tale log more quiet (inl none) = inl none
+part set task tale log more quiet (inr x) = inr (x.0, x.1, x.2, x.3, front set task x.0 x.1 log more quiet x.4)
+
+body_cut : (set : SetPlan) (task : Task) (whys : List Why) (tale : List Telling) (log more : Log) → All IsQuiet more
+    → BodyIsCut set task whys tale log → BodyIsCut set task whys tale (log ++ more)
+body_cut set task whys tale log more quiet x = record {
+  version = x.version;
+  span = x.span;
+  id = x.id;
+  bytes = x.bytes;
+  tale_is = x.tale_is;
+  some = x.some;
+  less = x.less;
+  front = front set task _ x.bytes log more quiet x.front;
+  lost = body_lost set x.version x.span _ whys log (log ++ more) (quiet_grows log more quiet) x.lost;
+  uncut = quiet_cuts log more quiet ∙ x.uncut;
+}
+
+owes_cut : (set : SetPlan) (task : Task) (why : Cut) (tale : List Telling) (log more : Log) → All IsQuiet more
+    → OwesCut set task why tale log → OwesCut set task why tale (log ++ more)
+owes_cut set task cut_of.ReadFault tale log more quiet x = (x.0, quiet_cuts log more quiet ∙ x.1)
+owes_cut set task (cut_of.BodyCut read stated) tale log more quiet x =
+    (x.0, quiet_cuts log more quiet ∙ x.1, x.2 ∙ sym (ap length (quiet_bodies log more quiet)), x.3, x.4)
+owes_cut set task cut_of.WriteFault tale log more quiet x = (part set task tale log more quiet x.0, quiet_cuts log more quiet ∙ x.1)
+owes_cut set task (cut_of.ShardCut whys) tale log more quiet x = body_cut set task whys tale log more quiet x
+owes_cut set task cut_of.NoMemory tale log more quiet x = (
+  part set task tale log more quiet x.0,
+  elim x.1 [
+    | inl none ↦ inl (quiet_cuts log more quiet ∙ none)
+    | inr own ↦ inr (quiet_cuts log more quiet ∙ own)
+  ],
+)
+
+owes : (set : SetPlan) (task : Task) (outcome : Outcome) (log more : Log) → All IsQuiet more → Owes set task outcome log → Owes set task outcome (log ++ more)
+owes set task (Replied reply bytes) log more quiet x =
+    record { front = front set task reply bytes log more quiet x.front; whole = x.whole; uncut = quiet_cuts log more quiet ∙ x.uncut }
+owes set task (CutOff why tale) log more quiet x = owes_cut set task why tale log more quiet x
+
+tells : (outcome : Outcome) (log more : Log) → All IsQuiet more → TellsOutcome outcome log → TellsOutcome outcome (log ++ more)
+tells (Replied reply bytes) log more quiet x = subst (λ tale. IsTaleOf reply bytes tale) (sym (quiet_tales log more quiet)) x
+tells (CutOff why tale) log more quiet x = x ∙ sym (quiet_tales log more quiet)
+
+pub quiet_pays : QuietKeepsPay
+quiet_pays set task cut log more quiet x = record {
+  outcome = x.outcome;
+  ends = x.ends;
+  tells = tells x.outcome log more quiet x.tells;
+  owes = owes set task x.outcome log more quiet x.owes;
+}

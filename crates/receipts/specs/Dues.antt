@@ -1,0 +1,47 @@
+-- The replies that a step of a versioned object or of a bucket gives, from some state.
+use Rattle.std.specs.Prelude.{◌≡◌, ◌≢◌, ℕ, List, Option, Some, IsSome, Result, Ok, Err, slice_get}
+use Rattle.bucket_book.specs.Step.{Step as BucketSteps}
+use Rattle.bucket_book.specs.declared.record.BucketRecord.{BucketRecord}
+use Rattle.bucket_book.specs.declared.step.BucketAct.{BucketAct}
+use Rattle.call_types.specs.Refusals.{refusal_of}
+use Rattle.call_types.specs.declared.act.Act.{Act}
+use Rattle.call_types.specs.declared.names.Mode.{Mode}
+use Rattle.call_types.specs.declared.names.Pick.{Pick}
+use Rattle.call_types.specs.declared.refusal.KeyRefusal.{KeyRefusal}
+use Rattle.call_types.specs.declared.reply.Reply.{Reply}
+use Rattle.call_types.specs.declared.reply.Reply.TheVariants.{Found, Refused}
+use Rattle.call_types.specs.declared.version.Version.{Version}
+use Rattle.stamp_id.specs.declared.stamp.ChangeId.{ChangeId}
+use Rattle.stamp_id.specs.declared.version.VersionId.{VersionId}
+use Rattle.version_list.specs.Reads.{Reads}
+use Rattle.version_list.specs.Step.{Step, told}
+use Rattle.version_list.specs.declared.state.KeyState.{KeyState}
+use Rattle.receipts.specs.Spans.{whole_of}
+
+-- an act on a key can have this reply: it drew a change where it makes another state, and what it makes has the id that its slot makes of that change
+pub record IsDueChange (slot : ℕ) (mode : Mode) (act : Act) (change : Option ChangeId) (now : ℕ) (reply : Reply) : Type 0 where
+  pub old : KeyState
+  pub new : KeyState
+  pub id : VersionId
+  pub step : Step old mode act id now reply new
+  pub drawn : new ≢ old → IsSome change
+  pub id_is : (own : ChangeId) → change ≡ Some own → (id.change ≡ own) × (id.slot ≡ slot)
+
+-- the reply to a read of a key, by the place of the version that it finds, or the refusal
+abbrev pub RepliesRead : Mode → List Version → Result ℕ KeyRefusal → Reply → Type 0
+RepliesRead mode versions (Ok place) reply = (v : Version) × (slice_get versions place ≡ Some v) × (reply ≡ Found v (whole_of v) (told mode v.id))
+RepliesRead mode versions (Err why) reply = reply ≡ Refused (refusal_of why)
+
+-- a read of a key can have this reply
+pub record IsDueRead (mode : Mode) (pick : Pick) (reply : Reply) : Type 0 where
+  pub versions : List Version
+  pub answer : Result ℕ KeyRefusal
+  pub reads : Reads versions pick answer
+  pub replies : RepliesRead mode versions answer reply
+
+-- an act on a bucket can have this reply, and drew a change where it makes another row
+pub record IsDueBucket (act : BucketAct) (change : Option ChangeId) (now : ℕ) (reply : Reply) : Type 0 where
+  pub old : Option BucketRecord
+  pub new : Option BucketRecord
+  pub drawn : new ≢ old → IsSome change
+  pub step : BucketSteps old act now reply new

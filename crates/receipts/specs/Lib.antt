@@ -1,0 +1,15 @@
+pub mod Bucketing
+pub mod Clashes
+pub mod Committing
+pub mod Deleting
+pub mod Dues
+pub mod Events
+pub mod Laws
+pub mod Letters
+pub mod Looks
+pub mod Owes
+pub mod Paying
+pub mod Putting
+pub mod Reading
+pub mod Registers
+pub mod Spans

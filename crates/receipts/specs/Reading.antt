@@ -1,0 +1,96 @@
+-- What GetObject and HeadObject owe.
+use Rattle.std.specs.Prelude.{◌≡◌, ◌⊎◌, ℕ, ◌+◌, List, [], ◌∷◌, Ok, Err, Option}
+use Rattle.audit_trail.specs.declared.entry.Deed.TheVariants.{Done}
+use Rattle.call_types.specs.declared.act.Brief.TheVariants.{Answer, Read}
+use Rattle.call_types.specs.declared.names.Key.{Key}
+use Rattle.call_types.specs.declared.names.Mode.{Mode}
+use Rattle.call_types.specs.declared.names.Pick.{Pick}
+use Rattle.call_types.specs.declared.names.RangeAsk.{RangeAsk}
+use Rattle.call_types.specs.declared.names.Span.{Span}
+use Rattle.call_types.specs.declared.names.VersionName.{VersionName}
+use Rattle.call_types.specs.declared.refusal.Refusal.TheVariants.{InvalidRange, ShardQuorum}
+use Rattle.call_types.specs.declared.reply.Reply.{Reply}
+use Rattle.call_types.specs.declared.reply.Reply.TheVariants.{Found, Refused}
+use Rattle.call_types.specs.declared.version.Version.{Version}
+use Rattle.call_types.specs.declared.version.What.{What}
+use Rattle.call_types.specs.declared.version.What.TheVariants.{Marker, Object}
+use Rattle.call_types.specs.declared.why.Why.{Why}
+use Rattle.drive_base.specs.declared.plan.SetPlan.{SetPlan}
+use Rattle.span_plan.specs.Span.{Plans}
+use Rattle.span_plan.specs.declared.ranges.InvalidRange.{InvalidRange as Unsatisfiable}
+use Rattle.receipts.specs.Committing.{KeyIsBarred}
+use Rattle.receipts.specs.Dues.{IsDueRead}
+use Rattle.receipts.specs.Events.{Log, Section, sections_of}
+use Rattle.receipts.specs.Letters.{CannotRead, Wanted}
+use Rattle.receipts.specs.Looks.{EndsAtLook, FindsBucket, HasEntry, IsIdle, TellsRefusal}
+use Rattle.receipts.specs.Registers.{key_register, key_slot}
+use Rattle.receipts.specs.Spans.{body_length}
+
+-- a call's sections are the look at its bucket, which has this mode, and the read of its key, which was replied so for the whole body
+pub record ReadsKey (at : Key) (pick : Pick) (whole : Reply) (log : Log) : Type 0 where
+  pub look : Section
+  pub own : Section
+  pub sections : sections_of log ≡ look ∷ own ∷ []
+  pub mode : Mode
+  pub bucket : FindsBucket at.bucket mode look
+  pub entry : HasEntry (key_slot at) (key_register at) (Done (Read at mode pick) (Answer whole)) own.note
+  pub due : IsDueRead mode pick whole
+
+-- or it is refused
+pub record ReadIsRefused (at : Key) (reply : Reply) (log : Log) : Type 0 where
+  pub look : Section
+  pub own : Section
+  pub sections : sections_of log ≡ look ∷ own ∷ []
+  pub mode : Mode
+  pub bucket : FindsBucket at.bucket mode look
+  pub idle : IsIdle (key_slot at) (key_register at) own.note
+  pub refuses : TellsRefusal (key_slot at) own.note reply
+
+-- how a call ends that reads a key, where its section found no version
+abbrev pub EndsBeforeRead : Key → Reply → Log → Type 0
+EndsBeforeRead at reply log = EndsAtLook at.bucket reply log ⊎ ReadIsRefused at reply log ⊎ KeyIsBarred at reply log
+
+-- what is wanted of a version's body, up to the end of a span; a marker has none
+abbrev pub IsWanted : What → Span → Wanted → Type 0
+IsWanted Marker span wanted = ⊥
+IsWanted (Object data_id print size md5 parts upload kind) span wanted =
+    (wanted.id ≡ data_id) × (wanted.print ≡ print) × (wanted.reach ≡ span.at + span.length)
+
+-- the body of a version can't be read from a byte of the span on, by these letters
+pub record BodyIsLost (set : SetPlan) (version : Version) (span : Span) (next : ℕ) (whys : List Why) (log : Log) : Type 0 where
+  pub wanted : Wanted
+  pub is_wanted : IsWanted version.what span wanted
+  pub cause : CannotRead set wanted next whys log
+
+-- the range that a GetObject asks for is satisfiable in the version's body: the version is told with that span, or too few drives gave its first byte
+pub record SpanIsTold (set : SetPlan) (ask : RangeAsk) (version : Version) (id : Option VersionName) (reply : Reply) (log : Log) : Type 0 where
+  pub span : Span
+  pub plans : Plans (body_length version.what) ask (Ok span)
+  pub told : (reply ≡ Found version span id)
+      ⊎ ((whys : List Why) × BodyIsLost set version span span.at whys log × (reply ≡ Refused (ShardQuorum whys)))
+
+-- or it isn't
+pub record RangeIsInvalid (ask : RangeAsk) (version : Version) (reply : Reply) : Type 0 where
+  pub invalid : Unsatisfiable
+  pub plans : Plans (body_length version.what) ask (Err invalid)
+  pub told : reply ≡ Refused (InvalidRange invalid.0)
+
+-- what is told of what a read of the key was replied
+abbrev pub TellsRead : SetPlan → RangeAsk → Reply → Reply → Log → Type 0
+TellsRead set ask (Found version whole id) reply log = SpanIsTold set ask version id reply log ⊎ RangeIsInvalid ask version reply
+TellsRead set ask (Refused why) reply log = reply ≡ Refused why
+TellsRead set ask other reply log = ⊥
+
+-- a GetObject is told what its read found
+pub record GetIsTold (set : SetPlan) (at : Key) (pick : Pick) (ask : RangeAsk) (reply : Reply) (log : Log) : Type 0 where
+  pub whole : Reply
+  pub reads : ReadsKey at pick whole log
+  pub tells : TellsRead set ask whole reply log
+
+-- what a GetObject is answered
+abbrev pub GetOwes : SetPlan → Key → Pick → RangeAsk → Reply → Log → Type 0
+GetOwes set at pick ask reply log = EndsBeforeRead at reply log ⊎ GetIsTold set at pick ask reply log
+
+-- what a HeadObject is answered: the version with its whole body
+abbrev pub HeadOwes : Key → Pick → Reply → Log → Type 0
+HeadOwes at pick reply log = EndsBeforeRead at reply log ⊎ ReadsKey at pick reply log
