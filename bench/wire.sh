@@ -1,21 +1,24 @@
 #!/usr/bin/env bash
-# Times `next_head` of http_wire beside `parse_request` of the parser that it stands on, on the same heads, as boto3
-# sends them, in one run. It makes a temporary repository with copies of the crates and a small program, proves that,
-# builds it and runs it, which takes some minutes the first time. It prints nanoseconds of processor time a head, each
-# the best of several turns, and the ratio. A word is handed on to `rt run`, as in `bench/wire.sh --cpu=x86-64-v3`.
+# Times `next_head` of http_wire, alone and with `read_call` of s3_request, beside `parse_request` of the parser that
+# they stand on, on the same heads, as boto3 sends them, in one run. It makes a temporary repository with copies of the
+# crates and a small program, proves that, builds it and runs it, which takes some minutes the first time. It prints
+# nanoseconds of processor time a head, each the best of several turns, and what part of each the parser's time is. A
+# word is handed on to `rt run`, as in `bench/wire.sh --cpu=x86-64-v3`.
 set -euo pipefail
 
 source "$(dirname "$(readlink -f "${BASH_SOURCE[0]}")")/common.sh"
 
-new_program wire_bench http_wire io_base httparse
+new_program wire_bench s3_request http_wire io_base desk_base httparse
 cat >"$work/crates/wire_bench/src/main.rt" <<'END'
-//! Times the reading of heads, by http_wire and by the parser alone.
+//! Times the reading of heads, by http_wire, by it and s3_request, and by the parser alone.
 #![tactic(auto)]
 
+use desk_base::Call;
 use http_wire::Wire;
 use httparse::Status;
 use httparse::spans::{EMPTY_HEADER_SPAN, parse_request};
 use io_base::MemSource;
+use s3_request::read_call;
 use std::alloc::Global;
 use std::process::ExitCode;
 use std::time::{CpuClock, Duration};
@@ -53,12 +56,14 @@ fn measure(rt: &HostRuntime) -> Option<()> {
         bytes.extend_from_slice(HEAD).ok()?;
     }
     let mut wire = u64::MAX;
+    let mut call = u64::MAX;
     let mut kit = u64::MAX;
     for _ in 0..TURNS {
         wire = wire.min(time_wire(rt, &bytes)?);
+        call = call.min(time_call(rt, &bytes)?);
         kit = kit.min(time_kit(rt, &bytes)?);
     }
-    println!(rt; "{wire} {kit}").ok()
+    println!(rt; "{wire} {call} {kit}").ok()
 }
 
 /// The nanoseconds since this moment of the thread's clock.
@@ -84,6 +89,24 @@ fn time_wire(rt: &HostRuntime, bytes: &[u8]) -> Option<u64> {
     since(rt, from)
 }
 
+fn time_call(rt: &HostRuntime, bytes: &[u8]) -> Option<u64> {
+    let alloc: Global = rt.alloc();
+    let source = MemSource::new(Vec::from_slice(alloc, bytes).ok()?, Vec::new(alloc));
+    let mut wire = Wire::new(alloc, source).ok()?;
+    let from = rt.thread_cpu_time().ok()?;
+    for _ in 0..HEADS {
+        if wire.body_left() > 0 {
+            return None;
+        }
+        let head = wire.next_head(alloc).ok()??;
+        match read_call(alloc, &head, 0) {
+            Ok(Call::Get { .. }) => {}
+            _ => return None,
+        }
+    }
+    since(rt, from)
+}
+
 fn time_kit(rt: &HostRuntime, bytes: &[u8]) -> Option<u64> {
     let mut headers = [EMPTY_HEADER_SPAN; 64];
     let mut at = 0usize;
@@ -100,5 +123,5 @@ END
 
 run_program wire_bench "$@"
 "$work/crates/wire_bench/out/wire_bench" >"$work/out"
-echo "next_head ns  parse_request ns  ratio"
-awk '{ printf "%12.0f  %16.0f  %5.2f\n", $1 / 20000, $2 / 20000, $2 / $1 }' "$work/out"
+echo "next_head ns  with read_call ns  parse_request ns  ratio  ratio with read_call"
+awk '{ printf "%12.0f  %17.0f  %16.0f  %5.2f  %20.2f\n", $1 / 20000, $2 / 20000, $3 / 20000, $3 / $1, $3 / $2 }' "$work/out"

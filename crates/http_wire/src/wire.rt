@@ -107,6 +107,21 @@ impl<S: Source + Drop> Wire<S> {
         }
     }
 
+    /// Lifts a refusal, so that the next call asks the source again. What waits stays, and what is left of the body.
+    pub fn retry(&mut self)
+        ensures lifted { seen self.new ≡ record (seen self.old) { refused = None } }
+        ensures same { self.new.source ≡ self.old.source }
+    {
+        self.refused = None;
+    }
+
+    /// The source, behind all that was taken from it; what waits is lost.
+    pub fn into_source(self) -> S
+        ensures { result ≡ self.source }
+    {
+        self.source
+    }
+
     /// How many bytes of the last head's body were not read yet.
     pub fn body_left(&self) -> u64
         ensures { result ≡ self.now.body_left }

@@ -1,0 +1,7 @@
+use Rattle.std.proofs.Common.{◌≡◌, ◌++◌, map, take}
+use Rattle.s3_reply.specs.Documents.{key_content}
+use Rattle.s3_reply.specs.Xml.{printed, joined}
+use Rattle.s3_reply.proofs.keys.push_keys.Given as goal
+
+abbrev pub invariant-loop-row : goal.invariant-loop-row
+invariant-loop-row l = l.out.items ≡ l.initial.out.items ++ printed (joined (map (key_content l.encoded) (take l.row-index l.rows)))

@@ -1,0 +1,11 @@
+pub mod Asked
+pub mod Dates
+pub mod Documents
+pub mod Escaping
+pub mod Headers
+pub mod Laws
+pub mod Months
+pub mod Replies
+pub mod Statuses
+pub mod Words
+pub mod Xml

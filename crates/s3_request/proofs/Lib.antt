@@ -1,0 +1,11 @@
+pub mod BodyLemmas
+pub mod DigitLemmas
+pub mod IdLemmas
+pub mod IdTests
+pub mod LawfulLemmas
+pub mod LossyLemmas
+pub mod NameTests
+pub mod QueryLemmas
+pub mod ReadingLemmas
+pub mod TargetLemmas
+pub mod ValueLemmas

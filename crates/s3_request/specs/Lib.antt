@@ -1,0 +1,9 @@
+pub mod Arguments
+pub mod Bodies
+pub mod Names
+pub mod Pages
+pub mod Query
+pub mod Reads
+pub mod Refusing
+pub mod Routes
+pub mod Target

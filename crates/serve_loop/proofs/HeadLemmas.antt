@@ -1,0 +1,236 @@
+-- Turns from the reading of a head.
+use Rattle.std.proofs.Common.{◌≡◌, ◌⊎◌, inl, inr, ◌≤◌, ◌<◌, ◌+◌, ℕ, Bool, true, List, [], ◌∷◌, ◌++◌, length, take, Option, Some, None, refl, sym, ap, ◌∙◌, subst, arith, append_assoc, append-nil}
+use Rattle.std.specs.Prelude.{Result, Ok, Err, IfSome}
+use Rattle.std.specs.Io.KnownBytes.{prepend_known, append_known, IsAtEnd}
+use Rattle.fault_base.specs.Counts.{Rose}
+use Rattle.httparse.specs.Grammar.{print_request}
+use Rattle.http_wire.specs.Answers.{ReadsNext, Refuses}
+use Rattle.http_wire.specs.Heads.{IsOpen}
+use Rattle.http_wire.specs.Parts.{HeadParts}
+use Rattle.http_wire.specs.declared.fault.WireFault.{WireFault}
+use Rattle.http_wire.specs.declared.reading.Reading.TheVariants.{Whole, Refused as RefusedHead}
+use Rattle.call_types.specs.declared.feed.Cut.{Cut}
+use Rattle.call_types.specs.declared.feed.Cut.TheVariants as cut
+use Rattle.call_types.specs.declared.refusal.Refusal.{Refusal}
+use Rattle.call_types.specs.declared.reply.Reply.TheVariants.{Refused}
+use Rattle.desk_base.specs.Answering.{Task}
+use Rattle.desk_base.specs.Telling.{Telling}
+use Rattle.desk_base.specs.Telling.Telling.{Head}
+use Rattle.serve_loop.specs.Deeds.{Wires, wires, IsCutOff, IsExchange, Moved}
+use Rattle.serve_loop.specs.Exchanges.{Exchange, IsHead, IsUnread, unread, text_of}
+use Rattle.serve_loop.specs.Session.{Cuts, EndsSo, IsInHead, Parts}
+use Rattle.serve_loop.specs.Telling.{RefusesHead, refusal_text}
+use Rattle.serve_loop.specs.Turns.{TurnEnds, Turns}
+use Rattle.serve_loop.specs.declared.ends.ConnectionEnd.{ConnectionEnd}
+use Rattle.serve_loop.specs.declared.ends.ConnectionEnd.TheVariants.{Over, Closed, InputCut, ReadFault, WriteFault, ReplyCut, NoMemory}
+use Rattle.serve_loop.specs.declared.ends.Turn.{Turn}
+use Rattle.serve_loop.specs.declared.ends.Turn.TheVariants.{Answered, Ended}
+use Rattle.serve_loop.specs.declared.manner.Manner.TheVariants.{ServerCloses}
+use Rattle.serve_loop.proofs.IntakeLemmas.{prepend_both}
+use Rattle.serve_loop.proofs.TellingLemmas.{append_both, append_none}
+
+-- ---- what was read
+
+-- a head and what is behind it
+pub record ReadFront (head : HeadParts) (size : ℕ) (before waits : List ℕ) (left after : Option (List ℕ)) : Type 0 where
+  pub front : List ℕ
+  pub is : IsHead front head size
+  pub took : prepend_known before left ≡ prepend_known front (prepend_known waits after)
+
+pub read_front : (head : HeadParts) (size : ℕ) (before waits : List ℕ) (left after : Option (List ℕ)) (faults faults_after : ℕ)
+    → ReadsNext (Whole head size) before waits left after faults faults_after → ReadFront head size before waits left after
+read_front head size before waits left after faults faults_after reads =
+    let given = reads.decides.0 in
+    let front = print_request given.tree in
+    record {
+      front = front;
+      is = record {
+        tree = given.tree;
+        grammar = given.begins.reads.0;
+        is = refl;
+        bytes = given.begins.bytes;
+        lines = given.begins.lines;
+        parts = given.parts;
+        states = given.length_is;
+        plain = given.plain;
+      };
+      took = ap (prepend_known before) reads.came.left_is ∙ prepend_both before reads.came.piece after
+          ∙ ap (λ l. prepend_known l after) (sym reads.came.text_is ∙ given.begins.reads.1) ∙ sym (prepend_both front waits after);
+    }
+
+-- the text that was no head
+pub took_text : (fault : WireFault) (before waits : List ℕ) (left after : Option (List ℕ)) (faults faults_after : ℕ)
+    → (reads : ReadsNext (RefusedHead fault) before waits left after faults faults_after) → prepend_known before left ≡ prepend_known reads.text after
+took_text fault before waits left after faults faults_after reads =
+    ap (prepend_known before) reads.came.left_is ∙ prepend_both before reads.came.piece after ∙ ap (λ l. prepend_known l after) (sym reads.came.text_is)
+
+-- ---- later wires
+
+rose_later : (a b c : ℕ) → a ≤ b → Rose b c → Rose a c
+rose_later a b c low rose = (omega (arith, low, rose.0), elim rose.1 [ inl up ↦ inl (omega (arith, low, up)) | inr last ↦ inr last ])
+
+pub moved_later : (taken more given others : List ℕ) (a b c : Wires) → Moved taken given a b → Moved more others b c → Moved (taken ++ more) (given ++ others) a c
+moved_later taken more given others a b c first second = record {
+  took = first.took ∙ ap (prepend_known taken) second.took ∙ prepend_both taken more c.left;
+  gave = second.gave ∙ ap (λ g. append_known g others) first.gave ∙ append_both a.given given others;
+  reads = omega (arith, first.reads, second.reads);
+  writes = omega (arith, first.writes, second.writes);
+}
+
+cut_later : (why : Cut) (x : Exchange) (ahead out : List ℕ) (a b c : Wires) → a.read_faults ≤ b.read_faults → a.write_faults ≤ b.write_faults
+    → IsCutOff why x ahead out b c → IsCutOff why x ahead out a c
+cut_later cut.ReadFault x ahead out a b c reads writes off = record { part = off.part; silent = off.silent; cause = (rose_later _ _ _ reads off.cause.0, off.cause.1) }
+cut_later (cut.BodyCut r s) x ahead out a b c reads writes off = record { part = off.part; silent = off.silent; cause = off.cause }
+cut_later cut.WriteFault x ahead out a b c reads writes off = record { part = off.part; silent = off.silent; cause = (rose_later _ _ _ writes off.cause.0, off.cause.1) }
+cut_later (cut.ShardCut whys) x ahead out a b c reads writes off = record { part = off.part; silent = off.silent; cause = off.cause }
+cut_later cut.NoMemory x ahead out a b c reads writes off = record { part = off.part; silent = off.silent; cause = off.cause }
+
+module _ {M R : Type 0} (answers : Task → M → M → List ℕ → List Telling → Result R Cut → Type 0) (clock : Option ℕ) where
+  cuts_later : (why : Cut) (number : ℕ) (old new : M) (taken out : List ℕ) (a b c : Wires) → a.read_faults ≤ b.read_faults → a.write_faults ≤ b.write_faults
+      → Cuts answers clock why number old new taken out b c → Cuts answers clock why number old new taken out a c
+  cuts_later why number old new taken out a b c reads writes cuts = record {
+    x = cuts.x;
+    ahead = cuts.ahead;
+    short = record { is = cuts.short.is; came = cuts.short.came; cut_off = cut_later why cuts.x cuts.ahead out a b c reads writes cuts.short.cut_off };
+    took = cuts.took;
+  }
+
+  pub ends_later : (end : ConnectionEnd) (number : ℕ) (old new : M) (taken out : List ℕ) (a b c : Wires) → a.read_faults ≤ b.read_faults → a.write_faults ≤ b.write_faults
+      → EndsSo answers clock end number old new taken out b c → EndsSo answers clock end number old new taken out a c
+  ends_later Over number old new taken out a b c reads writes ends = ends
+  ends_later Closed number old new taken out a b c reads writes ends = ends
+  ends_later InputCut number old new taken out a b c reads writes (inl head) = inl head
+  ends_later InputCut number old new taken out a b c reads writes (inr (r, s, cuts)) = inr (r, s, cuts_later (cut.BodyCut r s) number old new taken out a b c reads writes cuts)
+  ends_later ReadFault number old new taken out a b c reads writes (inl head) = inl (head.0, head.1, rose_later _ _ _ reads head.2)
+  ends_later ReadFault number old new taken out a b c reads writes (inr cuts) = inr (cuts_later cut.ReadFault number old new taken out a b c reads writes cuts)
+  ends_later WriteFault number old new taken out a b c reads writes cuts = cuts_later cut.WriteFault number old new taken out a b c reads writes cuts
+  ends_later (ReplyCut whys) number old new taken out a b c reads writes cuts = cuts_later (cut.ShardCut whys) number old new taken out a b c reads writes cuts
+  ends_later NoMemory number old new taken out a b c reads writes (inl none) = inl none
+  ends_later NoMemory number old new taken out a b c reads writes (inr cuts) = inr (cuts_later cut.NoMemory number old new taken out a b c reads writes cuts)
+
+  -- a turn that began with the reading of a head
+  pub deeper : (turn : Turn) (number : ℕ) (front : List ℕ) (old new : M) (start mid going shut : Wires) → Moved front [] start mid
+      → Turns answers clock turn number front old new mid going shut → Turns answers clock turn number [] old new start going shut
+  deeper Answered number front old new start mid going shut first turns = record {
+    x = turns.x;
+    answered = turns.answered;
+    stays = turns.stays;
+    part = front ++ turns.part;
+    is = turns.is;
+    moved = moved_later front turns.part [] (text_of turns.x) start mid going first turns.moved;
+  }
+  deeper (Ended end) number front old new start mid going shut first turns = record {
+    taken = turns.taken;
+    part = front ++ turns.part;
+    is = turns.is;
+    out = turns.out;
+    moved = moved_later front turns.part [] turns.out start mid shut first turns.moved;
+    ends = ends_later end number old new turns.taken turns.out start mid shut first.reads first.writes turns.ends;
+  }
+
+  -- ---- no head
+
+  -- the exchange of a head that is refused
+  abbrev unread_x : (why : Refusal) (now : ℕ) (text : List ℕ) → Exchange
+  unread_x why now text = record { ask = unread why; front = text; body = []; now = now; manner = ServerCloses; tale = Head (Refused why) ∷ [] }
+
+  unread_is : (why : Refusal) (now number : ℕ) (text : List ℕ) → IsUnread why text → IfSome clock (λ told. now ≡ told) → now < 253402300800 → IsExchange clock number (unread_x why now text)
+  unread_is why now number text asks moment range = record { asks = asks; moment = moment; range = range; manner = inr refl }
+
+  pub unread_turn : (turn : Turn) (why : Refusal) (now number : ℕ) (same : M) (text : List ℕ) (ahead left given given_after : Option (List ℕ)) (reads reads_after writes writes_after : ℕ) (going : Wires)
+      → IsUnread why text → IfSome clock (λ told. now ≡ told) → now < 253402300800 → ahead ≡ prepend_known text left → reads_after ≡ reads
+      → RefusesHead turn why now given given_after writes writes_after
+      → Turns answers clock turn number [] same same (wires ahead given reads writes) going (wires left given_after reads_after writes_after)
+  unread_turn Answered why now number same text ahead left given given_after reads reads_after writes writes_after going asks moment range took read refuses = absurd refuses
+  unread_turn (Ended Over) why now number same text ahead left given given_after reads reads_after writes writes_after going asks moment range took read refuses = absurd refuses
+  unread_turn (Ended InputCut) why now number same text ahead left given given_after reads reads_after writes writes_after going asks moment range took read refuses = absurd refuses
+  unread_turn (Ended ReadFault) why now number same text ahead left given given_after reads reads_after writes writes_after going asks moment range took read refuses = absurd refuses
+  unread_turn (Ended (ReplyCut whys)) why now number same text ahead left given given_after reads reads_after writes writes_after going asks moment range took read refuses = absurd refuses
+  unread_turn (Ended Closed) why now number same text ahead left given given_after reads reads_after writes writes_after going asks moment range took read refuses = record {
+    taken = text;
+    part = text;
+    is = refl;
+    out = refusal_text why now ++ [];
+    moved = record {
+      took = took;
+      gave = refuses.0 ∙ ap (append_known given) (sym (append-nil (refusal_text why now)));
+      reads = omega (arith, read);
+      writes = omega (arith, refuses.1);
+    };
+    ends = record {
+      x = unread_x why now text;
+      answered = record { is = unread_is why now number text asks moment range; whole = refl; made = (refl, refl) };
+      manner_is = refl;
+      ahead = [];
+      took = sym (append-nil (text ++ []) ∙ append-nil text);
+      gave = refl;
+    };
+  }
+  unread_turn (Ended WriteFault) why now number same text ahead left given given_after reads reads_after writes writes_after going asks moment range took read refuses = record {
+    taken = text;
+    part = text;
+    is = refl;
+    out = take refuses.0.count (refusal_text why now);
+    moved = record { took = took; gave = refuses.0.front; reads = omega (arith, read); writes = refuses.1.0 };
+    ends = record {
+      x = unread_x why now text;
+      ahead = [];
+      short = record {
+        is = unread_is why now number text asks moment range;
+        came = inr (inl (refl, refl));
+        cut_off = record {
+          part = omega arith;
+          silent = λ short. absurd (omega (arith, short));
+          cause = (refuses.1, (refuses.0.count, ap (take refuses.0.count) (sym (append-nil (refusal_text why now)))));
+        };
+      };
+      took = sym (append-nil (text ++ []) ∙ append-nil text);
+    };
+  }
+  unread_turn (Ended NoMemory) why now number same text ahead left given given_after reads reads_after writes writes_after going asks moment range took read refuses = record {
+    taken = text;
+    part = text;
+    is = refl;
+    out = [];
+    moved = record { took = took; gave = refuses.0 ∙ sym (append_none given); reads = omega (arith, read); writes = omega (arith, refuses.1) };
+    ends = inl (refl, refl);
+  }
+
+  -- the source ended in a head
+  pub head_cut : (number : ℕ) (same : M) (text : List ℕ) (ahead left given : Option (List ℕ)) (reads reads_after writes : ℕ)
+      → IsOpen text → IsAtEnd left → 0 < length text → ahead ≡ prepend_known text left → reads_after ≡ reads
+      → TurnEnds answers clock InputCut number [] same same (wires ahead given reads writes) (wires left given reads_after writes)
+  head_cut number same text ahead left given reads reads_after writes begun ended some took read = record {
+    taken = text;
+    part = text;
+    is = refl;
+    out = [];
+    moved = record { took = took; gave = sym (append_none given); reads = omega (arith, read); writes = omega arith };
+    ends = inl (record { begun = begun; nothing = refl }, some, refl, ended);
+  }
+
+  -- the source failed in a head, or before one
+  pub head_failed : (number : ℕ) (same : M) (text : List ℕ) (ahead left given : Option (List ℕ)) (reads reads_after writes : ℕ)
+      → IsOpen text → ahead ≡ prepend_known text left → Rose reads reads_after
+      → TurnEnds answers clock ReadFault number [] same same (wires ahead given reads writes) (wires left given reads_after writes)
+  head_failed number same text ahead left given reads reads_after writes begun took rose = record {
+    taken = text;
+    part = text;
+    is = refl;
+    out = [];
+    moved = record { took = took; gave = sym (append_none given); reads = rose.0; writes = omega arith };
+    ends = inl (record { begun = begun; nothing = refl }, refl, rose);
+  }
+
+  -- no memory was found for a head
+  pub head_starved : (number : ℕ) (same : M) (text : List ℕ) (ahead left given : Option (List ℕ)) (reads reads_after writes : ℕ)
+      → ahead ≡ prepend_known text left → reads_after ≡ reads
+      → TurnEnds answers clock NoMemory number [] same same (wires ahead given reads writes) (wires left given reads_after writes)
+  head_starved number same text ahead left given reads reads_after writes took read = record {
+    taken = text;
+    part = text;
+    is = refl;
+    out = [];
+    moved = record { took = took; gave = sym (append_none given); reads = omega (arith, read); writes = omega arith };
+    ends = inl (refl, refl);
+  }

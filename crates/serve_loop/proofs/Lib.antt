@@ -1,0 +1,10 @@
+pub mod AskLemmas
+pub mod CallLemmas
+pub mod CutLemmas
+pub mod HeadLemmas
+pub mod IdleLemmas
+pub mod IntakeLemmas
+pub mod RestLemmas
+pub mod SessionLemmas
+pub mod TellingLemmas
+pub mod TurnLemmas

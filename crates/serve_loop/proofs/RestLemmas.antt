@@ -1,0 +1,194 @@
+-- The rest of a request: its greeting, its body, and a refusal.
+use Rattle.std.proofs.Common.{◌≡◌, ◌⊎◌, inl, inr, ◌≤◌, ◌<◌, ◌+◌, ℕ, Bool, true, false, cond, not, ◌&&◌, List, [], ◌∷◌, ◌++◌, length, take, Option, Some, None, refl, sym, ap, ◌∙◌, subst, arith, append_assoc, append-nil, length-append}
+use Rattle.std.proofs.Math.Seq.{take-append-add, take-append_seam}
+use Rattle.std.proofs.lemmas.List.{take-append-le}
+use Rattle.std.specs.Prelude.{Result, Ok, Err}
+use Rattle.std.specs.Result.{IsErrAnd}
+use Rattle.std.specs.Io.KnownBytes.{prepend_known, append_known, IsAtEnd}
+use Rattle.fault_base.specs.Counts.{Rose}
+use Rattle.io_base.specs.Sink.{GaveFront}
+use Rattle.http_wire.specs.Answers.{Wired}
+use Rattle.call_types.specs.declared.feed.Cut.{Cut}
+use Rattle.call_types.specs.declared.feed.Cut.TheVariants.{ReadFault, BodyCut, WriteFault, ShardCut, NoMemory}
+use Rattle.call_types.specs.declared.refusal.Refusal.{Refusal}
+use Rattle.call_types.specs.declared.reply.Reply.TheVariants.{Refused}
+use Rattle.desk_base.specs.Telling.{Telling}
+use Rattle.desk_base.specs.Telling.Telling.{Head}
+use Rattle.s3_reply.specs.Replies.{reply_bytes}
+use Rattle.serve_loop.specs.Deeds.{Wires, wires, IsFront, Moved}
+use Rattle.http_wire.specs.Parts.{HeadParts}
+use Rattle.serve_loop.specs.Asks.{expects_continue, leaves_body}
+use Rattle.serve_loop.specs.Exchanges.{Ask, refused, greeting, call_of, closes, continue_of, head_of, size_of, tale_text}
+use Rattle.serve_loop.specs.Intakes.{CutsOver, unread_of}
+use Rattle.serve_loop.specs.Telling.{GivesFront, MakesText}
+use Rattle.serve_loop.specs.Turns.{IsShort, IsWhole, RefuseGoes, refusal_rest, rest_of}
+use Rattle.serve_loop.specs.declared.manner.Manner.{Manner}
+use Rattle.serve_loop.proofs.IntakeLemmas.{prepend_none}
+use Rattle.serve_loop.proofs.TellingLemmas.{append_both, append_none}
+
+-- ---- fronts
+
+-- a text is a front of itself and more
+pub front_all : (text more : List ℕ) → IsFront text (text ++ more)
+front_all text more = (length text, sym (take-append_seam text more))
+
+-- a front of a text is one of the text and more
+pub front_more : (text more : List ℕ) (n : ℕ) → n ≤ length text → IsFront (take n text) (text ++ more)
+front_more text more n within = (n, sym (take-append-le n text more within))
+
+-- a front behind a text
+pub front_behind : (text out more : List ℕ) → IsFront out more → IsFront (text ++ out) (text ++ more)
+front_behind text out more (n, is) = (length text + n, ap (λ l. text ++ l) is ∙ sym (take-append-add text more n))
+
+pub front_same : (text : List ℕ) → IsFront text text
+front_same text = subst (IsFront text) (append-nil text) (front_all text [])
+
+pub front_none : (text : List ℕ) → IsFront [] text
+front_none text = (0, refl)
+
+-- ---- the greeting
+
+-- a refusal behind the body is greeted as the head awaits
+pub greets_refused : (head : HeadParts) (why : Refusal) (n size : ℕ) → n ≡ size → leaves_body why ≡ false
+    → greeting (expects_continue head n) ≡ continue_of (refused head size why)
+greets_refused head why n size is stays =
+    ap (λ m. greeting (expects_continue head m)) is ∙ ap (λ b. greeting (not b && expects_continue head size)) (sym stays)
+
+-- and its whole body is read
+pub size_refused : (head : HeadParts) (why : Refusal) (size : ℕ) → leaves_body why ≡ false → size ≡ size_of (refused head size why)
+size_refused head why size stays = ap (λ b. cond b 0 size) (sym stays)
+
+-- a refusal that leaves the body unread is not greeted
+pub greets_none : (head : HeadParts) (why : Refusal) (size : ℕ) → leaves_body why ≡ true → [] ≡ continue_of (refused head size why)
+greets_none head why size leaves = ap (λ b. greeting (not b && expects_continue head size)) (sym leaves)
+
+-- and none of its body is read
+pub size_none : (head : HeadParts) (why : Refusal) (size : ℕ) → leaves_body why ≡ true → 0 ≡ size_of (refused head size why)
+size_none head why size leaves = ap (λ b. cond b 0 size) (sym leaves)
+
+-- the sink failed in the greeting
+pub greet_cut : (why : Cut) (ask : Ask) (now : ℕ) (manner : Manner) (tale : List Telling) (text : List ℕ) (left given given_after : Option (List ℕ)) (reads writes writes_after : ℕ)
+    → text ≡ continue_of ask → GivesFront why text given given_after writes writes_after
+    → IsShort why (rest_of ask now manner [] tale) (wires left given reads writes) (wires left given_after reads writes_after)
+greet_cut WriteFault ask now manner tale text left given given_after reads writes writes_after is gave = record {
+  out = take gave.0.count text;
+  cut_off = record {
+    part = omega arith;
+    silent = λ short. (gave.0.count, ap (take gave.0.count) is);
+    cause = (
+      gave.1,
+      subst (λ t. IsFront (take gave.0.count text) (t ++ tale_text (head_of ask) (call_of ask) now (closes manner) tale)) is
+          (front_more text (tale_text (head_of ask) (call_of ask) now (closes manner) tale) gave.0.count gave.0.within),
+    );
+  };
+  moved = record { took = prepend_none left; gave = gave.0.front; reads = omega arith; writes = gave.1.0 };
+}
+greet_cut ReadFault ask now manner tale text left given given_after reads writes writes_after is gave = absurd gave
+greet_cut (BodyCut _ _) ask now manner tale text left given given_after reads writes writes_after is gave = absurd gave
+greet_cut (ShardCut _) ask now manner tale text left given given_after reads writes writes_after is gave = absurd gave
+greet_cut NoMemory ask now manner tale text left given given_after reads writes writes_after is gave = absurd gave
+
+-- ---- the body
+
+-- the source ended or failed in the body, behind the greeting
+pub pass_cut : (why : Cut) (ask : Ask) (now : ℕ) (manner : Manner) (tale : List Telling) (old new : Wired) (left after given given_after : Option (List ℕ)) (reads reads_after writes writes_after : ℕ)
+    → old.body_left ≡ size_of ask → given_after ≡ append_known given (continue_of ask) → writes_after ≡ writes → CutsOver why old new left after reads reads_after
+    → (body : List ℕ) × IsShort why (rest_of ask now manner body tale) (wires (unread_of old left) given reads writes) (wires (unread_of new after) given_after reads_after writes_after)
+pass_cut ReadFault ask now manner tale old new left after given given_after reads reads_after writes writes_after size gave same cut = (
+  cut.0.part,
+  record {
+    out = continue_of ask;
+    cut_off = record {
+      part = omega (arith, cut.0.long, size);
+      silent = λ short. front_same (continue_of ask);
+      cause = (cut.1, front_all (continue_of ask) (tale_text (head_of ask) (call_of ask) now (closes manner) tale));
+    };
+    moved = record { took = cut.0.took; gave = gave; reads = cut.1.0; writes = omega (arith, same) };
+  },
+)
+pass_cut (BodyCut read stated) ask now manner tale old new left after given given_after reads reads_after writes writes_after size gave same cut = (
+  cut.0.part,
+  record {
+    out = continue_of ask;
+    cut_off = record {
+      part = omega (arith, cut.0.long, size);
+      silent = λ short. front_same (continue_of ask);
+      cause = (omega (arith, cut.0.long, size), subst IsAtEnd (prepend_none (unread_of new after)) cut.1, refl);
+    };
+    moved = record { took = cut.0.took; gave = gave; reads = omega (arith, cut.2); writes = omega (arith, same) };
+  },
+)
+pass_cut WriteFault ask now manner tale old new left after given given_after reads reads_after writes writes_after size gave same cut = absurd cut
+pass_cut (ShardCut _) ask now manner tale old new left after given given_after reads reads_after writes writes_after size gave same cut = absurd cut
+pass_cut NoMemory ask now manner tale old new left after given given_after reads reads_after writes writes_after size gave same cut = absurd cut
+
+-- ---- a refusal
+
+-- its text
+abbrev refusal_of : Ask → Refusal → ℕ → Bool → List ℕ
+refusal_of ask why now close = reply_bytes (record { head = head_of ask; call = call_of ask; reply = Refused why }) now close
+
+refusal_tale : (ask : Ask) (why : Refusal) (now : ℕ) (manner : Manner) (close : Bool) → close ≡ closes manner
+    → refusal_of ask why now close ≡ tale_text (head_of ask) (call_of ask) now (closes manner) (Head (Refused why) ∷ [])
+refusal_tale ask why now manner close is = ap (refusal_of ask why now) is ∙ sym (append-nil (refusal_of ask why now (closes manner)))
+
+-- the text of a refusal behind the greeting and the body
+pub refusal_given : (result : Result (Unit {0}) Cut) (ask : Ask) (why : Refusal) (now : ℕ) (manner : Manner) (body : List ℕ) (close : Bool) (left after given greeted given_after : Option (List ℕ)) (reads reads_after writes writes_mid writes_after : ℕ)
+    → close ≡ closes manner
+    → length body ≡ size_of ask → left ≡ prepend_known body after → reads_after ≡ reads → greeted ≡ append_known given (continue_of ask) → writes_mid ≡ writes
+    → MakesText result (reply_bytes (record { head = head_of ask; call = call_of ask; reply = Refused why }) now close) greeted given_after writes_mid writes_after
+    → RefuseGoes result ask why now manner (wires left given reads writes) (wires after given_after reads_after writes_after)
+refusal_given (Ok _) ask why now manner body close left after given greeted given_after reads reads_after writes writes_mid writes_after is whole took read greet wrote made = (
+  body,
+  record {
+    whole = whole;
+    moved = record {
+      took = took;
+      gave = made.0 ∙ ap (λ g. append_known g (refusal_of ask why now close)) greet ∙ append_both given (continue_of ask) (refusal_of ask why now close)
+          ∙ ap (λ l. append_known given (continue_of ask ++ l)) (refusal_tale ask why now manner close is);
+      reads = omega (arith, read);
+      writes = omega (arith, wrote, made.1);
+    };
+  },
+)
+refusal_given (Err WriteFault) ask why now manner body close left after given greeted given_after reads reads_after writes writes_mid writes_after is whole took read greet wrote made =
+    let text = refusal_of ask why now close in
+    let full = refusal_tale ask why now manner close is in
+    let n = made.0.count in (
+      body,
+      record {
+        out = continue_of ask ++ take n text;
+        cut_off = record {
+          part = omega (arith, whole);
+          silent = λ short. absurd (omega (arith, whole, short));
+          cause = (subst (λ w. Rose w writes_after) wrote made.1, front_behind (continue_of ask) (take n text) _ (n, ap (take n) full));
+        };
+        moved = record {
+          took = took;
+          gave = made.0.front ∙ ap (λ g. append_known g (take n text)) greet ∙ append_both given (continue_of ask) (take n text);
+          reads = omega (arith, read);
+          writes = omega (arith, wrote, made.1.0);
+        };
+      },
+    )
+refusal_given (Err NoMemory) ask why now manner body close left after given greeted given_after reads reads_after writes writes_mid writes_after is whole took read greet wrote made = (
+  body,
+  record {
+    out = continue_of ask;
+    cut_off = record {
+      part = omega (arith, whole);
+      silent = λ short. front_same (continue_of ask);
+      cause = front_all (continue_of ask) _;
+    };
+    moved = record { took = took; gave = made.0 ∙ greet; reads = omega (arith, read); writes = omega (arith, wrote, made.1) };
+  },
+)
+refusal_given (Err ReadFault) ask why now manner body close left after given greeted given_after reads reads_after writes writes_mid writes_after is whole took read greet wrote made = absurd made
+refusal_given (Err (BodyCut _ _)) ask why now manner body close left after given greeted given_after reads reads_after writes writes_mid writes_after is whole took read greet wrote made = absurd made
+refusal_given (Err (ShardCut _)) ask why now manner body close left after given greeted given_after reads reads_after writes writes_mid writes_after is whole took read greet wrote made = absurd made
+
+-- a refusal that was cut before
+pub refuse_err : (result : Result (Unit {0}) Cut) (cut : Cut) (ask : Ask) (why : Refusal) (now : ℕ) (manner : Manner) (before after : Wires)
+    → IsErrAnd result (λ e. e ≡ cut) → ((body : List ℕ) × IsShort cut (refusal_rest ask why now manner body) before after) → RefuseGoes result ask why now manner before after
+refuse_err (Ok _) cut ask why now manner before after is short = absurd is
+refuse_err (Err e) cut ask why now manner before after is short = (short.0, subst (λ c. IsShort c (refusal_rest ask why now manner short.0) before after) (sym is) short.1)

@@ -1,0 +1,7 @@
+use Rattle.std.proofs.Common.{◌≡◌, drop}
+use Rattle.serve_loop.specs.Asks.{ends_token}
+use Rattle.serve_loop.proofs.asks.ends_token.Given as goal
+
+-- what the rest says is what the whole says
+abbrev pub invariant-loop-byte : goal.invariant-loop-byte
+invariant-loop-byte l = ends_token (drop l.byte-index l.fn.after) ≡ ends_token l.fn.after

@@ -1,0 +1,38 @@
+use Rattle.std.proofs.Common.{true, false, [], ◌∷◌, refl, sym, ap, ◌∙◌, cond}
+use Rattle.std.specs.Io.KnownBytes.{append_known}
+use Rattle.call_types.specs.declared.reply.Reply.TheVariants.{Refused}
+use Rattle.desk_base.specs.Telling.Telling.{Head}
+use Rattle.s3_reply.specs.Replies.{reply_bytes}
+use Rattle.serve_loop.specs.Exchanges.{refused}
+use Rattle.serve_loop.specs.Seen.{wire_of}
+use Rattle.serve_loop.specs.Turns.{RefuseGoes}
+use Rattle.serve_loop.proofs.RestLemmas.{greet_cut, greets_refused, pass_cut, refuse_err, refusal_given, size_refused}
+use Rattle.serve_loop.proofs.serving.refuse_call.Goals as goal
+
+-- src/serving.rt:139:5
+pub returns-in_err-greet-clause-goes : goal.returns-in_err-greet-clause-goes
+returns-in_err-greet-clause-goes g c manner is =
+    refuse_err c.from_residual.result c.in_err-greet.field-0.0 _ _ _ _ _ _ c.from_residual.ensures.1 (
+      [],
+      greet_cut c.in_err-greet.field-0.0 (refused c.args.head.now c.args.intake.now.stated c.args.why) _ manner (Head (Refused c.args.why) ∷ []) _ _ _ _ _ _ _
+          (greets_refused c.args.head.now c.args.why _ _ (c.body_left.ensures ∙ c.requires.fresh) c.requires.reads) c.in_err-greet.ensures,
+    )
+
+-- src/serving.rt:140:5
+pub returns-in_err-pass_over-clause-goes : goal.returns-in_err-pass_over-clause-goes
+returns-in_err-pass_over-clause-goes g c manner is =
+    refuse_err c.from_residual-in_err-pass_over.result c.in_err-pass_over.field-0.0 _ _ _ _ _ _ c.from_residual-in_err-pass_over.ensures.1
+    (pass_cut c.in_err-pass_over.field-0.0 (refused c.args.head.now c.args.intake.now.stated c.args.why) _ manner (Head (Refused c.args.why) ∷ [])
+    (wire_of c.args.intake.now) (wire_of c.pass_over.new.self) _ _ _ _ _ _ _ _
+    (c.requires.fresh ∙ size_refused c.args.head.now c.args.why _ c.requires.reads)
+    (c.in_ok-greet.ensures.0 ∙ ap (append_known (g.T.Sink.given c.args.sink.now)) (greets_refused c.args.head.now c.args.why _ _ (c.body_left.ensures ∙ c.requires.fresh) c.requires.reads))
+    c.in_ok-greet.ensures.1 c.in_err-pass_over.ensures.passes)
+
+-- src/serving.rt:124:1
+pub returns-clause-goes : goal.returns-clause-goes
+returns-clause-goes g c manner is =
+    refusal_given c.give_refusal.result (refused c.args.head.now c.args.intake.now.stated c.args.why) c.args.why _ manner c.in_ok-pass_over.ensures.passes.rest _ _ _ _ _ _ _ _ _ _ _
+    is (c.in_ok-pass_over.ensures.passes.long ∙ c.requires.fresh ∙ size_refused c.args.head.now c.args.why _ c.requires.reads)
+    c.in_ok-pass_over.ensures.passes.took c.in_ok-pass_over.ensures.passes.counted
+    (c.in_ok-greet.ensures.0 ∙ ap (append_known (g.T.Sink.given c.args.sink.now)) (greets_refused c.args.head.now c.args.why _ _ (c.body_left.ensures ∙ c.requires.fresh) c.requires.reads))
+    c.in_ok-greet.ensures.1 c.give_refusal.ensures

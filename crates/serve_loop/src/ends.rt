@@ -1,0 +1,62 @@
+//! How connections and turns end.
+
+ghost use Rattle.std.specs.Prelude.{◌≡◌};
+ghost use Rattle.serve_loop.specs.Turns.{end_for, turn_for};
+
+use crate::manner::Manner;
+use call_types::{Cut, Whys};
+
+/// How a connection ended.
+#[derive(Clone, Copy, Debug, PartialEq, Eq)]
+pub enum ConnectionEnd {
+    /// The source was read to its end, or the client asked to close.
+    Over,
+    /// The server closed after a refusal that closes, or after as many requests as it serves on one connection.
+    Closed,
+    /// The source ended inside a head or a body.
+    InputCut,
+    /// The source failed, and counted it.
+    ReadFault,
+    /// The sink failed, and counted it.
+    WriteFault,
+    /// A reply's body was cut after its head, since too few drives had a shard of it: why, for each drive.
+    ReplyCut(Whys),
+    /// There was not enough memory.
+    NoMemory,
+}
+
+/// What one request led to.
+#[derive(Clone, Copy, Debug, PartialEq, Eq)]
+pub enum Turn {
+    /// It was answered, and the next may be read.
+    Answered,
+    /// The connection has ended.
+    Ended(ConnectionEnd),
+}
+
+/// The end of a connection in whose last exchange this cut came.
+pub(crate) fn end_of(cut: Cut) -> ConnectionEnd
+    ensures { result ≡ end_for cut }
+{
+    match &cut {
+        Cut::ReadFault => ConnectionEnd::ReadFault,
+        Cut::BodyCut { .. } => ConnectionEnd::InputCut,
+        Cut::WriteFault => ConnectionEnd::WriteFault,
+        Cut::ShardCut(whys) => ConnectionEnd::ReplyCut(*whys),
+        Cut::NoMemory => ConnectionEnd::NoMemory,
+    }
+}
+
+/// What an exchange leads to whose reply was given, or cut.
+pub(crate) fn turn_of(answer: Result<(), Cut>, manner: Manner) -> Turn
+    ensures { result ≡ turn_for answer manner }
+{
+    match answer {
+        Ok(()) => match manner {
+            Manner::Stays => Turn::Answered,
+            Manner::ClientCloses => Turn::Ended(ConnectionEnd::Over),
+            Manner::ServerCloses => Turn::Ended(ConnectionEnd::Closed),
+        },
+        Err(cut) => Turn::Ended(end_of(cut)),
+    }
+}

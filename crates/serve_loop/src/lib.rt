@@ -1,0 +1,25 @@
+//! A connection over any desk: requests one after another, each answered in full before the next is read.
+//!
+//! [`serve_connection`] reads heads from a source, has the desk serve the call of each, or refuses it, and gives the replies to a sink. It stands on
+//! `http_wire` for heads and bodies, on `s3_request` for calls, on `s3_reply` for texts and on `desk_base` for desks.
+//!
+//! Its promise is a [`Session`](../specs/Session.antt): a list of exchanges whose requests are the bytes that were taken and whose texts are the
+//! bytes that were given, in order, each a call of the desk or a refusal that the head explains, and an end with its cause. It knows nothing of what a
+//! desk is: each exchange moves the pass as the desk's own relation says.
+#![tactic(auto)]
+
+mod asks;
+mod connection;
+mod ends;
+mod giving;
+mod intake;
+mod manner;
+mod serving;
+mod telling;
+
+pub use connection::{MOST_REQUESTS, Served, serve_connection};
+pub use ends::ConnectionEnd;
+pub use serving::MOST_BODY;
+
+#[cfg(test)]
+mod tests;
