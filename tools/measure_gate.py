@@ -2,6 +2,7 @@
 """Measures what a gate costs: the processor minutes of each crate's proof, of its tests' and of its must-fail edits.
 
     tools/measure_gate.py COMMAND..      runs the command, as `rt ci`, and prints a table when it has ended
+    tools/measure_gate.py --beside PID   looks at what a process has started, until it is told to end (SIGTERM), and prints the table
 
 It looks each second at the provers that the command has started, and adds up the processor time that each of them had used
 when it was last seen. Of a crate that an earlier run kept nothing is seen, so measure where nothing is kept.
@@ -10,6 +11,7 @@ when it was last seen. Of a crate that an earlier run kept nothing is seen, so m
 import collections
 import os
 import pathlib
+import signal
 import subprocess
 import sys
 import time
@@ -81,14 +83,35 @@ def print_table(seen):
     print(f"| all | {row[0]:.1f} | {row[1]:.1f} | {row[2]:.1f} | {sum(row):.1f} |")
 
 
-def main():
+def measure_run(command):
+    """Runs a command, and prints the table of its provers."""
     seen = {}
-    run = subprocess.Popen(sys.argv[1:])
+    run = subprocess.Popen(command)
     while run.poll() is None:
         look(seen, run.pid)
         time.sleep(1)
     print_table(seen)
     return run.returncode
+
+
+def measure_beside(ancestor):
+    """Prints the table of the provers below a process, once it is told to end."""
+    seen, ended = {}, []
+    signal.signal(signal.SIGTERM, lambda *_: ended.append(True))
+    while not ended:
+        look(seen, ancestor)
+        time.sleep(1)
+    print_table(seen)
+    return 0
+
+
+def main():
+    if len(sys.argv) == 3 and sys.argv[1] == "--beside":
+        return measure_beside(int(sys.argv[2]))
+    if len(sys.argv) == 1:
+        print(__doc__, file=sys.stderr)
+        return 2
+    return measure_run(sys.argv[1:])
 
 
 if __name__ == "__main__":

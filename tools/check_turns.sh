@@ -1,0 +1,26 @@
+#!/usr/bin/env bash
+# Runs the tests of turn_lock with 100,000 turns for each of two threads and of four, in a copy: every ticket is another one. The gate runs them with
+# fewer turns, since each turn waits for the next thread to run, which a loaded machine lets wait.
+set -euo pipefail
+
+top="$(cd "$(dirname "$(readlink -f "${BASH_SOURCE[0]}")")/.." && pwd)"
+copy="$(mktemp -d)"
+trap 'rm -rf "$copy"' EXIT
+
+mkdir -p "$copy/crates"
+cp "$top/HANDLES" "$copy/"
+grep '^turn_lock:' "$top/crates.txt" >"$copy/crates.txt"
+cp -r "$top/crates/turn_lock" "$copy/crates/"
+rm -rf "$copy/crates/turn_lock/out"
+
+tests="$copy/crates/turn_lock/src/tests.rt"
+sed -i -e 's/3_000,$/100_000,/' -e 's/first.len() + second.len(), 6_000/first.len() + second.len(), 200_000/' -e 's/pass.seen(), 6_005/pass.seen(), 200_005/' \
+    -e 's/(6_005, 18_027_000)/(200_005, 20_000_900_000)/' -e 's/pass, 2_000, none/pass, 100_000, none/' -e 's/list.len(), 2_000/list.len(), 100_000/' \
+    -e 's/(8_000, 31_996_000)/(400_000, 79_999_800_000)/' "$tests"
+changed="$(diff "$top/crates/turn_lock/src/tests.rt" "$tests" | grep -c '^>' || true)"
+if [[ "$changed" != 7 ]]; then
+    echo "check_turns: the tests have other numbers than this script knows" >&2
+    exit 1
+fi
+cd "$copy/crates/turn_lock"
+RT_SECONDS=600 rt test
