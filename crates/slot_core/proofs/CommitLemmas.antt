@@ -4,6 +4,7 @@ use Rattle.std.specs.Prelude.{Bool, MatchOption, ⊤}
 use Rattle.std.proofs.lemmas.List.{append-nil}
 use Rattle.drive_base.specs.Files.{Files}
 use Rattle.stamp_id.specs.declared.version.VersionId.{VersionId}
+use Rattle.audit_trail.specs.declared.entry.Deed.{Deed}
 use Rattle.audit_trail.specs.Entries.{with_entry}
 use Rattle.audit_trail.specs.declared.entry.Deed.TheVariants.{Kept as KeptDeed}
 use Rattle.audit_trail.specs.declared.entry.Entry.{Entry}
@@ -113,12 +114,12 @@ missing_turns site drawn id entry turn made before mid after old new is some dow
 }
 
 module _ {D : Type 0} (tells : D → Bool) (files : D → Files) (count : D → ℕ) where
-  pub lost_cause : (numbers later : SlotNumbers) (deed : Commit) (put : Option VersionId) (now : ℕ) (site : Site) (why : Unreserved) (turn : Turn Committed) (old disks disks_after : List D)
-      → IsUnreserved site why turn → CommitCause tells files count numbers later deed put now turn.answer old old disks disks_after
-  lost_cause numbers later deed put now site (Failed before after) turn old disks disks_after is =
-      subst (λ (a : Result Committed SlotFault). CommitCause tells files count numbers later deed put now a old old disks disks_after) (sym is.answer) refl
-  lost_cause numbers later deed put now site NoMemory turn old disks disks_after is =
-      subst (λ (a : Result Committed SlotFault). CommitCause tells files count numbers later deed put now a old old disks disks_after) (sym is.answer) (λ k d low told. refl)
+  pub lost_cause : (numbers later : SlotNumbers) (deed : Commit) (put : Option VersionId) (now : ℕ) (site : Site) (why : Unreserved) (turn : Turn Committed) (entered : Deed)
+      (old disks disks_after : List D) → IsUnreserved site why turn → CommitCause tells files count numbers later deed put now turn.answer entered old old disks disks_after
+  lost_cause numbers later deed put now site (Failed before after) turn entered old disks disks_after is =
+      subst (λ (a : Result Committed SlotFault). CommitCause tells files count numbers later deed put now a entered old old disks disks_after) (sym is.answer) refl
+  lost_cause numbers later deed put now site NoMemory turn entered old disks disks_after is =
+      subst (λ (a : Result Committed SlotFault). CommitCause tells files count numbers later deed put now a entered old old disks disks_after) (sym is.answer) (λ k d low told. refl)
 
   -- ---- what turns leave
 

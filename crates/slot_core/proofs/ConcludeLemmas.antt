@@ -17,6 +17,7 @@ use Rattle.audit_trail.specs.declared.entry.Entry.{Entry}
 use Rattle.register_core.specs.declared.faults.QuorumFault.{QuorumFault}
 use Rattle.register_core.specs.declared.faults.QuorumFault.TheVariants.{ReadQuorum, WriteQuorum, Undecided, NoMemory as NoMemoryQuorum}
 use Rattle.slot_core.specs.Carrying.{IsTold, answer_of, answer_told, deed_told, entry_at, entry_told}
+use Rattle.slot_core.specs.CommitCauses.{deed_in}
 use Rattle.slot_core.specs.Committing.{CommitDeed, GoneByAnswer, NothingBegun, QuorumDeed, SaysCommit, call_of, name_of}
 use Rattle.slot_core.specs.Landing.{IsTwice, entry_from, fault_of}
 use Rattle.slot_core.specs.Pen.{WritesDown, kept_entry}
@@ -82,6 +83,13 @@ entry_is ticket name entry (Done tale late) is = ap (λ (e : Entry). entry_from 
 entry_is ticket name entry (Begun tale change late fault) is = ap (λ (e : Entry). entry_from e (Begun tale change late fault)) is
 entry_is ticket name entry (Kept fault) is = ap (λ (e : Entry). entry_from e (Kept fault)) is
 entry_is ticket name entry LacksMemory is = refl
+
+-- what it says that was done of its own
+pub told_deed : (ticket : ℕ) (name : List ℕ) (outcome : Outcome) → deed_in (entry_told ticket name outcome) ≡ deed_told outcome
+told_deed ticket name (Done tale late) = refl
+told_deed ticket name (Begun tale change late fault) = refl
+told_deed ticket name (Kept fault) = refl
+told_deed ticket name LacksMemory = refl
 
 -- its tale in both copies
 pub told_twice : (deed : Commit) (now : ℕ) (outcome : Outcome) → IsTold deed now outcome → IsTwice outcome

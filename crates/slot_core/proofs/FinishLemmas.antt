@@ -31,7 +31,9 @@ use Rattle.register_core.specs.declared.faults.QuorumFault.{QuorumFault}
 use Rattle.register_core.specs.declared.faults.QuorumFault.TheVariants.{ReadQuorum, WriteQuorum, Undecided, NoMemory as NoMemoryQuorum}
 use Rattle.register_core.specs.declared.looked.Looked.{Looked}
 use Rattle.register_caller.specs.Steps.{FilesStay, WritesBoth}
-use Rattle.audit_trail.specs.declared.entry.Deed.TheVariants.{Kept as KeptDeed}
+use Rattle.audit_trail.specs.declared.entry.Deed.{Deed}
+use Rattle.audit_trail.specs.declared.entry.Deed.TheVariants.{Done as DoneDeed, Kept as KeptDeed, Refused as RefusedDeed}
+use Rattle.call_types.specs.declared.act.Brief.TheVariants.{Answer}
 use Rattle.version_list.specs.NamesId.{names_id}
 use Rattle.version_list.specs.Places.{id_place}
 use Rattle.version_list.specs.Spelling.{spelling}
@@ -46,16 +48,16 @@ use Rattle.slot_data.specs.Bringing.{GoOn}
 use Rattle.slot_data.specs.Disks.{Disks}
 use Rattle.slot_data.specs.Holding.{Hands, Holding}
 use Rattle.slot_data.specs.Standing.{DataStands}
-use Rattle.slot_core.specs.Carrying.{CallsCarry, CallsOwn, EntryLeaves, FitsPut, Lands, answer_of, answer_told, entry_told, kept_with}
+use Rattle.slot_core.specs.Carrying.{CallsCarry, CallsOwn, EntryLeaves, FitsPut, Lands, answer_of, answer_told, deed_told, entry_told, kept_with}
 use Rattle.slot_core.specs.CarryingOut.{OwnFits, PlanFits}
 use Rattle.slot_core.specs.Causes.{LookCause, LookGave}
-use Rattle.slot_core.specs.CommitCauses.{CommitCause, FoundSo, IsChangeAt, IsOwnChangeOf, IsRuleOf, LookRefused, OwnIsWritten, WroteSo, site_of}
+use Rattle.slot_core.specs.CommitCauses.{CommitCause, FoundSo, IsChangeAt, IsOwnChangeOf, IsRuleOf, LookRefused, OwnIsWritten, WroteSo, own_deed, site_of}
 use Rattle.slot_core.specs.Committing.{MayCommitData, ShowsTrash, call_of, name_of}
 use Rattle.slot_core.specs.Finishing.{CommitLeaves, FinishCalls, IsKeptBy, ReadyFits}
 use Rattle.slot_core.specs.Looked.{CallsForward, DraftFits, FirstFits, LooksAt}
 use Rattle.slot_core.specs.Owning.{IsDraftable, IsOwnChange, IsOwnDraft, IsOwnId, IsOwnOf, again_takes, id_over, own_seq}
 use Rattle.slot_core.specs.Planning.{DoesOver, IsBucketDeed, most_for}
-use Rattle.slot_core.specs.Plans.{IsPlan, IsPlanBy, PlansNone, PlansOwn}
+use Rattle.slot_core.specs.Plans.{IsPlan, IsPlanBy, IsTale, PlansNone, PlansOwn}
 use Rattle.slot_core.specs.Rules.{first_place, key_fault, named_place}
 use Rattle.slot_core.specs.Settling.{FirstIs, IsReady, numbers_at}
 use Rattle.slot_core.specs.Standing.{SlotStands}
@@ -72,6 +74,7 @@ use Rattle.slot_core.specs.declared.rules.TheConstants.{BUCKET_BYTES, KEY_BYTES}
 use Rattle.slot_core.specs.declared.site.Drawn.{Drawn}
 use Rattle.slot_core.specs.declared.site.Site.{Site}
 use Rattle.slot_core.specs.declared.telling.Tale.{Tale}
+use Rattle.slot_core.specs.declared.telling.Told.{Told}
 use Rattle.slot_core.proofs.CarryLemmas.{entry_leaves, kept_leaves}
 use Rattle.slot_core.proofs.CauseLemmas.{cause_of_forward, gave_of, writes_have_memory}
 use Rattle.slot_core.proofs.LandLemmas.{LandLaws, land_data, land_stands}
@@ -248,7 +251,7 @@ module _ {D : Type 0} (tells : D → Bool) (files : D → Files) (count : D → 
   pub look_refused : (site : Site) (drawn : Drawn) (deed : Commit) (put : Option VersionId) (rule : List ℕ → Option ℕ) (longest : ℕ) (fault : QuorumFault) (old new disks disks_after : List D)
       → IsRuleOf (numbers_at site drawn) deed put rule longest
       → LooksAt tells files count site drawn (name_of deed) rule longest (Err fault) old new disks disks_after
-      → LookRefused tells files count (numbers_at site drawn) (numbers_at site drawn) deed put fault old new disks disks_after
+      → LookRefused tells files count (numbers_at site drawn) (numbers_at site drawn) deed put fault KeptDeed old new disks disks_after
   look_refused site drawn deed put rule longest fault old new disks disks_after rule_is looks = record {
     rule = rule;
     longest = longest;
@@ -257,6 +260,7 @@ module _ {D : Type 0} (tells : D → Bool) (files : D → Files) (count : D → 
       | inl refused ↦ inl (refused, refl)
       | inr few ↦ inr (inl (few, refl))
     ];
+    deed_is = refl;
   }
 
   -- ---- own changes that were written
@@ -338,11 +342,20 @@ module _ {D : Type 0} (tells : D → Bool) (files : D → Files) (count : D → 
     abbrev last : ℕ
     last = drawn.seq + again_takes ready.first
 
+    -- the deed of a tale
+    told_done : (tale : Tale) (late change : Option ChangeId) → IsTale deed change now tale
+        → deed_told (Done tale late) ≡ DoneDeed (call_of deed change now) (Answer tale.reply)
+    told_done tale late change is = ap (λ (t : Told). DoneDeed t.call t.reply) is.audit
+
+    told_begun : (tale : Tale) (change : ChangeId) (late : Option ChangeId) (fault : QuorumFault) → IsTale deed (Some change) now tale
+        → deed_told (Begun tale change late fault) ≡ own_deed deed now change tale.reply (Err fault)
+    told_begun tale change late fault is = ap (λ (t : Told). RefusedDeed change t.call) is.audit
+
     mine : (own : Own) → plan.own ≡ Some own → PlansOwn site last ready deed put now plan own
     mine own some = subst (λ (o : Option Own). IsPlanBy o site last ready deed put now plan) some planned
 
     found_so : (tale : Tale) (late : Option ChangeId) → tale ≡ plan.tale → plan.own ≡ None → CallsForward tells files count site drawn later ready.first (Ok late) mid new
-        → FoundSo tells files count (numbers_at site drawn) (numbers_at site later) deed put now tale.reply old new disks disks_after
+        → FoundSo tells files count (numbers_at site drawn) (numbers_at site later) deed put now tale.reply (deed_told (Done tale late)) old new disks disks_after
     found_so tale late same none calls =
         let plans : PlansNone ready deed now plan = subst (λ (o : Option Own). IsPlanBy o site last ready deed put now plan) none planned in
         let content : List ℕ = content_of ready.looked.base ready.looked.pending in
@@ -354,12 +367,14 @@ module _ {D : Type 0} (tells : D → Bool) (files : D → Files) (count : D → 
           gave = gave_of {D = D} tells files count site drawn later (name_of deed) rule longest ready content late old mid new disks disks_after is stay refl calls;
           id = plans.id;
           does = subst (λ (t : Tale). DoesOver (name_of deed) content (call_of deed None now) plans.id t.reply content) (sym same) plans.does;
+          deed_is = told_done tale late None (subst (λ (t : Tale). IsTale deed None now t) (sym same) plans.tale);
         }
 
-    wrote_so : (tale : Tale) (late : Option ChangeId) (own : Own) (result : Result (List Why) QuorumFault) → tale ≡ plan.tale → plan.own ≡ Some own
+    wrote_so : (tale : Tale) (late : Option ChangeId) (own : Own) (result : Result (List Why) QuorumFault) (entered : Deed) → tale ≡ plan.tale
+        → plan.own ≡ Some own → entered ≡ own_deed deed now own.change tale.reply result
         → CallsOwn tells files count site drawn later ready.first late own result mid new
-        → WroteSo tells files count (numbers_at site drawn) (numbers_at site later) deed put now tale.reply result old new disks disks_after
-    wrote_so tale late own result same some calls =
+        → WroteSo tells files count (numbers_at site drawn) (numbers_at site later) deed put now tale.reply result entered old new disks disks_after
+    wrote_so tale late own result entered same some told calls =
         let plans = mine own some in
         let content : List ℕ = content_of ready.looked.base ready.looked.pending in
         record {
@@ -371,15 +386,16 @@ module _ {D : Type 0} (tells : D → Bool) (files : D → Files) (count : D → 
           is_own = subst (λ (t : Tale). IsOwnChangeOf (numbers_at site drawn) (numbers_at site later) deed put now content t.reply plans.is.next) (sym same)
               (own_change_of site drawn later ready deed put now plan.tale.reply own plans.is calls.seq);
           written = own_written site drawn later (name_of deed) rule longest ready late own plans.is.next result old mid new disks disks_after is stay plans.is.drafted calls;
+          deed_is = told ∙ ap (λ (c : ChangeId). own_deed deed now c tale.reply result) plans.is.change_is;
         }
 
     -- the answer of a tale whose deed left the content
-    found_cause : (tale : Tale) (o : Option KeyRefusal) → MatchOption o (Unit {0}) (λ why. tale.reply ≡ Refused (refusal_of why))
-        → FoundSo tells files count (numbers_at site drawn) (numbers_at site later) deed put now tale.reply old new disks disks_after
-        → CommitCause tells files count (numbers_at site drawn) (numbers_at site later) deed put now (answer_of tale o) old new disks disks_after
-    found_cause tale None all found = inl found
-    found_cause tale (Some why) reply found =
-        subst (λ (r : Reply). FoundSo tells files count (numbers_at site drawn) (numbers_at site later) deed put now r old new disks disks_after) reply found
+    found_cause : (tale : Tale) (o : Option KeyRefusal) (entered : Deed) → MatchOption o (Unit {0}) (λ why. tale.reply ≡ Refused (refusal_of why))
+        → FoundSo tells files count (numbers_at site drawn) (numbers_at site later) deed put now tale.reply entered old new disks disks_after
+        → CommitCause tells files count (numbers_at site drawn) (numbers_at site later) deed put now (answer_of tale o) entered old new disks disks_after
+    found_cause tale None entered all found = inl found
+    found_cause tale (Some why) entered reply found =
+        subst (λ (r : Reply). FoundSo tells files count (numbers_at site drawn) (numbers_at site later) deed put now r entered old new disks disks_after) reply found
 
     found_reply : (o : Option KeyRefusal) → IfSome o (λ why. plan.tale.reply ≡ Refused (refusal_of why))
         → MatchOption o (Unit {0}) (λ why. plan.tale.reply ≡ Refused (refusal_of why))
@@ -388,23 +404,33 @@ module _ {D : Type 0} (tells : D → Bool) (files : D → Files) (count : D → 
 
     -- the cause of an outcome
     pub carry_cause : (outcome : Outcome) → CallsCarry tells files count site drawn later ready.first plan outcome mid new
-        → CommitCause tells files count (numbers_at site drawn) (numbers_at site later) deed put now (answer_told outcome) old new disks disks_after
+        → CommitCause tells files count (numbers_at site drawn) (numbers_at site later) deed put now (answer_told outcome) (deed_told outcome) old new disks disks_after
     carry_cause (Done tale late) calls = elim calls.1 [
       | inl none ↦
           let plans : PlansNone ready deed now plan = subst (λ (o : Option Own). IsPlanBy o site last ready deed put now plan) none.0 planned in
-          found_cause tale tale.refused
+          found_cause tale tale.refused (deed_told (Done tale late))
           (subst (λ (t : Tale). MatchOption t.refused (Unit {0}) (λ why. t.reply ≡ Refused (refusal_of why))) (sym calls.0) (found_reply plan.tale.refused plans.refused))
           (found_so tale late calls.0 none.0 none.1)
       | inr some ↦
           let served : tale.refused ≡ None = ap (λ (t : Tale). t.refused) calls.0 ∙ (mine some.0 some.1).served in
-          subst (λ (o : Option KeyRefusal). CommitCause tells files count (numbers_at site drawn) (numbers_at site later) deed put now (answer_of tale o) old new disks disks_after)
-          (sym served) (inr (some.2, wrote_so tale late some.0 (Ok some.2) calls.0 some.1 some.3))
+          subst (λ (o : Option KeyRefusal). CommitCause tells files count (numbers_at site drawn) (numbers_at site later) deed put now (answer_of tale o) (deed_told (Done tale late)) old new
+          disks disks_after) (sym served) (inr (
+            some.2,
+            wrote_so tale late some.0 (Ok some.2) (deed_told (Done tale late)) calls.0 some.1
+                (told_done tale late (Some some.0.change) (subst (λ (t : Tale). IsTale deed (Some some.0.change) now t) (sym calls.0) (mine some.0 some.1).tale)) some.3,
+          ))
     ]
     carry_cause (Begun tale change late fault) calls =
         let some = calls.1 in (
           (λ same. writes_have_memory {D = D} tells files count some.0.draft site.set.out site.term some.3.middle.count later.count some.3.between new
               (subst (λ (f : QuorumFault). WritesBoth tells files count some.0.draft site.set.out site.term some.3.middle.count later.count (Err f) some.3.between new) same some.3.writes)),
-          inr (tale.reply, wrote_so tale late some.0 (Err fault) calls.0 some.1 some.3),
+          inr (
+            tale.reply,
+            wrote_so tale late some.0 (Err fault) (deed_told (Begun tale change late fault)) calls.0 some.1
+                (told_begun tale change late fault (subst (λ (c : ChangeId). IsTale deed (Some c) now tale) some.2
+                (subst (λ (t : Tale). IsTale deed (Some some.0.change) now t) (sym calls.0) (mine some.0 some.1).tale))
+                ∙ ap (λ (c : ChangeId). own_deed deed now c tale.reply (Err fault)) (sym some.2)) some.3,
+          ),
         )
     carry_cause (Kept fault) calls = (
       (λ same. forward_has_memory {D = D} tells files count site drawn later ready.first fault mid new calls same),
@@ -413,6 +439,7 @@ module _ {D : Type 0} (tells : D → Bool) (files : D → Files) (count : D → 
         longest = longest;
         rule_is = rule_is;
         cause = cause_of_forward {D = D} tells files count site drawn later (name_of deed) rule longest ready fault old mid new disks disks_after is stay calls;
+        deed_is = refl;
       }),
     )
     carry_cause LacksMemory calls = absurd calls
@@ -422,9 +449,9 @@ module _ {D : Type 0} (tells : D → Bool) (files : D → Files) (count : D → 
       (old mid new disks disks_after : List D) → IsRuleOf (numbers_at site drawn) deed put rule longest
       → IsReady tells files count site drawn (name_of deed) rule longest ready old mid disks disks_after → FilesStay tells files count old mid
       → (outcome : Outcome) → FinishCalls tells files count site drawn later ready deed put now outcome mid new
-      → CommitCause tells files count (numbers_at site drawn) (numbers_at site later) deed put now (answer_told outcome) old new disks disks_after
+      → CommitCause tells files count (numbers_at site drawn) (numbers_at site later) deed put now (answer_told outcome) (deed_told outcome) old new disks disks_after
   finish_cause site drawn later ready deed put now rule longest old mid new disks disks_after rule_is is stay outcome (inl lacks) =
-      subst (λ (o : Outcome). CommitCause tells files count (numbers_at site drawn) (numbers_at site later) deed put now (answer_told o) old new disks disks_after) (sym lacks.0)
+      subst (λ (o : Outcome). CommitCause tells files count (numbers_at site drawn) (numbers_at site later) deed put now (answer_told o) (deed_told o) old new disks disks_after) (sym lacks.0)
       (subst (λ (l : List D). FilesStay tells files count old l) (sym lacks.1) stay)
   finish_cause site drawn later ready deed put now rule longest old mid new disks disks_after rule_is is stay outcome (inr p) =
       carry_cause site drawn later ready deed put now rule longest old mid new disks disks_after rule_is is stay p.plan p.is outcome p.calls

@@ -5,6 +5,7 @@ use Rattle.std.specs.List.{AllByRecursion}
 use Rattle.std.proofs.lemmas.List.{append-nil}
 use Rattle.drive_base.specs.Files.{Files}
 use Rattle.stamp_id.specs.declared.version.VersionId.{VersionId}
+use Rattle.audit_trail.specs.declared.entry.Deed.{Deed}
 use Rattle.call_types.specs.Refusals.{refusal_of}
 use Rattle.call_types.specs.declared.reply.Reply.{Reply}
 use Rattle.call_types.specs.declared.reply.Reply.TheVariants.{Refused}
@@ -191,9 +192,10 @@ checks_spent flight held answer spent = record {
 -- ---- causes don't go by how many sections were done
 
 module _ {D : Type 0} (tells : D → Bool) (files : D → Files) (count : D → ℕ) where
-  found_turned : (numbers later : SlotNumbers) (turns : ℕ) (deed : Commit) (put : Option VersionId) (now : ℕ) (reply : Reply) (old new disks disks_after : List D)
-      → FoundSo tells files count numbers later deed put now reply old new disks disks_after → FoundSo tells files count numbers (with_turns later turns) deed put now reply old new disks disks_after
-  found_turned numbers later turns deed put now reply old new disks disks_after f = record {
+  found_turned : (numbers later : SlotNumbers) (turns : ℕ) (deed : Commit) (put : Option VersionId) (now : ℕ) (reply : Reply) (entered : Deed) (old new disks disks_after : List D)
+      → FoundSo tells files count numbers later deed put now reply entered old new disks disks_after
+      → FoundSo tells files count numbers (with_turns later turns) deed put now reply entered old new disks disks_after
+  found_turned numbers later turns deed put now reply entered old new disks disks_after f = record {
     rule = f.rule;
     longest = f.longest;
     rule_is = f.rule_is;
@@ -201,6 +203,7 @@ module _ {D : Type 0} (tells : D → Bool) (files : D → Files) (count : D → 
     gave = f.gave;
     id = f.id;
     does = f.does;
+    deed_is = f.deed_is;
   }
 
   written_turned : (numbers later : SlotNumbers) (turns : ℕ) (name : List ℕ) (rule : List ℕ → Option ℕ) (longest : ℕ) (content : List ℕ) (own : Next)
@@ -237,9 +240,9 @@ module _ {D : Type 0} (tells : D → Bool) (files : D → Files) (count : D → 
   })
 
   wrote_turned : (numbers later : SlotNumbers) (turns : ℕ) (deed : Commit) (put : Option VersionId) (now : ℕ) (reply : Reply) (result : Result (List Why) QuorumFault)
-      (old new disks disks_after : List D) → WroteSo tells files count numbers later deed put now reply result old new disks disks_after
-      → WroteSo tells files count numbers (with_turns later turns) deed put now reply result old new disks disks_after
-  wrote_turned numbers later turns deed put now reply result old new disks disks_after w = record {
+      (entered : Deed) (old new disks disks_after : List D) → WroteSo tells files count numbers later deed put now reply result entered old new disks disks_after
+      → WroteSo tells files count numbers (with_turns later turns) deed put now reply result entered old new disks disks_after
+  wrote_turned numbers later turns deed put now reply result entered old new disks disks_after w = record {
     rule = w.rule;
     longest = w.longest;
     rule_is = w.rule_is;
@@ -258,34 +261,35 @@ module _ {D : Type 0} (tells : D → Bool) (files : D → Files) (count : D → 
       changed = w.is_own.changed;
     };
     written = written_turned numbers later turns (name_of deed) w.rule w.longest w.content w.own result old new disks disks_after w.written;
+    deed_is = w.deed_is;
   }
 
-  turned_commit : (numbers later : SlotNumbers) (turns : ℕ) (deed : Commit) (put : Option VersionId) (now : ℕ) (answer : Result Committed SlotFault) (old new disks disks_after : List D)
-      → CommitCause tells files count numbers later deed put now answer old new disks disks_after
-      → CommitCause tells files count numbers (with_turns later turns) deed put now answer old new disks disks_after
-  turned_commit numbers later turns deed put now (Ok made) old new disks disks_after (inl f) = inl (found_turned numbers later turns deed put now made.done old new disks disks_after f)
-  turned_commit numbers later turns deed put now (Ok made) old new disks disks_after (inr w) =
-      inr (w.0, wrote_turned numbers later turns deed put now made.done (Ok w.0) old new disks disks_after w.1)
-  turned_commit numbers later turns deed put now (Err (Quorum fault)) old new disks disks_after cause = (
+  turned_commit : (numbers later : SlotNumbers) (turns : ℕ) (deed : Commit) (put : Option VersionId) (now : ℕ) (answer : Result Committed SlotFault) (entered : Deed)
+      (old new disks disks_after : List D) → CommitCause tells files count numbers later deed put now answer entered old new disks disks_after
+      → CommitCause tells files count numbers (with_turns later turns) deed put now answer entered old new disks disks_after
+  turned_commit numbers later turns deed put now (Ok made) entered old new disks disks_after (inl f) = inl (found_turned numbers later turns deed put now made.done entered old new disks disks_after f)
+  turned_commit numbers later turns deed put now (Ok made) entered old new disks disks_after (inr w) =
+      inr (w.0, wrote_turned numbers later turns deed put now made.done (Ok w.0) entered old new disks disks_after w.1)
+  turned_commit numbers later turns deed put now (Err (Quorum fault)) entered old new disks disks_after cause = (
     cause.0,
     elim cause.1 [
-      | inl l ↦ inl (record { rule = l.rule; longest = l.longest; rule_is = l.rule_is; cause = l.cause })
-      | inr w ↦ inr (w.0, wrote_turned numbers later turns deed put now w.0 (Err fault) old new disks disks_after w.1)
+      | inl l ↦ inl (record { rule = l.rule; longest = l.longest; rule_is = l.rule_is; cause = l.cause; deed_is = l.deed_is })
+      | inr w ↦ inr (w.0, wrote_turned numbers later turns deed put now w.0 (Err fault) entered old new disks disks_after w.1)
     ],
   )
-  turned_commit numbers later turns deed put now (Err (KeyFault why)) old new disks disks_after cause =
-      found_turned numbers later turns deed put now (Refused (refusal_of why)) old new disks disks_after cause
-  turned_commit numbers later turns deed put now (Err SeqSpent) old new disks disks_after cause = cause
-  turned_commit numbers later turns deed put now (Err (AuditFailed before after)) old new disks disks_after cause = cause
-  turned_commit numbers later turns deed put now (Err NoMemory) old new disks disks_after cause = cause
-  turned_commit numbers later turns deed put now (Err (NotInFlight id)) old new disks disks_after cause = cause
+  turned_commit numbers later turns deed put now (Err (KeyFault why)) entered old new disks disks_after cause =
+      found_turned numbers later turns deed put now (Refused (refusal_of why)) entered old new disks disks_after cause
+  turned_commit numbers later turns deed put now (Err SeqSpent) entered old new disks disks_after cause = cause
+  turned_commit numbers later turns deed put now (Err (AuditFailed before after)) entered old new disks disks_after cause = cause
+  turned_commit numbers later turns deed put now (Err NoMemory) entered old new disks disks_after cause = cause
+  turned_commit numbers later turns deed put now (Err (NotInFlight id)) entered old new disks disks_after cause = cause
 
-  pub commit_turned : (numbers later : SlotNumbers) (turns : ℕ) (deed : Commit) (put put_is : Option VersionId) (now : ℕ) (answer : Result Committed SlotFault)
+  pub commit_turned : (numbers later : SlotNumbers) (turns : ℕ) (deed : Commit) (put put_is : Option VersionId) (now : ℕ) (answer : Result Committed SlotFault) (entered : Deed)
       (old old_is new new_is disks disks_after : List D) → put_is ≡ put → old_is ≡ old → new_is ≡ new
-      → CommitCause tells files count numbers later deed put_is now answer old_is new_is disks disks_after
-      → CommitCause tells files count numbers (with_turns later turns) deed put now answer old new disks disks_after
-  commit_turned numbers later turns deed put put_is now answer old old_is new new_is disks disks_after same_put same_old same_new cause =
-      turned_commit numbers later turns deed put now answer old new disks disks_after
-      (subst (λ (p : Option VersionId). CommitCause tells files count numbers later deed p now answer old new disks disks_after) same_put
-      (subst (λ (l : List D). CommitCause tells files count numbers later deed put_is now answer old l disks disks_after) same_new
-      (subst (λ (l : List D). CommitCause tells files count numbers later deed put_is now answer l new_is disks disks_after) same_old cause)))
+      → CommitCause tells files count numbers later deed put_is now answer entered old_is new_is disks disks_after
+      → CommitCause tells files count numbers (with_turns later turns) deed put now answer entered old new disks disks_after
+  commit_turned numbers later turns deed put put_is now answer entered old old_is new new_is disks disks_after same_put same_old same_new cause =
+      turned_commit numbers later turns deed put now answer entered old new disks disks_after
+      (subst (λ (p : Option VersionId). CommitCause tells files count numbers later deed p now answer entered old new disks disks_after) same_put
+      (subst (λ (l : List D). CommitCause tells files count numbers later deed put_is now answer entered old l disks disks_after) same_new
+      (subst (λ (l : List D). CommitCause tells files count numbers later deed put_is now answer entered l new_is disks disks_after) same_old cause)))

@@ -1,6 +1,10 @@
 -- From which calls the answer of a commit comes, whatever the drives tell.
 use Rattle.std.specs.Prelude.{◌≡◌, ◌≢◌, ◌⊎◌, ◌<◌, ◌+◌, ℕ, Bool, List, Option, Some, None, Result, Ok, Err}
+use Rattle.audit_trail.specs.declared.entry.Deed.{Deed}
+use Rattle.audit_trail.specs.declared.entry.Deed.TheVariants.{Done, Kept as KeptDeed, Refused as RefusedDeed}
+use Rattle.audit_trail.specs.declared.entry.Entry.{Entry}
 use Rattle.call_types.specs.Refusals.{refusal_of}
+use Rattle.call_types.specs.declared.act.Brief.TheVariants.{Answer}
 use Rattle.call_types.specs.declared.reply.Reply.{Reply}
 use Rattle.call_types.specs.declared.reply.Reply.TheVariants.{Refused}
 use Rattle.call_types.specs.declared.why.Why.{Why}
@@ -62,6 +66,16 @@ pub record IsOwnChangeOf (numbers later : SlotNumbers) (deed : Commit) (put : Op
   pub does : DoesOver (name_of deed) content (call_of deed (Some own.change) now) id reply own.content
   pub changed : own.content ≢ content
 
+-- what the entry of a section says that was done of its own, if it wrote one
+abbrev pub deed_in : Option Entry → Deed
+deed_in None = KeptDeed
+deed_in (Some entry) = entry.deed
+
+-- what it says of an own change, by the answer of its writes: the call and its reply, or that it was begun
+abbrev pub own_deed : Commit → ℕ → ChangeId → Reply → Result (List Why) QuorumFault → Deed
+own_deed deed now change reply (Ok letters) = Done (call_of deed (Some change) now) (Answer reply)
+own_deed deed now change reply (Err fault) = RefusedDeed change (call_of deed (Some change) now)
+
 module _ {D : Type 0} (tells : D → Bool) (files : D → Files) (count : D → ℕ) where
   -- a change of its own was drafted over what the look settled, and written with this answer
   pub record OwnAtOnce (numbers later : SlotNumbers) (name : List ℕ) (rule : List ℕ → Option ℕ) (longest : ℕ) (content : List ℕ) (own : Next)
@@ -101,8 +115,8 @@ module _ {D : Type 0} (tells : D → Bool) (files : D → Files) (count : D → 
       OwnAtOnce numbers later name rule longest content own result old new disks disks_after
       ⊎ OwnAfterAgain numbers later name rule longest content own result old new disks disks_after
 
-  -- the look gave a content which the deed leaves, with this reply; nothing of its own was written
-  pub record FoundSo (numbers later : SlotNumbers) (deed : Commit) (put : Option VersionId) (now : ℕ) (reply : Reply) (old new disks disks_after : List D) : Type 0 where
+  -- the look gave a content which the deed leaves, with this reply; nothing of its own was written, and the entry tells no change
+  pub record FoundSo (numbers later : SlotNumbers) (deed : Commit) (put : Option VersionId) (now : ℕ) (reply : Reply) (entered : Deed) (old new disks disks_after : List D) : Type 0 where
     pub rule : List ℕ → Option ℕ
     pub longest : ℕ
     pub rule_is : IsRuleOf numbers deed put rule longest
@@ -110,10 +124,11 @@ module _ {D : Type 0} (tells : D → Bool) (files : D → Files) (count : D → 
     pub gave : LookGave tells files count numbers later.count (name_of deed) rule longest content old new disks disks_after
     pub id : VersionId
     pub does : DoesOver (name_of deed) content (call_of deed None now) id reply content
+    pub deed_is : entered ≡ Done (call_of deed None now) (Answer reply)
 
-  -- the look gave a content of which the deed makes another one, with this reply; its own change was written with this answer
+  -- the look gave a content of which the deed makes another one, with this reply; its own change, which the entry tells, was written with this answer
   pub record WroteSo (numbers later : SlotNumbers) (deed : Commit) (put : Option VersionId) (now : ℕ) (reply : Reply) (result : Result (List Why) QuorumFault)
-      (old new disks disks_after : List D) : Type 0 where
+      (entered : Deed) (old new disks disks_after : List D) : Type 0 where
     pub rule : List ℕ → Option ℕ
     pub longest : ℕ
     pub rule_is : IsRuleOf numbers deed put rule longest
@@ -121,25 +136,27 @@ module _ {D : Type 0} (tells : D → Bool) (files : D → Files) (count : D → 
     pub own : Next
     pub is_own : IsOwnChangeOf numbers later deed put now content reply own
     pub written : OwnIsWritten numbers later (name_of deed) rule longest content own result old new disks disks_after
+    pub deed_is : entered ≡ own_deed deed now own.change reply result
 
-  -- the register refused the look, or the completion of what was pending
-  pub record LookRefused (numbers later : SlotNumbers) (deed : Commit) (put : Option VersionId) (fault : QuorumFault) (old new disks disks_after : List D) : Type 0 where
+  -- the register refused the look, or the completion of what was pending; the entry says that nothing was done
+  pub record LookRefused (numbers later : SlotNumbers) (deed : Commit) (put : Option VersionId) (fault : QuorumFault) (entered : Deed) (old new disks disks_after : List D) : Type 0 where
     pub rule : List ℕ → Option ℕ
     pub longest : ℕ
     pub rule_is : IsRuleOf numbers deed put rule longest
     pub cause : LookCause tells files count numbers later (name_of deed) rule longest fault old new disks disks_after
+    pub deed_is : entered ≡ KeptDeed
 
-  -- what a commit that is told says, by its answer. Want of memory is told as that alone
-  abbrev pub CommitCause : SlotNumbers → SlotNumbers → Commit → Option VersionId → ℕ → Result Committed SlotFault → List D → List D → List D → List D → Type 0
-  CommitCause numbers later deed put now (Ok made) old new disks disks_after =
-      FoundSo numbers later deed put now made.done old new disks disks_after
-      ⊎ ((letters : List Why) × WroteSo numbers later deed put now made.done (Ok letters) old new disks disks_after)
-  CommitCause numbers later deed put now (Err (Quorum fault)) old new disks disks_after = (fault ≢ NoMemoryQuorum)
-      × (LookRefused numbers later deed put fault old new disks disks_after
-      ⊎ ((reply : Reply) × WroteSo numbers later deed put now reply (Err fault) old new disks disks_after))
-  CommitCause numbers later deed put now (Err (KeyFault why)) old new disks disks_after =
-      FoundSo numbers later deed put now (Refused (refusal_of why)) old new disks disks_after
-  CommitCause numbers later deed put now (Err SeqSpent) old new disks disks_after = new ≡ old
-  CommitCause numbers later deed put now (Err (AuditFailed _ _)) old new disks disks_after = new ≡ old
-  CommitCause numbers later deed put now (Err NoMemory) old new disks disks_after = FilesStay tells files count old new
-  CommitCause numbers later deed put now (Err (NotInFlight _)) old new disks disks_after = new ≡ old
+  -- what a commit that is told says, by its answer and by what its entry says that was done. Want of memory is told as that alone
+  abbrev pub CommitCause : SlotNumbers → SlotNumbers → Commit → Option VersionId → ℕ → Result Committed SlotFault → Deed → List D → List D → List D → List D → Type 0
+  CommitCause numbers later deed put now (Ok made) entered old new disks disks_after =
+      FoundSo numbers later deed put now made.done entered old new disks disks_after
+      ⊎ ((letters : List Why) × WroteSo numbers later deed put now made.done (Ok letters) entered old new disks disks_after)
+  CommitCause numbers later deed put now (Err (Quorum fault)) entered old new disks disks_after = (fault ≢ NoMemoryQuorum)
+      × (LookRefused numbers later deed put fault entered old new disks disks_after
+      ⊎ ((reply : Reply) × WroteSo numbers later deed put now reply (Err fault) entered old new disks disks_after))
+  CommitCause numbers later deed put now (Err (KeyFault why)) entered old new disks disks_after =
+      FoundSo numbers later deed put now (Refused (refusal_of why)) entered old new disks disks_after
+  CommitCause numbers later deed put now (Err SeqSpent) entered old new disks disks_after = new ≡ old
+  CommitCause numbers later deed put now (Err (AuditFailed _ _)) entered old new disks disks_after = new ≡ old
+  CommitCause numbers later deed put now (Err NoMemory) entered old new disks disks_after = FilesStay tells files count old new
+  CommitCause numbers later deed put now (Err (NotInFlight _)) entered old new disks disks_after = new ≡ old

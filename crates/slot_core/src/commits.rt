@@ -8,14 +8,14 @@ ghost use Rattle.version_list.specs.State.{IsMoment};
 ghost use Rattle.slot_history.specs.Standing.{Flying};
 ghost use Rattle.slot_data.specs.Holding.{Holding};
 ghost use Rattle.slot_core.specs.Carrying.{FitsPut, Lands, kept_with};
-ghost use Rattle.slot_core.specs.CommitCauses.{CommitCause};
+ghost use Rattle.slot_core.specs.CommitCauses.{CommitCause, deed_in};
 ghost use Rattle.slot_core.specs.Committing.{ChecksFlight, CommitHolds, FitsFlight, GoneByAnswer, IsLawfulDeed, IsNamedDeed, MayCommitData, SaysCommit, ShowsTrash, name_of};
 ghost use Rattle.slot_core.specs.Landing.{ChecksLanding, FitsLanding, flight_put, handed, put_of};
 ghost use Rattle.slot_core.specs.Opened.{IsOpening, IsUnreserved};
 ghost use Rattle.slot_core.specs.Peeking.{TurnsAt};
 ghost use Rattle.slot_core.specs.Pen.{Reserves};
 ghost use Rattle.slot_core.specs.Settling.{numbers_at};
-ghost use Rattle.slot_core.specs.Stubs.{Says};
+ghost use Rattle.slot_core.specs.Stubs.{Says, entry_of};
 ghost use Rattle.slot_core.specs.Turning.{Leaves, Turns};
 ghost use Rattle.slot_core.specs.Views.{audit_of, holding_of, lanes_of, numbers_of};
 ghost use Rattle.slot_core.specs.declared.fault.SlotFault.TheVariants.{NotInFlight};
@@ -72,7 +72,7 @@ impl<D: Drive, A: Audit> Slot<D, A> {
             (lanes_of self.old) (lanes_of self.new) result.stub (ShowsTrash deed.now result.answer (holding_of self.old).trash (holding_of self.new).trash)
             (MayCommitData deed.now (holding_of self.new)) }
         ensures cause { CommitCause D.tells D.files D.count (numbers_of self.old) (numbers_of self.new) deed.now (flight_put flight) now result.answer
-            (lanes_of self.old) (lanes_of self.new) disks.old disks.new }
+            (deed_in (entry_of result.stub)) (lanes_of self.old) (lanes_of self.new) disks.old disks.new }
         ensures tells { TellsStay D.tells D.files D.count (lanes_of self.old) (lanes_of self.new) }
         ensures counts { CountsRise D.tells D.files D.count (lanes_of self.old) (lanes_of self.new) }
         ensures disk_files { FilesStay D.tells D.files D.count disks.old disks.new }
@@ -211,7 +211,7 @@ fn commit_landed<D: Drive, A: Audit>(
         lanes.old lanes.new result.stub (ShowsTrash deed.now result.answer trash.old.items trash.new.items)
         (MayCommitData deed.now (kept_with holding rest trash.new.items)) }
     ensures cause { CommitCause D.tells D.files D.count (numbers_at site.now drawn.old) (numbers_at site.now drawn.new) deed.now (handed landing) now result.answer
-        lanes.old lanes.new disks.old disks.new }
+        (deed_in (entry_of result.stub)) lanes.old lanes.new disks.old disks.new }
     ensures gone { (more : List VersionId) × (trash.new.items ≡ trash.old.items ++ more) × GoneByAnswer result.answer more }
     ensures room_stays { vec_len trash.new + spare ≤ vec_capacity trash.new }
     ensures tells { TellsStay D.tells D.files D.count lanes.old lanes.new }
@@ -282,7 +282,7 @@ fn commit_with<D: Drive, A: Audit>(
         lanes.old lanes.new result.stub (ShowsTrash deed.now result.answer trash.old.items trash.new.items)
         (MayCommitData deed.now (kept_with holding rest trash.new.items)) }
     ensures cause { CommitCause D.tells D.files D.count (numbers_at site.now drawn.old) (numbers_at site.now drawn.new) deed.now put now result.answer
-        lanes.old lanes.new disks.old disks.new }
+        (deed_in (entry_of result.stub)) lanes.old lanes.new disks.old disks.new }
     ensures gone { (more : List VersionId) × (trash.new.items ≡ trash.old.items ++ more) × GoneByAnswer result.answer more }
     ensures room_stays { vec_len trash.new + spare ≤ vec_capacity trash.new }
     ensures tells { TellsStay D.tells D.files D.count lanes.old lanes.new }
@@ -354,7 +354,7 @@ fn commit_missing<D: Drive, A: Audit>(
         lanes.old lanes.new result.stub (ShowsTrash deed.now result.answer trash.old.items trash.new.items)
         (MayCommitData deed.now (kept_with holding rest trash.new.items)) }
     ensures cause { CommitCause D.tells D.files D.count (numbers_at site.now drawn.old) (numbers_at site.now drawn.new) deed.now (Some id) now result.answer
-        lanes.old lanes.new disks.old disks.new }
+        (deed_in (entry_of result.stub)) lanes.old lanes.new disks.old disks.new }
     ensures gone { (more : List VersionId) × (trash.new.items ≡ trash.old.items ++ more) × GoneByAnswer result.answer more }
     ensures room_stays { vec_len trash.new + spare ≤ vec_capacity trash.new }
     ensures tells { TellsStay D.tells D.files D.count lanes.old lanes.new }

@@ -12,7 +12,7 @@ ghost use Rattle.version_list.specs.NamesId.{names_id};
 ghost use Rattle.version_list.specs.State.{IsCanonical, IsMoment};
 ghost use Rattle.version_list.specs.declared.state.KeyState.{KeyState};
 ghost use Rattle.slot_history.specs.Contents.{SpellsKey};
-ghost use Rattle.slot_core.specs.Carrying.{IsTold, answer_told};
+ghost use Rattle.slot_core.specs.Carrying.{IsTold, answer_told, deed_told};
 ghost use Rattle.slot_core.specs.CommitCauses.{CommitCause};
 ghost use Rattle.slot_core.specs.Committing.{GoneByAnswer, IsLawfulDeed, name_of};
 ghost use Rattle.slot_core.specs.Finishing.{CommitLeaves, FinishCalls, FinishLeaves, IsKeptBy, ReadyFits};
@@ -154,7 +154,7 @@ fn commit_key<D: Drive>(
     requires room { vec_len trash.old + spare ≤ vec_capacity trash.old }
     ensures leaves { CommitLeaves D.tells D.files site.now drawn.old drawn.new deed.now put result trash.old.items trash.new.items lanes.old lanes.new }
     ensures told { IsTold deed.now now result }
-    ensures cause { CommitCause D.tells D.files D.count (numbers_at site.now drawn.old) (numbers_at site.now drawn.new) deed.now put now (answer_told result)
+    ensures cause { CommitCause D.tells D.files D.count (numbers_at site.now drawn.old) (numbers_at site.now drawn.new) deed.now put now (answer_told result) (deed_told result)
         lanes.old lanes.new disks.old disks.new }
     ensures gone { (more : List VersionId) × (trash.new.items ≡ trash.old.items ++ more) × GoneByAnswer (answer_told result) more }
     ensures room_stays { vec_len trash.new + spare ≤ vec_capacity trash.new }
@@ -242,7 +242,7 @@ fn commit_bucket<D: Drive>(
     requires room { vec_len trash.old + spare ≤ vec_capacity trash.old }
     ensures leaves { CommitLeaves D.tells D.files site.now drawn.old drawn.new deed.now put result trash.old.items trash.new.items lanes.old lanes.new }
     ensures told { IsTold deed.now now result }
-    ensures cause { CommitCause D.tells D.files D.count (numbers_at site.now drawn.old) (numbers_at site.now drawn.new) deed.now put now (answer_told result)
+    ensures cause { CommitCause D.tells D.files D.count (numbers_at site.now drawn.old) (numbers_at site.now drawn.new) deed.now put now (answer_told result) (deed_told result)
         lanes.old lanes.new disks.old disks.new }
     ensures gone { (more : List VersionId) × (trash.new.items ≡ trash.old.items ++ more) × GoneByAnswer (answer_told result) more }
     ensures room_stays { vec_len trash.new + spare ≤ vec_capacity trash.new }
@@ -305,7 +305,7 @@ pub(crate) fn commit_register<D: Drive>(
     requires room { vec_len trash.old + spare ≤ vec_capacity trash.old }
     ensures leaves { CommitLeaves D.tells D.files site.now drawn.old drawn.new deed.now put result trash.old.items trash.new.items lanes.old lanes.new }
     ensures told { IsTold deed.now now result }
-    ensures cause { CommitCause D.tells D.files D.count (numbers_at site.now drawn.old) (numbers_at site.now drawn.new) deed.now put now (answer_told result)
+    ensures cause { CommitCause D.tells D.files D.count (numbers_at site.now drawn.old) (numbers_at site.now drawn.new) deed.now put now (answer_told result) (deed_told result)
         lanes.old lanes.new disks.old disks.new }
     ensures gone { (more : List VersionId) × (trash.new.items ≡ trash.old.items ++ more) × GoneByAnswer (answer_told result) more }
     ensures room_stays { vec_len trash.new + spare ≤ vec_capacity trash.new }

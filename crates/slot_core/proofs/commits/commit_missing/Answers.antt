@@ -2,10 +2,11 @@ use Rattle.std.proofs.Common.{◌≡◌, ◌++◌, ◌∙◌, ℕ, List, [], Non
 use Rattle.std.proofs.lemmas.List.{append-nil}
 use Rattle.stamp_id.specs.declared.version.VersionId.{VersionId}
 use Rattle.audit_trail.specs.declared.entry.Entry.{Entry}
-use Rattle.slot_core.specs.CommitCauses.{CommitCause}
+use Rattle.slot_core.specs.CommitCauses.{CommitCause, deed_in}
 use Rattle.slot_core.specs.Committing.{GoneByAnswer, NothingBegun, SaysCommit, ShowsTrash}
 use Rattle.slot_core.specs.Pen.{has_late, kept_entry}
 use Rattle.slot_core.specs.Settling.{numbers_at}
+use Rattle.slot_core.specs.Stubs.{entry_of}
 use Rattle.slot_core.specs.declared.commit.Committed.{Committed}
 use Rattle.slot_core.specs.declared.fault.SlotFault.{SlotFault}
 use Rattle.slot_core.specs.declared.fault.SlotFault.TheVariants.{NotInFlight}
@@ -35,7 +36,7 @@ returns-in-Err-clause-cause g c =
     let T : Type 0 = g.row.D.Denot in
     let D = g.D.Drive in
     lost_cause {D = T} D.tells D.files D.count (numbers_at c.args.site.now c.args.drawn.now) (numbers_at c.args.site.now c.args.drawn.now) c.args.deed.now (Some c.args.id) c.args.now
-    c.args.site.now c.in-Err.why c.unreserved.result c.args.lanes.now c.args.disks.now c.args.disks.now c.unreserved.ensures
+    c.args.site.now c.in-Err.why c.unreserved.result (deed_in (entry_of c.unreserved.result.stub)) c.args.lanes.now c.args.disks.now c.args.disks.now c.unreserved.ensures
 
 pub returns-in-Err-clause-gone : goal.returns-in-Err-clause-gone
 returns-in-Err-clause-gone g c = lost_gone c.args.site.now c.in-Err.why c.unreserved.result c.args.trash.now.items c.unreserved.ensures
@@ -81,7 +82,7 @@ returns-clause-cause g c =
     let T : Type 0 = g.row.D.Denot in
     let D = g.D.Drive in
     subst (λ (a : Result Committed SlotFault). CommitCause {D = T} D.tells D.files D.count (numbers_at c.args.site.now c.args.drawn.now) (numbers_at c.args.site.now c.args.drawn.now)
-    c.args.deed.now (Some c.args.id) c.args.now a c.args.lanes.now c.args.lanes.now c.args.disks.now c.args.disks.now) (sym c.refuse.ensures.answer) refl
+    c.args.deed.now (Some c.args.id) c.args.now a (deed_in (entry_of c.refuse.result.stub)) c.args.lanes.now c.args.lanes.now c.args.disks.now c.args.disks.now) (sym c.refuse.ensures.answer) refl
 
 pub returns-clause-gone : goal.returns-clause-gone
 returns-clause-gone g c =

@@ -1,7 +1,8 @@
-use Rattle.std.proofs.Common.{◌≡◌, ◌++◌, ◌∙◌, ℕ, List, None, Result, ap, subst, sym, refl, arith}
+use Rattle.std.proofs.Common.{◌≡◌, ◌++◌, ◌∙◌, ℕ, List, None, Result, ap, subst, subst₂, sym, refl, arith}
 use Rattle.stamp_id.specs.declared.version.VersionId.{VersionId}
-use Rattle.slot_core.specs.Carrying.{answer_told, entry_told}
-use Rattle.slot_core.specs.CommitCauses.{CommitCause}
+use Rattle.audit_trail.specs.declared.entry.Deed.{Deed}
+use Rattle.slot_core.specs.Carrying.{answer_told, deed_told, entry_told}
+use Rattle.slot_core.specs.CommitCauses.{CommitCause, deed_in}
 use Rattle.slot_core.specs.Committing.{GoneByAnswer, SaysCommit, ShowsTrash, name_of}
 use Rattle.slot_core.specs.Settling.{numbers_at}
 use Rattle.slot_core.specs.Stubs.{entry_of}
@@ -9,7 +10,7 @@ use Rattle.slot_core.specs.declared.commit.Committed.{Committed}
 use Rattle.slot_core.specs.declared.fault.SlotFault.{SlotFault}
 use Rattle.slot_core.proofs.AuditLemmas.{audit_since}
 use Rattle.slot_core.proofs.CommitLemmas.{lost_cause, lost_entry, lost_gone, lost_leaves, lost_not_missing, lost_says, lost_turns, outcome_leaves}
-use Rattle.slot_core.proofs.ConcludeLemmas.{entry_is, never_missing, never_spent, outcome_counts, outcome_says, told_twice}
+use Rattle.slot_core.proofs.ConcludeLemmas.{entry_is, never_missing, never_spent, outcome_counts, outcome_says, told_deed, told_twice}
 use Rattle.slot_core.proofs.LandLemmas.{LandLaws}
 use Rattle.slot_core.proofs.commits.commit_with.Goals as goal
 
@@ -34,7 +35,7 @@ returns-in-Err-clause-cause g c =
     let T : Type 0 = g.row.D.Denot in
     let D = g.D.Drive in
     lost_cause {D = T} D.tells D.files D.count (numbers_at c.args.site.now c.args.drawn.now) (numbers_at c.args.site.now c.args.drawn.now) c.args.deed.now c.args.put c.args.now
-    c.args.site.now c.in-Err.why c.unreserved.result c.args.lanes.now c.args.disks.now c.args.disks.now c.unreserved.ensures
+    c.args.site.now c.in-Err.why c.unreserved.result (deed_in (entry_of c.unreserved.result.stub)) c.args.lanes.now c.args.disks.now c.args.disks.now c.unreserved.ensures
 
 pub returns-in-Err-clause-gone : goal.returns-in-Err-clause-gone
 returns-in-Err-clause-gone g c = lost_gone c.args.site.now c.in-Err.why c.unreserved.result c.args.trash.now.items c.unreserved.ensures
@@ -82,8 +83,14 @@ returns-clause-cause g c =
     let T : Type 0 = g.row.D.Denot in
     let D = g.D.Drive in
     let new = c.commit_register-outcome.new in
-    subst (λ (a : Result Committed SlotFault). CommitCause {D = T} D.tells D.files D.count (numbers_at c.args.site.now c.args.drawn.now) (numbers_at c.args.site.now new.drawn) c.args.deed.now
-    c.args.put c.args.now a c.args.lanes.now new.lanes c.args.disks.now new.disks) (sym c.conclude.ensures.answer) c.commit_register-outcome.ensures.cause
+    let outcome = c.commit_register-outcome.result in
+    let name = name_of c.args.deed.now in
+    let told : deed_in (entry_of c.conclude.result.stub) ≡ deed_told outcome =
+    ap deed_in (c.conclude.ensures.entry ∙ entry_is c.args.site.now.turns name c.in-Ok.opening.entries.audit outcome c.in-Ok.ensures.opening.entries.audit_is)
+    ∙ told_deed c.args.site.now.turns name outcome in
+    subst₂ (λ (a : Result Committed SlotFault) (d : Deed). CommitCause {D = T} D.tells D.files D.count (numbers_at c.args.site.now c.args.drawn.now)
+    (numbers_at c.args.site.now new.drawn) c.args.deed.now c.args.put c.args.now a d c.args.lanes.now new.lanes c.args.disks.now new.disks)
+    (sym c.conclude.ensures.answer) (sym told) c.commit_register-outcome.ensures.cause
 
 pub returns-clause-gone : goal.returns-clause-gone
 returns-clause-gone g c =

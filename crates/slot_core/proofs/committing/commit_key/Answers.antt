@@ -4,7 +4,7 @@ use Rattle.register_core.specs.Found.{content_of}
 use Rattle.register_caller.proofs.StepLemmas.{tells_twice}
 use Rattle.slot_core.specs.Rules.{key_fault}
 use Rattle.slot_core.specs.declared.rules.TheConstants.{KEY_BYTES}
-use Rattle.slot_core.specs.Carrying.{IsTold, answer_told}
+use Rattle.slot_core.specs.Carrying.{IsTold, answer_told, deed_told}
 use Rattle.slot_core.specs.CommitCauses.{CommitCause, IsRuleOf}
 use Rattle.slot_core.specs.Committing.{name_of}
 use Rattle.slot_core.specs.Finishing.{CommitLeaves}
@@ -54,7 +54,7 @@ returns-in-Err-clause-cause g c =
     let rule : List ℕ → Option ℕ = λ (content : List ℕ). key_fault (Some c.own_ids-ids.result.alone) (Some c.own_ids-ids.result.after) content in
     let looks = subst (λ (n : List ℕ). LooksAt {D = T} D.tells D.files D.count site drawn n rule KEY_BYTES (Err c.in-Err.fault) c.args.lanes.now c.look_at.new.lanes
     c.args.disks.now c.look_at.new.disks) (sym c.requires.named) c.in-Err.ensures.looks in
-    kept_cases (λ (o : Outcome). CommitCause {D = T} D.tells D.files D.count (numbers_at site drawn) (numbers_at site drawn) deed c.args.put c.args.now (answer_told o) c.args.lanes.now
+    kept_cases (λ (o : Outcome). CommitCause {D = T} D.tells D.files D.count (numbers_at site drawn) (numbers_at site drawn) deed c.args.put c.args.now (answer_told o) (deed_told o) c.args.lanes.now
     c.look_at.new.lanes c.args.disks.now c.look_at.new.disks) c.in-Err.fault c.kept.result c.kept.ensures
     (λ other. (
       other,

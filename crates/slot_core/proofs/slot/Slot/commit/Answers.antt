@@ -6,6 +6,7 @@ use Rattle.register_core.specs.Loops.{CountsRise, TellsStay}
 use Rattle.slot_history.specs.Standing.{Flying}
 use Rattle.slot_data.specs.Rows.{flying_of}
 use Rattle.slot_core.specs.Carrying.{kept_with}
+use Rattle.slot_core.specs.CommitCauses.{deed_in}
 use Rattle.slot_core.specs.Committing.{MayCommitData, ShowsTrash}
 use Rattle.slot_core.specs.Landing.{flight_put, handed, put_of}
 use Rattle.slot_core.specs.Settling.{numbers_at}
@@ -89,7 +90,7 @@ returns-clause-cause g c =
     let lanes : List T = c.commit_landed-turn.new.lanes in
     let is : lanes ≡ (with_items self.lanes lanes).items = sym (with_items_is self.lanes lanes (c.commit_landed-turn.auto.lanes ∙ c.as_mut_slice.ensures.len)) in
     commit_turned {D = T} D.tells D.files D.count (numbers_of self) (numbers_at site c.commit_landed-turn.new.drawn) (self.turns + 1) c.args.deed.now (flight_put c.args.flight)
-    (handed c.land-landing.result) c.args.now c.commit_landed-turn.result.answer self.lanes.items c.as_mut_slice.result.now (with_items self.lanes lanes).items lanes c.args.disks.now
+    (handed c.land-landing.result) c.args.now c.commit_landed-turn.result.answer (deed_in (entry_of c.commit_landed-turn.result.stub)) self.lanes.items c.as_mut_slice.result.now (with_items self.lanes lanes).items lanes c.args.disks.now
     c.commit_landed-turn.new.disks (handed_flight c.args.flight c.land-landing.result self.flights.items c.land-landing.new.flights.items c.land-landing.ensures.lands)
     c.as_mut_slice.ensures.value is c.commit_landed-turn.ensures.cause
 
