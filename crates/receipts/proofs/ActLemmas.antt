@@ -23,7 +23,7 @@ use Rattle.receipts.specs.Committing.{EndsAtCommit}
 use Rattle.receipts.specs.Deleting.{Deletes}
 use Rattle.receipts.specs.Events.{Log, Note, Section, body_of, notes_of, sections_of}
 use Rattle.receipts.specs.Events.Event.{Told}
-use Rattle.receipts.specs.Laws.{IsDoneIn, IsLookedAtIn, ReceiptShowsAct, ShowsAct}
+use Rattle.receipts.specs.Laws.{IsDoneIn, IsLookedAtIn, NotesAreOwed, ReceiptShowsAct, ShowsAct}
 use Rattle.receipts.specs.Looks.{EndsAtLook}
 use Rattle.receipts.specs.Owes.{OwesCall}
 use Rattle.receipts.specs.Putting.{PutsBody}
@@ -127,7 +127,7 @@ shows_get set at pick ask now body (reply_of.Completed etag id) reply log reads 
 -- what is owed before the reply is told shows the act
 shows : (set : SetPlan) (call : Call) (now : ℕ) (reply : Reply) (log : Log) → OwesCall set call now reply log → IsServed reply
     → ShowsAct set call now (body_of log) reply (notes_of log)
-shows set call_of.ListBuckets now reply log x served = absurd (unserved reply _ x served)
+shows set call_of.ListBuckets now reply log x served = absurd (unserved reply _ x.0 served)
 shows set (call_of.CreateBucket bucket) now reply log x served = shows_bucket bucket _ _ now reply log x.1 served
 shows set (call_of.HeadBucket bucket) now reply log x served = elim x.1 [
   | inl ended ↦ absurd (at_look bucket reply log ended served)
@@ -164,12 +164,12 @@ shows set (call_of.Delete at pick) now reply log x served = elim x.1 [
   | inr (inl made) ↦ shows_delete set at pick now reply log made served
   | inr (inr barred) ↦ absurd (unserved reply _ barred.barred.told served)
 ]
-shows set (call_of.List2 bucket page) now reply log x served = absurd (unserved reply _ x served)
-shows set (call_of.ListVersions bucket page) now reply log x served = absurd (unserved reply _ x served)
-shows set (call_of.Create at kinds) now reply log x served = absurd (unserved reply _ x served)
-shows set (call_of.Part at upload number stated long) now reply log x served = absurd (unserved reply _ x served)
-shows set (call_of.Complete at upload long) now reply log x served = absurd (unserved reply _ x served)
-shows set (call_of.Abort at upload) now reply log x served = absurd (unserved reply _ x served)
+shows set (call_of.List2 bucket page) now reply log x served = absurd (unserved reply _ x.0 served)
+shows set (call_of.ListVersions bucket page) now reply log x served = absurd (unserved reply _ x.0 served)
+shows set (call_of.Create at kinds) now reply log x served = absurd (unserved reply _ x.0 served)
+shows set (call_of.Part at upload number stated long) now reply log x served = absurd (unserved reply _ x.0 served)
+shows set (call_of.Complete at upload long) now reply log x served = absurd (unserved reply _ x.0 served)
+shows set (call_of.Abort at upload) now reply log x served = absurd (unserved reply _ x.0 served)
 
 -- what a part of the notes shows all of them show
 more_done : (slot : ℕ) (name : List ℕ) (IsCall : Brief → Type 0) (told : Reply) (notes more : List Note)
@@ -215,3 +215,12 @@ receipt_shows_act set task body reply bytes notes x served =
     (shows set task.call task.now reply owed.before owed.owed served) in
     subst (λ l. ShowsAct set task.call task.now body reply l) (sym (x.notes_are ∙ joined))
     (subst (λ b. ShowsAct set task.call task.now b reply (notes_of owed.before ++ notes_of owed.rest)) (sym (x.body_is ∙ taken)) first)
+
+pub notes_are_owed : NotesAreOwed
+notes_are_owed set task body reply bytes notes x =
+    let owed = x.owes.front.was_owed in
+    let none : notes_of owed.rest ≡ [] = ap (map (λ (section : Section). section.note)) owed.still in
+    let joined : notes_of x.log ≡ notes_of owed.before =
+    ap notes_of owed.parts ∙ (notes_join owed.before (Told (TheHead reply) None ∷ owed.rest)
+    ∙ (ap (λ rest. notes_of owed.before ++ rest) none ∙ append-nil (notes_of owed.before))) in
+    (owed.before, owed.owed, x.notes_are ∙ joined)

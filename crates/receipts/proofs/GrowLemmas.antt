@@ -1,8 +1,8 @@
 -- Logs that grow by quiet events.
 use Rattle.std.proofs.Common.{◌≡◌, ◌∙◌, zero, suc, List, [], ◌∷◌, ◌++◌, All, Contains, map, slice_index_or, append-nil, append_assoc, ap, ap₂, refl, arith}
 use Rattle.std.specs.List.{flat_map}
-use Rattle.std.proofs.lemmas.List.Elements.{All-append, Contains-append_left}
-use Rattle.receipts.specs.Events.{Event, IsQuiet, IsSince, IsUntold, Log, body_of, cut_in, cuts_of, section_in, sections_of, taken_in, tale_of, told_in}
+use Rattle.std.proofs.lemmas.List.Elements.{Contains-append_left}
+use Rattle.receipts.specs.Events.{Event, IsQuiet, IsUntold, Log, body_of, cut_in, cuts_of, section_in, sections_of, taken_in, tale_of, told_in}
 use Rattle.receipts.specs.Laws.{QuietKeepsNotes}
 use Rattle.receipts.proofs.JoinLemmas.{bodies_join, cuts_join, quiet_is_silent, sections_join, tales_join}
 
@@ -42,25 +42,23 @@ quiet_notes log more quiet = ap (map (λ section. section.note)) (quiet_sections
 pub quiet_untold : (more : Log) → All IsQuiet more → All IsUntold more
 quiet_untold more quiet k d l = (quiet_is_silent (slice_index_or more k d) (quiet k d l)).untold
 
--- a log grows: its sections and what was taken stay, and what was called stays called, also since the last telling
+-- a log grows: its sections and what was taken stay, and what was called stays called, also in its last part, in which nothing more is told
 pub record Grows (log later : Log) : Type 0 where
   pub sections : sections_of later ≡ sections_of log
   pub body : body_of later ≡ body_of log
   pub calls : (event : Event) → Contains log event → Contains later event
-  pub since : (s : Log) → IsSince log s → (t : Log) × IsSince later t × ((event : Event) → Contains s event → Contains t event)
-
-since_grows : (log more s : Log) → All IsQuiet more → IsSince log s → IsSince (log ++ more) (s ++ more)
-since_grows log more s quiet is = record {
-  before = is.before;
-  parts = ap (λ l. l ++ more) is.parts ∙ append_assoc is.before s more;
-  begins = is.begins;
-  untold = All-append IsUntold s more is.untold (quiet_untold more quiet);
-}
+  pub since : (before s : Log) → log ≡ before ++ s → (t : Log) × (later ≡ before ++ t) × (tale_of t ≡ tale_of s)
+      × ((event : Event) → Contains s event → Contains t event)
 
 pub quiet_grows : (log more : Log) → All IsQuiet more → Grows log (log ++ more)
 quiet_grows log more quiet = record {
   sections = quiet_sections log more quiet;
   body = quiet_bodies log more quiet;
   calls = λ event h. Contains-append_left log more event h;
-  since = λ s is. (s ++ more, since_grows log more s quiet is, λ event h. Contains-append_left s more event h);
+  since = λ before s parts. (
+    s ++ more,
+    ap (λ l. l ++ more) parts ∙ append_assoc before s more,
+    quiet_tales s more quiet,
+    λ event h. Contains-append_left s more event h,
+  );
 }

@@ -1,5 +1,5 @@
 -- What is owed stays owed while a log grows.
-use Rattle.std.proofs.Common.{◌≡◌, ◌≢◌, ◌∙◌, ℕ, List, Option, Contains, length, slice_index_or, inl, inr, sym, ap, subst}
+use Rattle.std.proofs.Common.{◌≡◌, ◌≢◌, ◌∙◌, ℕ, List, Option, Contains, length, slice_index_or, inl, inr, sym, ap, subst, ◌≤◌, ◌*◌}
 use Rattle.call_types.specs.declared.act.Act.{Act}
 use Rattle.call_types.specs.declared.act.Brief.{Brief}
 use Rattle.call_types.specs.declared.names.Key.{Key}
@@ -16,6 +16,9 @@ use Rattle.bucket_book.specs.declared.step.BucketAct.{BucketAct}
 use Rattle.drive_base.specs.declared.plan.SetPlan.{SetPlan}
 use Rattle.stamp_id.specs.declared.stamp.ChangeId.{ChangeId}
 use Rattle.stamp_id.specs.declared.version.VersionId.{VersionId}
+use Rattle.desk_base.specs.Telling.{Telling}
+use Rattle.shard_file.specs.Stripes.{stripe_size}
+use Rattle.std.specs.List.{flat_map}
 use Rattle.desk_base.specs.declared.call.Call.{Call}
 use Rattle.desk_base.specs.declared.call.Call.TheVariants as call_of
 use Rattle.receipts.specs.Bucketing.{BucketActOwes, BucketIsThere, GetVersioningOwes, HeadBucketOwes, PutVersioningOwes}
@@ -29,7 +32,7 @@ use Rattle.s3_docs.specs.Documents.{IsDocument, IsPlace}
 use Rattle.s3_docs.specs.Machine.Value.{Versioning}
 use Rattle.s3_docs.specs.declared.prologue.Root.TheVariants.{VersioningConfiguration}
 use Rattle.receipts.specs.Events.{Event, Log, body_of}
-use Rattle.receipts.specs.Letters.{BlockLetter, CannotRead, FewBlocks, FewTook, IsBadManifest, IsBadShard, ManifestLetter, NoneServes, ShowedAt, ShowedBlock, ShowedTable, StageLetter, Wanted, Wants}
+use Rattle.receipts.specs.Letters.{BlockLetter, CannotRead, FewBlocks, FewTook, IsBadManifest, IsBadShard, IsGoodBlock, ManifestLetter, NoneServes, ShowedAt, ShowedBlock, ShowedTable, StageLetter, Wanted, Wants, bytes_in}
 use Rattle.receipts.specs.Looks.{EndsAtLook, TellsSpent}
 use Rattle.receipts.specs.Owes.{IsWhole, OwesCall}
 use Rattle.receipts.specs.Putting.{BodyIsNotTaken, DigestDiffers, IsAgreed, PutIsCommitted, PutIsNotBegun, PutOwes, PutsBody}
@@ -109,10 +112,21 @@ bad_shard wants log later since after k keeps goes_on (inr (inl x)) = inr (inl (
 bad_shard wants log later since after k keeps goes_on (inr (inr x)) =
     inr (inr (record { place = x.place; long = x.long; ends = x.ends; asked = x.asked; short = goes_on _ x.short }))
 
+good_block : (wants : Wants) (log later since after : Log) (k : ℕ) → ((event : Event) → Contains log event → Contains later event)
+    → ((event : Event) → Contains since event → Contains after event) → IsGoodBlock wants log since k → IsGoodBlock wants later after k
+good_block wants log later since after k keeps goes_on x = record {
+  table = x.table;
+  showed_table = showed_table wants log later k x.table keeps x.showed_table;
+  rooted = x.rooted;
+  block = x.block;
+  showed = showed_block wants since after k x.block goes_on x.showed;
+  same = x.same;
+}
+
 block_letter : (set : SetPlan) (wants : Wants) (log later since after : Log) (k : ℕ) (why : Why)
     → ((event : Event) → Contains log event → Contains later event) → ((event : Event) → Contains since event → Contains after event)
     → BlockLetter set wants log since k why → BlockLetter set wants later after k why
-block_letter set wants log later since after k Good keeps goes_on h = h
+block_letter set wants log later since after k Good keeps goes_on h = (h.0, good_block wants log later since after k keeps goes_on h.1)
 block_letter set wants log later since after k (Failed before behind) keeps goes_on h = (h.0, goes_on _ h.1)
 block_letter set wants log later since after k (Damaged damage) keeps goes_on h = (h.0, bad_shard wants log later since after k keeps goes_on h.1)
 block_letter set wants log later since after k (Behind ballot) keeps goes_on h = h
@@ -123,20 +137,24 @@ block_letter set wants log later since after k (Lacks kind.Shard) keeps goes_on 
 
 few_blocks : (set : SetPlan) (wanted : Wanted) (next : ℕ) (whys : List Why) (log later : Log) → Grows log later
     → FewBlocks set wanted next whys log → FewBlocks set wanted next whys later
-few_blocks set wanted next whys log later g x = let since = g.since x.since x.is_since in record {
+few_blocks set wanted next whys log later g x = let since = g.since x.is_since.before x.since x.is_since.parts in record {
   manifest = x.manifest;
   serves = x.serves;
   drive = x.drive;
-  showed = g.calls _ x.showed;
   number = x.number;
   part = x.part;
   stripe = x.stripe;
   next_in = x.next_in;
   needed = x.needed;
   since = since.0;
-  is_since = since.1;
+  is_since = record {
+    before = x.is_since.before;
+    parts = since.1;
+    showed = x.is_since.showed;
+    recent = subst (λ (tale : List Telling). length (flat_map bytes_in tale) ≤ 3 * stripe_size) (sym since.2) x.is_since.recent;
+  };
   few = x.few;
-  each = λ k l. block_letter set _ log later x.since since.0 k (slice_index_or whys k Good) g.calls since.2 (x.each k l);
+  each = λ k l. block_letter set _ log later x.since since.0 k (slice_index_or whys k Good) g.calls since.3 (x.each k l);
 }
 
 pub cannot_read : (set : SetPlan) (wanted : Wanted) (next : ℕ) (whys : List Why) (log later : Log) → Grows log later
@@ -147,7 +165,7 @@ cannot_read set wanted next whys log later g (inr x) = inr (few_blocks set wante
 pub body_lost : (set : SetPlan) (version : Version) (span : Span) (next : ℕ) (whys : List Why) (log later : Log) → Grows log later
     → BodyIsLost set version span next whys log → BodyIsLost set version span next whys later
 body_lost set version span next whys log later g x =
-    record { wanted = x.wanted; is_wanted = x.is_wanted; cause = cannot_read set x.wanted next whys log later g x.cause }
+    record { wanted = x.wanted; is_wanted = x.is_wanted; some = x.some; cause = cannot_read set x.wanted next whys log later g x.cause }
 
 -- the looks
 spent : (slot : ℕ) (reply : Reply) (log later : Log) → Grows log later → TellsSpent slot reply log → TellsSpent slot reply later
@@ -328,7 +346,7 @@ whole call log later g x = ap length g.body ∙ x
 
 pub call_owes : (set : SetPlan) (call : Call) (now : ℕ) (reply : Reply) (log later : Log) → Grows log later
     → OwesCall set call now reply log → OwesCall set call now reply later
-call_owes set call_of.ListBuckets now reply log later g x = x
+call_owes set call_of.ListBuckets now reply log later g x = (x.0, g.sections ∙ x.1)
 call_owes set (call_of.CreateBucket bucket) now reply log later g x =
     (whole (call_of.CreateBucket bucket) log later g x.0, bucket_act_owes bucket _ _ now reply log later g x.1)
 call_owes set (call_of.HeadBucket bucket) now reply log later g x =
@@ -345,9 +363,9 @@ call_owes set (call_of.Head at pick) now reply log later g x =
     (whole (call_of.Head at pick) log later g x.0, head_owes at pick reply log later g x.1)
 call_owes set (call_of.Delete at pick) now reply log later g x =
     (whole (call_of.Delete at pick) log later g x.0, delete_owes at pick now reply log later g x.1)
-call_owes set (call_of.List2 bucket page) now reply log later g x = x
-call_owes set (call_of.ListVersions bucket page) now reply log later g x = x
-call_owes set (call_of.Create at kinds) now reply log later g x = x
-call_owes set (call_of.Part at upload number stated long) now reply log later g x = x
-call_owes set (call_of.Complete at upload long) now reply log later g x = x
-call_owes set (call_of.Abort at upload) now reply log later g x = x
+call_owes set (call_of.List2 bucket page) now reply log later g x = (x.0, g.sections ∙ x.1)
+call_owes set (call_of.ListVersions bucket page) now reply log later g x = (x.0, g.sections ∙ x.1)
+call_owes set (call_of.Create at kinds) now reply log later g x = (x.0, g.sections ∙ x.1)
+call_owes set (call_of.Part at upload number stated long) now reply log later g x = (x.0, g.sections ∙ x.1)
+call_owes set (call_of.Complete at upload long) now reply log later g x = (x.0, g.sections ∙ x.1)
+call_owes set (call_of.Abort at upload) now reply log later g x = (x.0, g.sections ∙ x.1)

@@ -19,10 +19,10 @@ use Rattle.receipts.specs.Clashes.{ClashIn, WasMet}
 use Rattle.receipts.specs.Events.{IsQuiet, Log}
 use Rattle.receipts.specs.Events.Event.{Told}
 use Rattle.receipts.specs.Laws.{QuietKeepsPay}
-use Rattle.receipts.specs.Paying.{BodyIsCut, IsTaleOf, Outcome, Owes, OwesCut, OwesPart, TellsFront, TellsOutcome, WasOwed}
+use Rattle.receipts.specs.Paying.{BodyIsCut, ChangesNothing, DidNoMore, IsTaleOf, Outcome, Owes, OwesCut, OwesPart, TellsFront, TellsOutcome, WasOwed}
 use Rattle.receipts.specs.Paying.Outcome.{CutOff, Replied}
 use Rattle.receipts.specs.Spans.{AreOfVersion, GivesBytes, GivesFound}
-use Rattle.receipts.proofs.GrowLemmas.{Grows, quiet_bodies, quiet_cuts, quiet_grows, quiet_tales}
+use Rattle.receipts.proofs.GrowLemmas.{Grows, quiet_bodies, quiet_cuts, quiet_grows, quiet_sections, quiet_tales}
 use Rattle.receipts.proofs.OweLemmas.{body_lost}
 
 -- a clash stays one
@@ -63,6 +63,7 @@ was_owed set task reply log more quiet x = record {
   first = x.first;
   owed = x.owed;
   over = quiet_bodies x.rest more quiet ∙ x.over;
+  still = quiet_sections x.rest more quiet ∙ x.still;
 }
 
 front : (set : SetPlan) (task : Task) (reply : Reply) (bytes : List ℕ) (log more : Log) → All IsQuiet more
@@ -72,8 +73,14 @@ front set task reply bytes log more quiet x = record {
   given = gives_bytes set task.call reply bytes log (log ++ more) (quiet_grows log more quiet) x.given;
 }
 
+-- what was done stays done
+no_more : (set : SetPlan) (task : Task) (log more : Log) → All IsQuiet more → DidNoMore set task log → DidNoMore set task (log ++ more)
+no_more set task log more quiet (inl none) = inl (subst (λ sections. All ChangesNothing sections) (sym (quiet_sections log more quiet)) none)
+no_more set task log more quiet (inr x) =
+    inr (x.0, x.1, x.2 ++ more, ap (λ l. l ++ more) x.3 ∙ append_assoc x.1 x.2 more, x.4, quiet_sections x.2 more quiet ∙ x.5)
+
 part : (set : SetPlan) (task : Task) (tale : List Telling) (log more : Log) → All IsQuiet more → OwesPart set task tale log → OwesPart set task tale (log ++ more)
-part set task tale log more quiet (inl none) = inl none
+part set task tale log more quiet (inl none) = inl (none.0, no_more set task log more quiet none.1)
 part set task tale log more quiet (inr x) = inr (x.0, x.1, x.2, x.3, front set task x.0 x.1 log more quiet x.4)
 
 body_cut : (set : SetPlan) (task : Task) (whys : List Why) (tale : List Telling) (log more : Log) → All IsQuiet more
@@ -93,9 +100,9 @@ body_cut set task whys tale log more quiet x = record {
 
 owes_cut : (set : SetPlan) (task : Task) (why : Cut) (tale : List Telling) (log more : Log) → All IsQuiet more
     → OwesCut set task why tale log → OwesCut set task why tale (log ++ more)
-owes_cut set task cut_of.ReadFault tale log more quiet x = (x.0, quiet_cuts log more quiet ∙ x.1)
+owes_cut set task cut_of.ReadFault tale log more quiet x = (x.0, quiet_cuts log more quiet ∙ x.1, no_more set task log more quiet x.2)
 owes_cut set task (cut_of.BodyCut read stated) tale log more quiet x =
-    (x.0, quiet_cuts log more quiet ∙ x.1, x.2 ∙ sym (ap length (quiet_bodies log more quiet)), x.3, x.4)
+    (x.0, quiet_cuts log more quiet ∙ x.1, x.2 ∙ sym (ap length (quiet_bodies log more quiet)), x.3, x.4, no_more set task log more quiet x.5)
 owes_cut set task cut_of.WriteFault tale log more quiet x = (part set task tale log more quiet x.0, quiet_cuts log more quiet ∙ x.1)
 owes_cut set task (cut_of.ShardCut whys) tale log more quiet x = body_cut set task whys tale log more quiet x
 owes_cut set task cut_of.NoMemory tale log more quiet x = (

@@ -1,5 +1,5 @@
 -- What happens while a call is served: the sections of slots, the calls of data drives, what is taken of its body and what is told, in their order.
-use Rattle.std.specs.Prelude.{◌≡◌, ◌⊎◌, ℕ, List, [], ◌∷◌, ◌++◌, All, map, Option, Some, None}
+use Rattle.std.specs.Prelude.{ℕ, List, [], ◌∷◌, map, Option, Some, None}
 use Rattle.std.specs.List.{flat_map}
 use Rattle.audit_trail.specs.declared.entry.Entry.{Entry}
 use Rattle.call_types.specs.declared.feed.Cut.{Cut}
@@ -21,8 +21,8 @@ pub data Shown : Type 0 where
   NamesShown : List ℕ → ℕ → List (List ℕ) → Shown
 
 -- what a call of a data drive gave: the length of the file of a name; bytes of it from a place on; that it ends before as many bytes from a place on, at
--- which place; that there is no file of the name; that none of a loose name is being written; that the call was done and gave nothing; or that it failed,
--- with the drive's counts of faults before and after it
+-- which place; that there is no file of the name; that none of a loose name is being written; that the call was done and gave nothing; that it failed, with
+-- the drive's counts of faults before and after it; or that none was made
 pub data Seen : Type 0 where
   Sized : List ℕ → ℕ → Seen
   Showed : List ℕ → ℕ → List ℕ → Seen
@@ -31,6 +31,7 @@ pub data Seen : Type 0 where
   Unwritten : List ℕ → Seen
   Wrote : Seen
   Faulted : ℕ → ℕ → Seen
+  Uncalled : Seen
 
 -- one step: a section of a slot, with its note, if it has one, and what it showed; a section that could not be done, and why; one call of the data drive
 -- of an index; bytes taken of the body, and a telling, each with its failure, if it failed. What failed to be told was not told
@@ -120,10 +121,3 @@ IsQuiet (BarredFrom slot why) = Unit {0}
 IsQuiet (Called drive seen) = Unit {0}
 IsQuiet (Fed bytes cut) = ⊥
 IsQuiet (Told telling cut) = ⊥
-
--- the part of a log since something was last told, or the whole of one in which nothing was told
-pub record IsSince (log since : Log) : Type 0 where
-  pub before : Log
-  pub parts : log ≡ before ++ since
-  pub begins : (before ≡ []) ⊎ ((front : Log) × (telling : Telling) × (before ≡ front ++ Told telling None ∷ []))
-  pub untold : All IsUntold since

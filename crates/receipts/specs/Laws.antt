@@ -25,7 +25,7 @@ use Rattle.version_list.specs.Answers.{IsServed}
 use Rattle.receipts.specs.Events.{IsQuiet, Log, Note, body_of, cuts_of, notes_of, sections_of, tale_of}
 use Rattle.receipts.specs.Looks.{HasEntry}
 use Rattle.receipts.specs.Owes.{OwesReply}
-use Rattle.receipts.specs.Paying.{EndsAs, Outcome, Pays, Receipt, TellsOutcome}
+use Rattle.receipts.specs.Paying.{ChangesNothing, EndsAs, Outcome, Pays, Receipt, TellsOutcome}
 use Rattle.receipts.specs.Paying.Outcome.{Replied}
 use Rattle.receipts.specs.Putting.{PutsBody}
 use Rattle.receipts.specs.Registers.{bucket_register, bucket_slot, key_register, key_slot}
@@ -119,3 +119,13 @@ ShowsAct set (Abort at upload) now body reply notes = ⊥
 abbrev pub ReceiptShowsAct : Type 0
 ReceiptShowsAct = (set : SetPlan) (task : Task) (body : List ℕ) (reply : Reply) (bytes : List ℕ) (notes : List Note)
     → Receipt set task body (Replied reply bytes) notes → IsServed reply → ShowsAct set task.call task.now body reply notes
+
+-- a call that is cut before its body is whole changed nothing
+abbrev pub CutBodyChangesNothing : Type 0
+CutBodyChangesNothing = (set : SetPlan) (task : Task) (read stated : ℕ) (log : Log) → Pays set task (Some (BodyCut read stated)) log
+    → All ChangesNothing (sections_of log)
+
+-- the notes of a receipt whose reply was told whole are those by which the reply was owed
+abbrev pub NotesAreOwed : Type 0
+NotesAreOwed = (set : SetPlan) (task : Task) (body : List ℕ) (reply : Reply) (bytes : List ℕ) (notes : List Note)
+    → Receipt set task body (Replied reply bytes) notes → (front : Log) × OwesReply set task reply front × (notes ≡ notes_of front)

@@ -1,7 +1,7 @@
 -- Why too few drives took a body, or gave one: a letter for each drive, each with the call that it tells of.
-use Rattle.std.specs.Prelude.{◌≡◌, ◌≢◌, ◌⊎◌, ℕ, ◌+◌, ◌*◌, ◌<◌, ◌≤◌, List, [], Some, Contains, length, take, drop, slice_get, slice_index_or}
+use Rattle.std.specs.Prelude.{◌≡◌, ◌≢◌, ◌⊎◌, ℕ, ◌+◌, ◌*◌, ◌<◌, ◌≤◌, List, [], ◌++◌, Some, Contains, length, take, drop, slice_get, slice_index_or}
 use Rattle.std.specs.Int.{IsBitSet}
-use Rattle.std.specs.List.{sum_by}
+use Rattle.std.specs.List.{flat_map, sum_by}
 use Rattle.sha2.specs.Sha256.{sha256}
 use Rattle.stamp_id.specs.declared.version.VersionId.{VersionId}
 use Rattle.call_types.specs.Good.{good_count}
@@ -19,7 +19,9 @@ use Rattle.manifest_file.specs.declared.manifest.TheConstants.{LONGEST_FILE}
 use Rattle.shard_file.specs.Shards.{block_place, table_place}
 use Rattle.shard_file.specs.Stripes.{block_size, stripe_count, stripe_length, stripe_size}
 use Rattle.body_print.specs.Names.{loose_manifest_name, loose_shard_name, manifest_name, shard_name}
-use Rattle.receipts.specs.Events.{IsSince, Log}
+use Rattle.desk_base.specs.Telling.{Telling}
+use Rattle.desk_base.specs.Telling.Telling.{Head, Piece}
+use Rattle.receipts.specs.Events.{Log, tale_of}
 use Rattle.receipts.specs.Events.Event.{Called}
 use Rattle.receipts.specs.Events.Seen.{CutShort, Faulted, Missing, Showed, Sized, Unwritten}
 
@@ -157,9 +159,18 @@ pub record IsCutShard (wants : Wants) (since : Log) (k : ℕ) : Type 0 where
 abbrev pub IsBadShard : Wants → Log → Log → ℕ → Type 0
 IsBadShard wants log since k = IsBadTable wants since k ⊎ IsBadBlock wants log since k ⊎ IsCutShard wants since k
 
--- why a drive gave no verified block of a stripe: the calls since the last telling tell why, and a table may have been shown before
+-- a drive showed a block of the stripe that has the digest which its table has, and the table has the root
+pub record IsGoodBlock (wants : Wants) (log since : Log) (k : ℕ) : Type 0 where
+  pub table : List ℕ
+  pub showed_table : ShowedTable wants log k table
+  pub rooted : wants.root ≡ sha256 table
+  pub block : List ℕ
+  pub showed : ShowedBlock wants since k block
+  pub same : take 32 (drop (32 * wants.stripe) table) ≡ sha256 block
+
+-- why a drive gave a verified block of a stripe, or none: the calls since then tell why, and a table may have been shown before
 abbrev pub BlockLetter : SetPlan → Wants → Log → Log → ℕ → Why → Type 0
-BlockLetter set wants log since k Good = IsInUse set k
+BlockLetter set wants log since k Good = IsInUse set k × IsGoodBlock wants log since k
 BlockLetter set wants log since k (Failed before after) = IsInUse set k × Contains since (Called k (Faulted before after))
 BlockLetter set wants log since k (Damaged damage) = IsInUse set k × IsBadShard wants log since k
 BlockLetter set wants log since k (Behind ballot) = ⊥
@@ -175,19 +186,34 @@ pub record IsInStripe (m : Manifest) (at number : ℕ) (part : ManifestPart) (st
   pub ends : at < length_of_parts (take number m.parts) + stripe_size * (stripe + 1)
   pub within : at < length_of_parts (take number m.parts) + part.length
 
--- of the stripe that has the next byte fewer drives than it has data blocks gave one, and a manifest that serves was shown before
+-- the bytes that were told in a log, behind heads
+abbrev pub bytes_in : Telling → List ℕ
+bytes_in (Head reply) = []
+bytes_in (Piece bytes) = bytes
+
+abbrev pub told_bytes : Log → List ℕ
+told_bytes log = flat_map bytes_in (tale_of log)
+
+-- the part of a log since a reader turned to a window of stripes, of which it may read four at once: a manifest was shown before, and three stripes were told
+-- since at most
+pub record IsSinceTurned (log since : Log) (drive : ℕ) (name file : List ℕ) : Type 0 where
+  pub before : Log
+  pub parts : log ≡ before ++ since
+  pub showed : Contains before (Called drive (Showed name 0 file))
+  pub recent : length (told_bytes since) ≤ 3 * stripe_size
+
+-- of the stripe that has the next byte fewer drives than it has data blocks gave one, by the calls since its window was begun, behind a manifest that serves
 pub record FewBlocks (set : SetPlan) (wanted : Wanted) (next : ℕ) (whys : List Why) (log : Log) : Type 0 where
   pub manifest : Manifest
   pub serves : Serves set wanted manifest
   pub drive : ℕ
-  pub showed : Contains log (Called drive (Showed (manifest_name wanted.id) 0 (file_of manifest)))
   pub number : ℕ
   pub part : ManifestPart
   pub stripe : ℕ
   pub next_in : IsInStripe manifest next number part stripe
   pub needed : next < wanted.reach
   pub since : Log
-  pub is_since : IsSince log since
+  pub is_since : IsSinceTurned log since drive (manifest_name wanted.id) (file_of manifest)
   pub few : FewGood set (data_drives set.drives set.parity) whys
   pub each : (k : ℕ) → k < set.drives
       → BlockLetter set (record { d = data_drives set.drives set.parity; part = part; stripe = stripe; root = slice_index_or part.roots k [] }) log since k

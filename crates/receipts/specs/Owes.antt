@@ -1,5 +1,5 @@
 -- What is owed of a call: its reply, by what happened before it is told.
-use Rattle.std.specs.Prelude.{◌≡◌, ℕ, length}
+use Rattle.std.specs.Prelude.{◌≡◌, ℕ, [], length}
 use Rattle.call_types.specs.declared.refusal.Refusal.TheVariants.{NotImplemented}
 use Rattle.call_types.specs.declared.reply.Reply.{Reply}
 use Rattle.call_types.specs.declared.reply.Reply.TheVariants.{Refused}
@@ -10,13 +10,13 @@ use Rattle.desk_base.specs.declared.call.Call.TheVariants.{ListBuckets, CreateBu
 use Rattle.drive_base.specs.declared.plan.SetPlan.{SetPlan}
 use Rattle.receipts.specs.Bucketing.{CreateBucketOwes, GetVersioningOwes, HeadBucketOwes, PutVersioningOwes}
 use Rattle.receipts.specs.Deleting.{DeleteOwes}
-use Rattle.receipts.specs.Events.{Log, body_of}
+use Rattle.receipts.specs.Events.{Log, body_of, sections_of}
 use Rattle.receipts.specs.Putting.{PutOwes}
 use Rattle.receipts.specs.Reading.{GetOwes, HeadOwes}
 
--- a call that is not served yet: that is what it is told
-abbrev pub Later : Reply → Type 0
-Later reply = reply ≡ Refused NotImplemented
+-- a call that is not served yet: that is what it is told, and no section is done
+abbrev pub Later : Reply → Log → Type 0
+Later reply log = (reply ≡ Refused NotImplemented) × (sections_of log ≡ [])
 
 -- the body was taken to its stated end
 abbrev pub IsWhole : Call → Log → Type 0
@@ -24,7 +24,7 @@ IsWhole call log = length (body_of log) ≡ stated_length call
 
 -- the reply that is owed to a call at a moment. A body is taken to its end before, but for a call that is not served, after which the connection closes
 abbrev pub OwesCall : SetPlan → Call → ℕ → Reply → Log → Type 0
-OwesCall set ListBuckets now reply log = Later reply
+OwesCall set ListBuckets now reply log = Later reply log
 OwesCall set (CreateBucket bucket) now reply log = IsWhole (CreateBucket bucket) log × CreateBucketOwes bucket now reply log
 OwesCall set (HeadBucket bucket) now reply log = IsWhole (HeadBucket bucket) log × HeadBucketOwes bucket reply log
 OwesCall set (GetVersioning bucket) now reply log = IsWhole (GetVersioning bucket) log × GetVersioningOwes bucket reply log
@@ -33,12 +33,12 @@ OwesCall set (Put at kind md5 long) now reply log = IsWhole (Put at kind md5 lon
 OwesCall set (Get at pick ask) now reply log = IsWhole (Get at pick ask) log × GetOwes set at pick ask reply log
 OwesCall set (Head at pick) now reply log = IsWhole (Head at pick) log × HeadOwes at pick reply log
 OwesCall set (Delete at pick) now reply log = IsWhole (Delete at pick) log × DeleteOwes at pick now reply log
-OwesCall set (List2 bucket page) now reply log = Later reply
-OwesCall set (ListVersions bucket page) now reply log = Later reply
-OwesCall set (Create at kind) now reply log = Later reply
-OwesCall set (Part at upload number md5 long) now reply log = Later reply
-OwesCall set (Complete at upload long) now reply log = Later reply
-OwesCall set (Abort at upload) now reply log = Later reply
+OwesCall set (List2 bucket page) now reply log = Later reply log
+OwesCall set (ListVersions bucket page) now reply log = Later reply log
+OwesCall set (Create at kind) now reply log = Later reply log
+OwesCall set (Part at upload number md5 long) now reply log = Later reply log
+OwesCall set (Complete at upload long) now reply log = Later reply log
+OwesCall set (Abort at upload) now reply log = Later reply log
 
 -- that of what a desk is asked
 abbrev pub OwesReply : SetPlan → Task → Reply → Log → Type 0

@@ -1,6 +1,9 @@
 -- How a call ends, what is owed then, and the receipt of it.
-use Rattle.std.specs.Prelude.{◌≡◌, ◌⊎◌, ℕ, ◌+◌, ◌<◌, ◌≤◌, List, [], ◌∷◌, ◌++◌, All, length, map, Option, Some, None}
+use Rattle.std.specs.Prelude.{◌≡◌, ◌⊎◌, ℕ, ◌+◌, ◌<◌, ◌≤◌, List, [], ◌∷◌, ◌++◌, All, length, map, Option, Some, None, MatchOption}
 use Rattle.std.specs.List.{concat}
+use Rattle.audit_trail.specs.declared.entry.Deed.{Deed}
+use Rattle.audit_trail.specs.declared.entry.Deed.TheVariants.{Done, Kept}
+use Rattle.call_types.specs.declared.act.Brief.TheVariants.{Gather, Read}
 use Rattle.call_types.specs.declared.feed.Cut.{Cut}
 use Rattle.call_types.specs.declared.feed.Cut.TheVariants.{BodyCut, NoMemory, ReadFault, ShardCut, WriteFault}
 use Rattle.call_types.specs.declared.names.Span.{Span}
@@ -14,7 +17,7 @@ use Rattle.desk_base.specs.Calls.{stated_length}
 use Rattle.desk_base.specs.Telling.{Telling}
 use Rattle.desk_base.specs.Telling.Telling.{Head as TheHead, Piece}
 use Rattle.drive_base.specs.declared.plan.SetPlan.{SetPlan}
-use Rattle.receipts.specs.Events.{IsUntold, Log, Note, body_of, cuts_of, notes_of, tale_of}
+use Rattle.receipts.specs.Events.{IsUntold, Log, Note, Section, body_of, cuts_of, notes_of, sections_of, tale_of}
 use Rattle.receipts.specs.Events.Event.{Told}
 use Rattle.receipts.specs.Owes.{OwesReply}
 use Rattle.receipts.specs.Reading.{BodyIsLost}
@@ -39,7 +42,23 @@ abbrev pub EndsAs : Option Cut → Outcome → Type 0
 EndsAs cut (Replied reply bytes) = cut ≡ None
 EndsAs cut (CutOff why tale) = cut ≡ Some why
 
--- the reply was owed when its head was told. Before it nothing was told, and after it nothing is taken of the body
+-- what an entry says left all as it was: nothing was done, or something was read
+abbrev pub LeavesAll : Deed → Type 0
+LeavesAll Kept = Unit {0}
+LeavesAll (Done (Read at mode pick) reply) = Unit {0}
+LeavesAll (Done (Gather at upload parts) reply) = Unit {0}
+LeavesAll other = ⊥
+
+-- a section changed nothing: it wrote no entry, or one of such a deed
+abbrev pub ChangesNothing : Section → Type 0
+ChangesNothing section = MatchOption section.note.entry (Unit {0}) (λ entry. LeavesAll entry.deed)
+
+-- the sections of a log changed nothing, or all of them were done when a reply was owed
+abbrev pub DidNoMore : SetPlan → Task → Log → Type 0
+DidNoMore set task log = All ChangesNothing (sections_of log)
+    ⊎ ((reply : Reply) × (front : Log) × (rest : Log) × (log ≡ front ++ rest) × OwesReply set task reply front × (sections_of rest ≡ []))
+
+-- the reply was owed when its head was told. Before it nothing was told, and after it nothing is taken of the body and no section has a note
 pub record WasOwed (set : SetPlan) (task : Task) (reply : Reply) (log : Log) : Type 0 where
   pub before : Log
   pub rest : Log
@@ -47,6 +66,7 @@ pub record WasOwed (set : SetPlan) (task : Task) (reply : Reply) (log : Log) : T
   pub first : All IsUntold before
   pub owed : OwesReply set task reply before
   pub over : body_of rest ≡ []
+  pub still : sections_of rest ≡ []
 
 -- the head of a reply that was owed was told, and behind it the first bytes of its body
 pub record TellsFront (set : SetPlan) (task : Task) (reply : Reply) (bytes : List ℕ) (log : Log) : Type 0 where
@@ -59,9 +79,9 @@ pub record OwesWhole (set : SetPlan) (task : Task) (reply : Reply) (bytes : List
   pub whole : length bytes ≡ bytes_after reply task.call
   pub uncut : cuts_of log ≡ []
 
--- nothing was told, or a front of a reply
+-- nothing was told, and nothing was done that no reply tells; or a front of a reply was told
 abbrev pub OwesPart : SetPlan → Task → List Telling → Log → Type 0
-OwesPart set task tale log = (tale ≡ []) ⊎ ((reply : Reply) × (bytes : List ℕ) × IsTaleOf reply bytes tale
+OwesPart set task tale log = ((tale ≡ []) × DidNoMore set task log) ⊎ ((reply : Reply) × (bytes : List ℕ) × IsTaleOf reply bytes tale
     × (length bytes ≤ bytes_after reply task.call) × TellsFront set task reply bytes log)
 
 -- the body of a version was cut after some of its bytes: too few drives gave the next one, by these letters
@@ -77,11 +97,12 @@ pub record BodyIsCut (set : SetPlan) (task : Task) (whys : List Why) (tale : Lis
   pub lost : BodyIsLost set version span (span.at + length bytes) whys log
   pub uncut : cuts_of log ≡ []
 
--- what is owed of a call that is cut: the failure of feed or teller that cut it, or the letters of the drives; what was told is the front of an owed reply
+-- what is owed of a call that is cut: the failure of feed or teller that cut it, or the letters of the drives; what was told is the front of an owed reply,
+-- and nothing was done that no reply tells
 abbrev pub OwesCut : SetPlan → Task → Cut → List Telling → Log → Type 0
-OwesCut set task ReadFault tale log = (tale ≡ []) × (cuts_of log ≡ ReadFault ∷ [])
+OwesCut set task ReadFault tale log = (tale ≡ []) × (cuts_of log ≡ ReadFault ∷ []) × DidNoMore set task log
 OwesCut set task (BodyCut read stated) tale log = (tale ≡ []) × (cuts_of log ≡ BodyCut read stated ∷ [])
-    × (read ≡ length (body_of log)) × (stated ≡ stated_length task.call) × (read < stated)
+    × (read ≡ length (body_of log)) × (stated ≡ stated_length task.call) × (read < stated) × DidNoMore set task log
 OwesCut set task WriteFault tale log = OwesPart set task tale log × (cuts_of log ≡ WriteFault ∷ [])
 OwesCut set task (ShardCut whys) tale log = BodyIsCut set task whys tale log
 OwesCut set task NoMemory tale log = OwesPart set task tale log × ((cuts_of log ≡ []) ⊎ (cuts_of log ≡ NoMemory ∷ []))

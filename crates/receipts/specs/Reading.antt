@@ -1,5 +1,5 @@
 -- What GetObject and HeadObject owe.
-use Rattle.std.specs.Prelude.{◌≡◌, ◌⊎◌, ℕ, ◌+◌, List, [], ◌∷◌, Ok, Err, Option}
+use Rattle.std.specs.Prelude.{◌≡◌, ◌⊎◌, ℕ, ◌+◌, ◌<◌, List, [], ◌∷◌, Ok, Err, Option}
 use Rattle.audit_trail.specs.declared.entry.Deed.TheVariants.{Done}
 use Rattle.call_types.specs.declared.act.Brief.TheVariants.{Answer, Read}
 use Rattle.call_types.specs.declared.names.Key.{Key}
@@ -56,10 +56,11 @@ IsWanted Marker span wanted = ⊥
 IsWanted (Object data_id print size md5 parts upload kind) span wanted =
     (wanted.id ≡ data_id) × (wanted.print ≡ print) × (wanted.reach ≡ span.at + span.length)
 
--- the body of a version can't be read from a byte of the span on, by these letters
+-- the body of a version can't be read from a byte of a span on that has some, by these letters
 pub record BodyIsLost (set : SetPlan) (version : Version) (span : Span) (next : ℕ) (whys : List Why) (log : Log) : Type 0 where
   pub wanted : Wanted
   pub is_wanted : IsWanted version.what span wanted
+  pub some : 0 < span.length
   pub cause : CannotRead set wanted next whys log
 
 -- the range that a GetObject asks for is satisfiable in the version's body: the version is told with that span, or too few drives gave its first byte

@@ -1,6 +1,6 @@
 //! The laws of what calls owe.
 
-ghost use Rattle.receipts.specs.Laws.{OutcomesAreOne, PayIsTold, ReceiptShowsAct};
+ghost use Rattle.receipts.specs.Laws.{CutBodyChangesNothing, NotesAreOwed, OutcomesAreOne, PayIsTold, ReceiptShowsAct};
 ghost use Rattle.receipts.specs.Laws.{BodiesJoin, CutsJoin, NotesJoin, SectionsJoin, TalesJoin};
 ghost use Rattle.receipts.specs.Laws.{QuietKeepsNotes, QuietKeepsPay, QuietKeepsReply};
 
@@ -20,13 +20,15 @@ pub fn quiet_law()
     ensures pays { QuietKeepsPay }
 {}
 
-/// One log has one outcome, and what is paid is told as a desk must. It does nothing.
+/// One log has one outcome, what is paid is told as a desk must, and a call that is cut before its body is whole changed nothing. It does nothing.
 pub fn outcome_law()
     ensures one { OutcomesAreOne }
     ensures told { PayIsTold }
+    ensures cut { CutBodyChangesNothing }
 {}
 
-/// The act of a receipt is the call's. It does nothing.
+/// The act of a receipt is the call's, and its notes are those by which the reply was owed. It does nothing.
 pub fn act_law()
-    ensures { ReceiptShowsAct }
+    ensures act { ReceiptShowsAct }
+    ensures notes { NotesAreOwed }
 {}
