@@ -1,7 +1,9 @@
+pub mod CommitLemmas
 pub mod DataLemmas
 pub mod LookLemmas
 pub mod NoteLemmas
 pub mod RunLemmas
 pub mod SlotLemmas
 pub mod StepLemmas
+pub mod TellLemmas
 pub mod TurnLemmas

@@ -14,10 +14,10 @@ use Rattle.slot_core.specs.declared.fault.SlotFault.{SlotFault}
 use Rattle.slot_core.specs.declared.stub.Stub.{Stub}
 use Rattle.op_steps.specs.Claims.{Claim, HoldsAt, IsMet, among, claims_at, disks_of, hands_of}
 use Rattle.op_steps.specs.Looking.{AreOnlyRead, LookIsTurn, LookSays, ReadIsCall, shown_by}
-use Rattle.op_steps.specs.Moves.{ShowsBy, TurnLeaves}
+use Rattle.op_steps.specs.Moves.{KeepsOthers, ShowsBy, TurnLeaves}
 use Rattle.op_steps.specs.Notes.{noted}
 use Rattle.op_steps.specs.Store.{LanesStand, SlotSeen}
-use Rattle.op_steps.proofs.DataLemmas.{data_read}
+use Rattle.op_steps.proofs.DataLemmas.{data_read, last_rises}
 use Rattle.op_steps.proofs.NoteLemmas.{audit_noted, entry_counts, entry_noted, same_entry}
 
 -- what was shown is so of the register that the entry names
@@ -65,17 +65,19 @@ module _ {D : Type 0} (ghosts : Ghosts D) where
         stands = left.stands;
         moves = subst (λ e. EntryMoves was.numbers.index e (ShowsBy e (shown_by answer)) records state left.after left.now) (sym (same_entry stub))
             (moves_by was.numbers.index (entry_of stub) name answer records left.after state left.now x.says left.moves);
-        holds = λ front rest d.
-            let inner : HoldsAt was.numbers.set was.numbers.index (last_of now.numbers) now.holding (views ghosts old) (among front claim rest) left.after left.now = record {
+        holds = λ unseen front rest d.
+            let inner : HoldsAt was.numbers.set was.numbers.index (last_of now.numbers) now.holding unseen (views ghosts old) (among front claim rest) left.after left.now = record {
               tell = d.tell;
-              stands = left.holds (disks_of was.numbers.set.out (views ghosts old)) (hands_of (claims_at was.numbers.index (among front claim rest)))
+              stands = left.holds (disks_of unseen was.numbers.set.out (views ghosts old)) (hands_of (claims_at was.numbers.index (among front claim rest)))
                   (hands_of (claims_at was.numbers.index (among front claim rest))) refl d.stands;
-              met = λ c there. subst (λ h. IsMet was.numbers.set h (views ghosts old) c) (sym x.holds) (d.met c there);
+              loose = λ k id inside in_use own above. d.loose k id inside in_use own
+                  (let rises = last_rises was.numbers now.numbers x.turns.numbers in omega (arith, rises, above));
+              met = λ c there. subst (λ h. IsMet was.numbers.set h unseen (views ghosts old) c) (sym x.holds) (d.met c there);
               apart = d.apart;
             } in
-            data_read now.numbers now.holding (views ghosts old) (views ghosts new) (among front claim rest) (among front claim rest) left.after left.now
+            data_read now.numbers now.holding unseen (views ghosts old) (views ghosts new) (among front claim rest) (among front claim rest) left.after left.now
             (all_read old new x.read) refl
-            (subst₂ (λ s i. HoldsAt s i (last_of now.numbers) now.holding (views ghosts old) (among front claim rest) left.after left.now)
+            (subst₂ (λ s i. HoldsAt s i (last_of now.numbers) now.holding unseen (views ghosts old) (among front claim rest) left.after left.now)
             (sym x.turns.numbers.set) (sym x.turns.numbers.index) inner);
       }
 
@@ -96,9 +98,13 @@ read_is_call set k seen old new claim x = record {
   in_use = x.in_use;
   was_so = x.was_so;
   goes_on = (x.read.each k x.within).goes_on;
+  keeps = λ tells.
+      let same = (x.read.each k x.within).files tells in
+      subst (λ files. KeepsOthers (view_at old k).files files) (sym same)
+      (record { kept = λ name other. refl; shown = λ name other. refl; loose = λ name other. refl });
   long = x.read.long;
   others = x.others;
   slot = refl;
-  holds = λ numbers holding records state front rest same stands d.
-      data_read numbers holding old new (among front claim rest) (among front claim rest) records state x.read refl d;
+  holds = λ unseen front rest own s at mine kept.
+      data_read s.numbers s.holding unseen old new (among front claim rest) (among front claim rest) s.records s.state x.read refl kept.holds;
 }

@@ -14,11 +14,12 @@ use Rattle.slot_history.specs.Moving.{Runs}
 use Rattle.slot_history.specs.Standing.{Records}
 use Rattle.slot_history.specs.State.{State}
 use Rattle.slot_core.specs.Turning.{EntryMoves}
+use Rattle.slot_data.specs.Disks.{Disks}
 use Rattle.receipts.specs.Events.{Event, Note, Shown}
 use Rattle.receipts.specs.Events.Event.{BarredFrom, Called, Fed, Told, Turned}
 use Rattle.op_steps.specs.Claims.{Claim, DataHolds, among}
 use Rattle.op_steps.specs.Laws.{EachStepKeepsData, HoldsAfter, RanKeepsHistory, WentOn, entries_at, entry_at, with_entries}
-use Rattle.op_steps.specs.Moves.{ClaimMoves, TurnMoves}
+use Rattle.op_steps.specs.Moves.{ClaimMoves, KeepsData, SlotKept, TurnMoves}
 use Rattle.op_steps.specs.Notes.{entry_in}
 use Rattle.op_steps.specs.Steps.{IsSlotAt, StepMoves, Turns}
 use Rattle.op_steps.specs.Store.{AreInOrder, SlotSeen, Store}
@@ -162,29 +163,29 @@ module _ {D T : Type 0} (tells : D → Bool) (files : D → Files) (takes breaks
       )
 
   -- the data of a slot that stays holds as before, where the drives are only read and the op's claim moves elsewhere
-  data_stays : (was : SlotSeen D) (old new : Store D T) (front rest : List Claim) (index : ℕ) → was.numbers.index ≢ index → ClaimMoves index old.claim new.claim
-      → AllOnlyRead old.disks new.disks → HoldsAfter tells files old was front rest → HoldsAfter tells files new was front rest
-  data_stays was old new front rest index other moves read x = record {
+  data_stays : (was : SlotSeen D) (old new : Store D T) (unseen : Disks) (front rest : List Claim) (index : ℕ) → was.numbers.index ≢ index → ClaimMoves index old.claim new.claim
+      → AllOnlyRead old.disks new.disks → HoldsAfter tells files unseen old was front rest → HoldsAfter tells files unseen new was front rest
+  data_stays was old new unseen front rest index other moves read x = record {
     records = x.records;
     state = x.state;
     stands = x.stands;
-    holds = data_read was.numbers was.holding old.disks new.disks (among front old.claim rest) (among front new.claim rest) x.records x.state read
+    holds = data_read was.numbers was.holding unseen old.disks new.disks (among front old.claim rest) (among front new.claim rest) x.records x.state read
         (claims_elsewhere was.numbers.index index front rest old.claim new.claim other moves) x.holds;
   }
 
-  same_holds : (old new : Store D T) (was now : SlotSeen D) (front rest : List Claim) → was ≡ now → new.disks ≡ old.disks → new.claim ≡ old.claim
-      → HoldsAfter tells files old was front rest → HoldsAfter tells files new now front rest
-  same_holds old new was now front rest slot disks claim x = subst (λ s. HoldsAfter tells files new s front rest) slot (record {
+  same_holds : (old new : Store D T) (was now : SlotSeen D) (unseen : Disks) (front rest : List Claim) → was ≡ now → new.disks ≡ old.disks → new.claim ≡ old.claim
+      → HoldsAfter tells files unseen old was front rest → HoldsAfter tells files unseen new now front rest
+  same_holds old new was now unseen front rest slot disks claim x = subst (λ s. HoldsAfter tells files unseen new s front rest) slot (record {
     records = x.records;
     state = x.state;
     stands = x.stands;
-    holds = subst₂ (λ d c. DataHolds was.numbers was.holding d (among front c rest) x.records x.state) (sym disks) (sym claim) x.holds;
+    holds = subst₂ (λ d c. DataHolds was.numbers was.holding unseen d (among front c rest) x.records x.state) (sym disks) (sym claim) x.holds;
   })
 
-  turned_data : (set : SetPlan) (j : ℕ) (note : Option Note) (shown : Shown) (old new : Store D T) (k : ℕ) (was now : SlotSeen D) (front rest : List Claim)
+  turned_data : (set : SetPlan) (j : ℕ) (note : Option Note) (shown : Shown) (old new : Store D T) (k : ℕ) (was now : SlotSeen D) (unseen : Disks) (front rest : List Claim)
       → AreInOrder set old.slots old.disks → Turns tells files j note shown old new → IsSlotAt old.slots k was → IsSlotAt new.slots k now
-      → HoldsAfter tells files old was front rest → HoldsAfter tells files new now front rest
-  turned_data set j made shown old new k was now front rest order x is later held =
+      → HoldsAfter tells files unseen old was front rest → HoldsAfter tells files unseen new now front rest
+  turned_data set j made shown old new k was now unseen front rest order x is later held =
       let set_now : IsSlotAt (slice_set old.slots j x.now) k now = subst (λ (s : Store D T). IsSlotAt s.slots k now) x.leaves later in
       let disks : x.disks ≡ new.disks = sym (ap (λ (s : Store D T). s.disks) x.leaves) in
       elim (cases_eq k j) [
@@ -192,40 +193,79 @@ module _ {D T : Type 0} (tells : D → Bool) (files : D → Files) (takes breaks
             let first : x.was ≡ was = slot_is_one old.slots j x.was was x.is (subst (λ i. IsSlotAt old.slots i was) own is) in
             let last : x.now ≡ now = slot_is_one (slice_set old.slots j x.now) j x.now now (set_same old.slots j x.now x.is.0)
             (subst (λ i. IsSlotAt (slice_set old.slots j x.now) i now) own set_now) in
-            let began : HoldsAfter tells files old x.was front rest = subst (λ s. HoldsAfter tells files old s front rest) (sym first) held in
+            let began : HoldsAfter tells files unseen old x.was front rest = subst (λ s. HoldsAfter tells files unseen old s front rest) (sym first) held in
             let leaves = x.moves.leaves began.records began.state began.stands in
-            subst (λ s. HoldsAfter tells files new s front rest) last (record {
+            subst (λ s. HoldsAfter tells files unseen new s front rest) last (record {
               records = leaves.records_after;
               state = leaves.state_after;
               stands = leaves.stands;
-              holds = subst (λ d. DataHolds x.now.numbers x.now.holding d (among front new.claim rest) leaves.records_after leaves.state_after) disks
-                  (leaves.holds front rest began.holds);
+              holds = subst (λ d. DataHolds x.now.numbers x.now.holding unseen d (among front new.claim rest) leaves.records_after leaves.state_after) disks
+                  (leaves.holds unseen front rest began.holds);
             })
         | inr other ↦
             let same : was ≡ now = slot_is_one old.slots k was now is (set_other old.slots j k x.now now other set_now) in
             let apart : was.numbers.index ≢ x.was.numbers.index = λ equal. other (sym (order_index set old.slots old.disks k was order is)
             ∙ (equal ∙ order_index set old.slots old.disks j x.was order x.is)) in
-            subst (λ s. HoldsAfter tells files new s front rest) same
-            (data_stays was old new front rest x.was.numbers.index apart x.moves.claims (subst (λ d. AllOnlyRead old.disks d) disks x.moves.read) held)
+            subst (λ s. HoldsAfter tells files unseen new s front rest) same
+            (data_stays was old new unseen front rest x.was.numbers.index apart x.moves.claims (subst (λ d. AllOnlyRead old.disks d) disks x.moves.read) held)
       ]
 
-  pub step_data : EachStepKeepsData tells files takes breaks
-  step_data set (Turned j note shown) old new k was now front rest order x is later held =
-      turned_data set j note shown old new k was now front rest order x is later held
-  step_data set (BarredFrom j why) old new k was now front rest order x is later held =
-      same_holds old new was now front rest (stays old new k was now (ap (λ (s : Store D T). s.slots) x.leaves) is later)
+  -- what is kept of a slot whose data holds
+  kept_of : SlotSeen D → Records → State → SlotKept
+  kept_of was records state = record { numbers = was.numbers; holding = was.holding; records = records; state = state }
+
+  keeps : (set : SetPlan) (store : Store D T) (k : ℕ) (was : SlotSeen D) (unseen : Disks) (front rest : List Claim) → AreInOrder set store.slots store.disks
+      → IsSlotAt store.slots k was → (x : HoldsAfter tells files unseen store was front rest)
+      → KeepsData set unseen store.disks (among front store.claim rest) (kept_of was x.records x.state)
+  unfolding kept_of
+  keeps set store k was unseen front rest order is x =
+      record { set_is = order_set set store.slots store.disks k was order is; stands = x.stands.stands; holds = x.holds }
+
+  -- one step keeps the data of one slot, where that of the op's own slot holds too
+  slot_data : (set : SetPlan) (event : Event) (old new : Store D T) (k j : ℕ) (was now own : SlotSeen D) (unseen : Disks) (front rest : List Claim)
+      → AreInOrder set old.slots old.disks → StepMoves tells files takes breaks set event old new → IsSlotAt old.slots k was → IsSlotAt new.slots k now
+      → IsSlotAt old.slots j own → old.claim.slot ≡ j → HoldsAfter tells files unseen old own front rest
+      → HoldsAfter tells files unseen old was front rest → HoldsAfter tells files unseen new now front rest
+  unfolding kept_of
+  slot_data set (Turned i note shown) old new k j was now own unseen front rest order x is later mine at own_held held =
+      turned_data set i note shown old new k was now unseen front rest order x is later held
+  slot_data set (BarredFrom i why) old new k j was now own unseen front rest order x is later mine at own_held held =
+      same_holds old new was now unseen front rest (stays old new k was now (ap (λ (s : Store D T). s.slots) x.leaves) is later)
       (ap (λ (s : Store D T). s.disks) x.leaves) (ap (λ (s : Store D T). s.claim) x.leaves) held
-  step_data set (Called j seen) old new k was now front rest order x is later held =
-      subst (λ s. HoldsAfter tells files new s front rest) (stays old new k was now (ap (λ (s : Store D T). s.slots) x.leaves) is later) (record {
+  slot_data set (Called i seen) old new k j was now own unseen front rest order x is later mine at own_held held =
+      subst (λ s. HoldsAfter tells files unseen new s front rest) (stays old new k was now (ap (λ (s : Store D T). s.slots) x.leaves) is later) (record {
         records = held.records;
         state = held.state;
         stands = held.stands;
-        holds = x.moves.holds was.numbers was.holding held.records held.state front rest (order_set set old.slots old.disks k was order is)
-            held.stands.stands held.holds;
+        holds = x.moves.holds unseen front rest (kept_of own own_held.records own_held.state) (kept_of was held.records held.state)
+            (order_index set old.slots old.disks j own order mine ∙ sym at) (keeps set old j own unseen front rest order mine own_held)
+            (keeps set old k was unseen front rest order is held);
       })
-  step_data set (Fed bytes cut) old new k was now front rest order x is later held =
-      same_holds old new was now front rest (stays old new k was now (ap (λ (s : Store D T). s.slots) x.leaves) is later)
+  slot_data set (Fed bytes cut) old new k j was now own unseen front rest order x is later mine at own_held held =
+      same_holds old new was now unseen front rest (stays old new k was now (ap (λ (s : Store D T). s.slots) x.leaves) is later)
       (ap (λ (s : Store D T). s.disks) x.leaves) (ap (λ (s : Store D T). s.claim) x.leaves) held
-  step_data set (Told telling cut) old new k was now front rest order x is later held =
-      same_holds old new was now front rest (stays old new k was now (ap (λ (s : Store D T). s.slots) x.leaves) is later)
+  slot_data set (Told telling cut) old new k j was now own unseen front rest order x is later mine at own_held held =
+      same_holds old new was now unseen front rest (stays old new k was now (ap (λ (s : Store D T). s.slots) x.leaves) is later)
       (ap (λ (s : Store D T). s.disks) x.leaves) (ap (λ (s : Store D T). s.claim) x.leaves) held
+
+  -- an op stays at its slot
+  same_slot : (set : SetPlan) (event : Event) (old new : Store D T) → StepMoves tells files takes breaks set event old new → new.claim.slot ≡ old.claim.slot
+  same_slot set (Turned i note shown) old new x = x.moves.claims.slot
+  same_slot set (BarredFrom i why) old new x = ap (λ (s : Store D T). s.claim.slot) x.leaves
+  same_slot set (Called i seen) old new x = x.moves.slot
+  same_slot set (Fed bytes cut) old new x = ap (λ (s : Store D T). s.claim.slot) x.leaves
+  same_slot set (Told telling cut) old new x = ap (λ (s : Store D T). s.claim.slot) x.leaves
+
+  pub step_data : EachStepKeepsData tells files takes breaks
+  step_data set event old new unseen front rest order low x held = (
+    same_slot set event old new x,
+    λ k now later.
+        let after = step_order set event old new order x in
+        let inside : k < length old.slots = (let a = order.count in let b = after.count in let c = later.0 in omega (arith, a, b, c)) in
+        let within : old.claim.slot < length old.slots = (let a = order.count in omega (arith, a, low)) in
+        let was = slice_index_or old.slots k now in
+        let own = slice_index_or old.slots old.claim.slot now in
+        let is = there old.slots k now inside in
+        let mine = there old.slots old.claim.slot now within in
+        slot_data set event old new k old.claim.slot was now own unseen front rest order x is later mine refl (held old.claim.slot own mine) (held k was is),
+  )

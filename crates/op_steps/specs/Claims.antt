@@ -6,12 +6,14 @@ use Rattle.drive_base.specs.Files.{Named}
 use Rattle.drive_base.specs.View.{DriveView, view_at}
 use Rattle.drive_base.specs.declared.plan.SetPlan.{SetPlan}
 use Rattle.put_stage.specs.Cells.{DataCells, data_of}
-use Rattle.put_stage.specs.Working.{Keeps}
+use Rattle.put_stage.specs.Working.{HasNoneLoose, Keeps}
 use Rattle.stamp_id.specs.declared.version.VersionId.{VersionId}
 use Rattle.version_list.specs.State.{AreDistinct}
+use Rattle.body_print.specs.Names.{manifest_name, shard_name}
+use Rattle.slot_history.specs.Contents.{number_of_id}
 use Rattle.slot_history.specs.Standing.{Flying, Records}
 use Rattle.slot_history.specs.State.{State}
-use Rattle.slot_data.specs.Disks.{Disks}
+use Rattle.slot_data.specs.Disks.{Disks, kept_on}
 use Rattle.slot_data.specs.Holding.{Hands, Holding, Known, Pinned}
 use Rattle.slot_data.specs.Standing.{DataStands}
 use Rattle.slot_core.specs.Views.{SlotNumbers, last_of}
@@ -76,12 +78,12 @@ pub record DisksTell (set : SetPlan) (disks : List DriveView) : Type 0 where
   pub count : length disks ≡ set.drives
   pub tell : (k : ℕ) → k < set.drives → (IsBitSet set.out k → ⊥) → IsTrue (view_at disks k).tells
 
--- what a drive keeps that counts: one that is out keeps nothing
-abbrev pub counted_on : ℕ → List DriveView → ℕ → Named (List ℕ)
-counted_on out disks k = if bit_and out (2 ^ k) == 0 then (view_at disks k).files.kept else (λ _. None)
+-- what a drive keeps that counts: one in use what it shows; in the place of one that is out any files may stand, of which no step knows
+abbrev pub counted_on : Disks → ℕ → List DriveView → ℕ → Named (List ℕ)
+counted_on unseen out disks k = if bit_and out (2 ^ k) == 0 then (view_at disks k).files.kept else kept_on unseen k
 
-abbrev pub disks_of : ℕ → List DriveView → Disks
-disks_of out disks = map (counted_on out disks) (range_with_len 0 (length disks))
+abbrev pub disks_of : Disks → ℕ → List DriveView → Disks
+disks_of unseen out disks = map (counted_on unseen out disks) (range_with_len 0 (length disks))
 
 -- under the names of its id each drive in use has what a stage expects
 abbrev pub IsAtWork : SetPlan → List DriveView → Staging → Type 0
@@ -92,22 +94,32 @@ IsAtWork set disks staging = (k : ℕ) → k < set.drives → (IsBitSet set.out 
 abbrev pub IsOwn : Claim → VersionId → Type 0
 IsOwn claim id = ((f : Flying) × (claim.flight ≡ Some f) × (f.id ≡ id)) ⊎ ((p : Pinned) × (claim.pin ≡ Some p) × Contains p.ids id)
 
--- a claim is met: the slot lists its put and its pin, the drives have what its stage, which is of its put, expects, and it knows holders of its own alone
-pub record IsMet (set : SetPlan) (holding : Holding) (disks : List DriveView) (claim : Claim) : Type 0 where
+-- nothing is kept under the names of an id
+pub record KeepsNone (id : VersionId) (kept : Named (List ℕ)) : Type 0 where
+  pub manifest : kept (manifest_name id) ≡ None
+  pub shard : kept (shard_name id) ≡ None
+
+-- a claim is met: the slot lists its put and its pin, the drives have what its stage, which is of its put, expects, and it knows holders of its own alone;
+-- drives that are out keep nothing of its put
+pub record IsMet (set : SetPlan) (holding : Holding) (unseen : Disks) (disks : List DriveView) (claim : Claim) : Type 0 where
   pub flight : (f : Flying) → claim.flight ≡ Some f → Contains holding.flights f
   pub pin : (p : Pinned) → claim.pin ≡ Some p → Contains holding.pins p
   pub staged : (s : Staging) → claim.stage ≡ Some s → (f : Flying) × (claim.flight ≡ Some f) × (s.id ≡ f.id)
   pub works : (s : Staging) → claim.stage ≡ Some s → IsAtWork set disks s
   pub known : (x : Known) → Contains claim.known x → IsOwn claim x.named.id
+  pub unwritten : (f : Flying) (k : ℕ) → claim.flight ≡ Some f → k < set.drives → IsBitSet set.out k → KeepsNone f.id (kept_on unseen k)
 
--- the data of a slot of this set and index, of which this number was drawn last, stands with what ops have in hand by these claims; those that are of the
--- slot are met and apart
-pub record HoldsAt (set : SetPlan) (index last : ℕ) (holding : Holding) (disks : List DriveView) (claims : List Claim) (records : Records) (state : State) : Type 0 where
+-- the data of a slot of this set and index, of which this number was drawn last, stands with what ops have in hand by these claims, and with these files
+-- on the drives that are out; no drive in use has a loose file of an id that wasn't drawn; those claims that are of the slot are met and apart
+pub record HoldsAt (set : SetPlan) (index last : ℕ) (holding : Holding) (unseen : Disks) (disks : List DriveView) (claims : List Claim) (records : Records)
+    (state : State) : Type 0 where
   pub tell : DisksTell set disks
-  pub stands : DataStands set index last records state holding (disks_of set.out disks) (hands_of (claims_at index claims))
-  pub met : (c : Claim) → Contains (claims_at index claims) c → IsMet set holding disks c
+  pub stands : DataStands set index last records state holding (disks_of unseen set.out disks) (hands_of (claims_at index claims))
+  pub loose : (k : ℕ) (id : VersionId) → k < set.drives → (IsBitSet set.out k → ⊥) → id.slot ≡ index → last < number_of_id id
+      → HasNoneLoose (data_of id (view_at disks k).files)
+  pub met : (c : Claim) → Contains (claims_at index claims) c → IsMet set holding unseen disks c
   pub apart : AllApart (claims_at index claims)
 
 -- that of a slot of these numbers
-abbrev pub DataHolds : SlotNumbers → Holding → List DriveView → List Claim → Records → State → Type 0
-DataHolds numbers holding disks claims records state = HoldsAt numbers.set numbers.index (last_of numbers) holding disks claims records state
+abbrev pub DataHolds : SlotNumbers → Holding → Disks → List DriveView → List Claim → Records → State → Type 0
+DataHolds numbers holding unseen disks claims records state = HoldsAt numbers.set numbers.index (last_of numbers) holding unseen disks claims records state

@@ -1,5 +1,5 @@
 -- The laws of steps: histories run, and the data of each slot goes on to hold.
-use Rattle.std.specs.Prelude.{◌≡◌, ℕ, Bool, List, [], ◌++◌, nat_eq, if◌then◌else◌, option_map, option_to_list, Option}
+use Rattle.std.specs.Prelude.{◌≡◌, ℕ, ◌<◌, Bool, List, [], ◌++◌, nat_eq, if◌then◌else◌, option_map, option_to_list, Option}
 use Rattle.std.specs.List.{flat_map}
 use Rattle.audit_trail.specs.declared.entry.Entry.{Entry}
 use Rattle.desk_base.specs.Telling.{Effect}
@@ -8,6 +8,7 @@ use Rattle.drive_base.specs.declared.plan.SetPlan.{SetPlan}
 use Rattle.slot_history.specs.Moving.{Runs}
 use Rattle.slot_history.specs.Standing.{Records}
 use Rattle.slot_history.specs.State.{State}
+use Rattle.slot_data.specs.Disks.{Disks}
 use Rattle.receipts.specs.Events.{Event, Log}
 use Rattle.receipts.specs.Events.Event.{BarredFrom, Called, Fed, Told, Turned}
 use Rattle.op_steps.specs.Claims.{Claim, DataHolds, among}
@@ -44,12 +45,12 @@ module _ {D : Type 0} (tells : D → Bool) (files : D → Files) where
     pub runs : (records : Records) (state : State) → LanesStand tells files was records state → RunsTo slot now entries state
 
 module _ {D T : Type 0} (tells : D → Bool) (files : D → Files) where
-  -- the lanes of a slot stand for a state, with which its data holds
-  pub record HoldsAfter (store : Store D T) (now : SlotSeen D) (front rest : List Claim) : Type 0 where
+  -- the lanes of a slot stand for a state, with which its data holds, with these files on the drives that are out
+  pub record HoldsAfter (unseen : Disks) (store : Store D T) (now : SlotSeen D) (front rest : List Claim) : Type 0 where
     pub records : Records
     pub state : State
     pub stands : LanesStand tells files now records state
-    pub holds : DataHolds now.numbers now.holding store.disks (among front store.claim rest) records state
+    pub holds : DataHolds now.numbers now.holding unseen store.disks (among front store.claim rest) records state
 
 module _ {D T : Type 0} (tells : D → Bool) (files : D → Files) (takes breaks : Effect T) where
   -- over a log each slot goes on by its entries in it, and the slots stay in order
@@ -58,8 +59,12 @@ module _ {D T : Type 0} (tells : D → Bool) (files : D → Files) (takes breaks
       → AreInOrder set new.slots new.disks
       × ((k : ℕ) (was now : SlotSeen D) → IsSlotAt old.slots k was → IsSlotAt new.slots k now → WentOn tells files k was now (entries_at k log))
 
-  -- one step of one op, whatever other ops hold, keeps the data of every slot
+  -- the data of each slot of a store holds
+  abbrev pub AllHold : Disks → Store D T → List Claim → List Claim → Type 0
+  AllHold unseen store front rest = (k : ℕ) (was : SlotSeen D) → IsSlotAt store.slots k was → HoldsAfter tells files unseen store was front rest
+
+  -- one step of one op, whatever other ops hold and drives that are out keep, keeps the data of every slot; and the op stays at its slot
   abbrev pub EachStepKeepsData : Type 0
-  EachStepKeepsData = (set : SetPlan) (event : Event) (old new : Store D T) (k : ℕ) (was now : SlotSeen D) (front rest : List Claim)
-      → AreInOrder set old.slots old.disks → StepMoves tells files takes breaks set event old new → IsSlotAt old.slots k was → IsSlotAt new.slots k now
-      → HoldsAfter tells files old was front rest → HoldsAfter tells files new now front rest
+  EachStepKeepsData = (set : SetPlan) (event : Event) (old new : Store D T) (unseen : Disks) (front rest : List Claim)
+      → AreInOrder set old.slots old.disks → old.claim.slot < 64 → StepMoves tells files takes breaks set event old new
+      → AllHold unseen old front rest → (new.claim.slot ≡ old.claim.slot) × AllHold unseen new front rest

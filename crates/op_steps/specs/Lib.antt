@@ -1,9 +1,11 @@
 pub mod Claims
+pub mod Committing
 pub mod Going
 pub mod Laws
 pub mod Looking
 pub mod Moves
 pub mod Notes
+pub mod Ready
 pub mod Steps
 pub mod Store
 pub mod Words

@@ -15,7 +15,7 @@ use Rattle.slot_core.specs.declared.stub.Stub.{Stub}
 use Rattle.receipts.specs.Events.{Seen, Shown}
 use Rattle.receipts.specs.Events.Shown.{ContentShown, NoneShown}
 use Rattle.op_steps.specs.Claims.{Claim}
-use Rattle.op_steps.specs.Moves.{CallMoves, TurnMoves, WasSo}
+use Rattle.op_steps.specs.Moves.{CallMoves, IsCall, TurnMoves, WasSo}
 use Rattle.op_steps.specs.Notes.{noted}
 use Rattle.op_steps.specs.Store.{SlotSeen}
 
@@ -46,10 +46,10 @@ module _ {D : Type 0} (ghosts : Ghosts D) where
       → LookSays was now name answer stub old new
       → TurnMoves ghosts.tells ghosts.files was now (noted stub) (shown_by answer) claim claim (views ghosts old) (views ghosts new)
 
--- a call of a data drive in use, which gave this, and by which all drives were only read
+-- a call of a data drive in use, which gave this, or none, and by which all drives were only read
 pub record ReadSays (set : SetPlan) (k : ℕ) (seen : Seen) (old new : List DriveView) : Type 0 where
   pub within : k < length old
-  pub in_use : IsBitSet set.out k → ⊥
+  pub in_use : IsCall seen → IsBitSet set.out k → ⊥
   pub was_so : WasSo seen (view_at old k) (view_at new k)
   pub read : AllOnlyRead old new
   pub others : (other : ℕ) → other ≢ k → view_at new other ≡ view_at old other

@@ -1,8 +1,9 @@
 -- What one step does to what it works on.
-use Rattle.std.specs.Prelude.{◌≡◌, ◌≢◌, ℕ, ◌+◌, ◌<◌, ◌≤◌, Bool, IsTrue, List, length, min, max, Option, Some, None, MatchOption}
+use Rattle.std.specs.Prelude.{◌≡◌, ◌≢◌, ◌⊎◌, ℕ, ◌+◌, ◌<◌, ◌≤◌, Bool, IsTrue, List, length, min, max, Option, Some, None, MatchOption}
 use Rattle.std.specs.Int.{IsBitSet}
 use Rattle.std.specs.Io.KnownBytes.{IsAtEnd}
 use Rattle.audit_trail.specs.declared.entry.Entry.{Entry}
+use Rattle.body_print.specs.Names.{loose_manifest_name, loose_shard_name, manifest_name, shard_name}
 use Rattle.call_types.specs.Feeds.{Gave}
 use Rattle.call_types.specs.declared.feed.Cut.{Cut}
 use Rattle.call_types.specs.declared.feed.Cut.TheVariants.{BodyCut, NoMemory, ReadFault, ShardCut, WriteFault}
@@ -13,15 +14,17 @@ use Rattle.drive_base.specs.declared.plan.SetPlan.{SetPlan}
 use Rattle.fault_base.specs.Counts.{Rose}
 use Rattle.field_reader.specs.Spelling.{IsBytes}
 use Rattle.file_access.specs.Reading.{HasLength, IsPieceAt}
+use Rattle.stamp_id.specs.declared.version.VersionId.{VersionId}
 use Rattle.slot_history.specs.Standing.{Records, Stands}
 use Rattle.slot_history.specs.State.{IsHeld, State}
+use Rattle.slot_data.specs.Disks.{Disks}
 use Rattle.slot_data.specs.Holding.{Holding}
 use Rattle.slot_core.specs.Listing.{IsGiven, IsListable}
 use Rattle.slot_core.specs.Numbers.{NumbersMove}
 use Rattle.slot_core.specs.Turning.{EntryMoves}
 use Rattle.slot_core.specs.Views.{SlotNumbers, last_of, quorum_of}
 use Rattle.receipts.specs.Events.{Note, Seen, Shown}
-use Rattle.receipts.specs.Events.Seen.{CutShort, Faulted, Missing, Showed, Sized, Unwritten, Wrote}
+use Rattle.receipts.specs.Events.Seen.{CutShort, Faulted, Missing, Showed, Sized, Uncalled, Unwritten, Wrote}
 use Rattle.receipts.specs.Events.Shown.{ContentShown, NamesShown, NoneShown}
 use Rattle.receipts.specs.declared.barred.Barred.{Barred}
 use Rattle.receipts.specs.declared.barred.Barred.TheVariants as barred
@@ -44,15 +47,15 @@ pub record ClaimMoves (index : ℕ) (claim later : Claim) : Type 0 where
 
 module _ {D : Type 0} (tells : D → Bool) (files : D → Files) where
   -- what a section leaves of lanes that stood for a state: they stand for a state to which its entry moved, and whatever other ops hold, the data goes
-  -- on to hold
+  -- on to hold, with any files on drives that are out
   pub record TurnLeaves (was now : SlotSeen D) (note : Option Note) (shown : Shown) (claim later : Claim) (disks_old disks_new : List DriveView)
       (records : Records) (state : State) : Type 0 where
     pub records_after : Records
     pub state_after : State
     pub stands : LanesStand tells files now records_after state_after
     pub moves : EntryMoves was.numbers.index (entry_in note) (ShowsBy (entry_in note) shown) records state records_after state_after
-    pub holds : (front rest : List Claim) → DataHolds was.numbers was.holding disks_old (among front claim rest) records state
-        → DataHolds now.numbers now.holding disks_new (among front later rest) records_after state_after
+    pub holds : (unseen : Disks) (front rest : List Claim) → DataHolds was.numbers was.holding unseen disks_old (among front claim rest) records state
+        → DataHolds now.numbers now.holding unseen disks_new (among front later rest) records_after state_after
 
   -- one section of a slot: one turn more, with its note; its entry is what the audit got; data drives are only read; and what it leaves of its lanes
   pub record TurnMoves (was now : SlotSeen D) (note : Option Note) (shown : Shown) (claim later : Claim) (disks_old disks_new : List DriveView) : Type 0 where
@@ -80,23 +83,57 @@ WasSo (Missing name) old new = (new.count ≡ old.count) × (IsTrue old.tells �
 WasSo (Unwritten name) old new = (new.count ≡ old.count) × (IsTrue old.tells → old.files.loose name ≡ None)
 WasSo Wrote old new = new.count ≡ old.count
 WasSo (Faulted before after) old new = (before ≡ old.count) × (after ≡ new.count) × Rose old.count new.count
+WasSo Uncalled old new = new ≡ old
+
+-- a call was made
+abbrev pub IsCall : Seen → Type 0
+IsCall Uncalled = ⊥
+IsCall other = Unit {0}
+
+-- a name is one under which a drive keeps data, or one under which data is being written
+abbrev pub IsDataName : List ℕ → Type 0
+IsDataName name = (id : VersionId) × ((name ≡ manifest_name id) ⊎ (name ≡ shard_name id))
+
+abbrev pub IsLooseName : List ℕ → Type 0
+IsLooseName name = (id : VersionId) × ((name ≡ loose_manifest_name id) ⊎ (name ≡ loose_shard_name id))
+
+-- under all other names a drive has what it had
+pub record KeepsOthers (old new : Files) : Type 0 where
+  pub kept : (name : List ℕ) → (IsDataName name → ⊥) → new.kept name ≡ old.kept name
+  pub shown : (name : List ℕ) → (IsDataName name → ⊥) → new.shown name ≡ old.shown name
+  pub loose : (name : List ℕ) → (IsLooseName name → ⊥) → new.loose name ≡ old.loose name
 
 -- the lanes of a slot of these numbers stand for a state, with the puts that it lists
 abbrev pub RecordsStand : SlotNumbers → Holding → Records → State → Type 0
 RecordsStand numbers holding records state = Stands (quorum_of numbers) numbers.set.drives (last_of numbers) holding.flights records state
 
--- one call of a data drive that is in use, and none of another; whatever other ops hold, the data of each slot goes on to hold
+-- a slot as its data sees it: its numbers, what it keeps in memory, the records of its lanes, and its state
+pub record SlotKept : Type 0 where
+  pub numbers : SlotNumbers
+  pub holding : Holding
+  pub records : Records
+  pub state : State
+
+-- a slot of this set, whose lanes stand and whose data holds
+pub record KeepsData (set : SetPlan) (unseen : Disks) (disks : List DriveView) (claims : List Claim) (slot : SlotKept) : Type 0 where
+  pub set_is : slot.numbers.set ≡ set
+  pub stands : RecordsStand slot.numbers slot.holding slot.records slot.state
+  pub holds : DataHolds slot.numbers slot.holding unseen disks claims slot.records slot.state
+
+-- a step at a data drive, and none at another: one call, where the drive is in use, or none. A drive that tells keeps what is no data. Whatever other ops hold,
+-- the data of each slot goes on to hold, where that of the op's own slot does too
 pub record CallMoves (set : SetPlan) (k : ℕ) (seen : Seen) (claim later : Claim) (old new : List DriveView) : Type 0 where
   pub within : k < length old
-  pub in_use : IsBitSet set.out k → ⊥
+  pub in_use : IsCall seen → IsBitSet set.out k → ⊥
   pub was_so : WasSo seen (view_at old k) (view_at new k)
   pub goes_on : GoesOn (view_at old k) (view_at new k)
+  pub keeps : IsTrue (view_at old k).tells → KeepsOthers (view_at old k).files (view_at new k).files
   pub long : length new ≡ length old
   pub others : (other : ℕ) → other ≢ k → view_at new other ≡ view_at old other
   pub slot : later.slot ≡ claim.slot
-  pub holds : (numbers : SlotNumbers) (holding : Holding) (records : Records) (state : State) (front rest : List Claim) → numbers.set ≡ set
-      → RecordsStand numbers holding records state → DataHolds numbers holding old (among front claim rest) records state
-      → DataHolds numbers holding new (among front later rest) records state
+  pub holds : (unseen : Disks) (front rest : List Claim) (own slot : SlotKept) → own.numbers.index ≡ claim.slot
+      → KeepsData set unseen old (among front claim rest) own → KeepsData set unseen old (among front claim rest) slot
+      → DataHolds slot.numbers slot.holding unseen new (among front later rest) slot.records slot.state
 
 -- why taking bytes failed, after those that were given
 abbrev pub FeedCause : Option Cut → FeedSeen → FeedSeen → Type 0

@@ -48,9 +48,9 @@ module _ {D : Type 0} (tells : D → Bool) (files : D → Files) where
       → (later : Claim) × (shown : Shown) × (was : SlotSeen D) × (now : SlotSeen D) × New later (log ++ Turned k (noted stub) shown ∷ [])
       × IsSlotAt old k was × (new ≡ slice_set old k now) × TurnMoves tells files was now (noted stub) shown claim later disks_old disks_new
 
--- nothing is held, or some section could not be done
+-- nothing is held; or a section of its slot could not be done, and then no id is held that was taken from the trash
 abbrev pub LetsGo : Claim → Log → Type 0
-LetsGo claim log = (claim ≡ no_claim claim.slot) ⊎ ((k : ℕ) × (why : Barred) × Contains log (BarredFrom k why))
+LetsGo claim log = (claim ≡ no_claim claim.slot) ⊎ ((claim.taken ≡ []) × ((why : Barred) × Contains log (BarredFrom claim.slot why)))
 
 -- a section that could not be done is told with its reason
 abbrev pub BarredSo : (Claim → Log → Type 0) → (Claim → Log → Type 0) → OpNext → Barred → Type 0

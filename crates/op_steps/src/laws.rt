@@ -1,5 +1,6 @@
 //! The laws of steps.
 
+ghost use Rattle.op_steps.specs.Committing.{CommitIsTurn};
 ghost use Rattle.op_steps.specs.Laws.{EachStepKeepsData, RanKeepsHistory};
 ghost use Rattle.op_steps.specs.Looking.{LookIsTurn, ReadIsCall};
 
@@ -22,6 +23,11 @@ pub fn data_law<D: Drive, T: Teller>()
 /// A look of a slot is a step that leaves whatever an op claims. It does nothing.
 pub fn look_law<D: Drive>()
     ensures { LookIsTurn D.Drive }
+{}
+
+/// A commit of a slot that ends no put is a step that leaves whatever an op claims. It does nothing.
+pub fn commit_law<D: Drive>()
+    ensures { CommitIsTurn D.Drive }
 {}
 
 /// A call that only reads a data drive is a step that leaves whatever an op claims. It does nothing.

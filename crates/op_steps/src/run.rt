@@ -93,6 +93,9 @@ pub struct Served {
     pub cut: Option<Cut>,
 }
 
+/// How many stubs a call has at most but for listings: there is room for as many before its first section.
+const FEW_STUBS: usize = 4;
+
 /// Serves a call by its op, which has done nothing yet and holds nothing of its slot.
 pub fn call_op<O: Op, D: Drive, A: Audit, F: Feed, T: Teller>(
     alloc: Global,
@@ -113,6 +116,8 @@ pub fn call_op<O: Op, D: Drive, A: Audit, F: Feed, T: Teller>(
         result.stubs.items }
 {
     let mut stubs = Vec::new(alloc);
+    // Where this finds no memory, the first section that needs some is told so.
+    let _ = stubs.reserve(FEW_STUBS);
     run_op(alloc, op, slots, disks, feed, teller, &mut stubs);
     Served {
         stubs,

@@ -15,5 +15,5 @@ returns-clause-done g c = λ slot holds.
       pays = subst (λ cut. Pays (g.O.Op.set c.args.op.now) (g.O.Op.task c.args.op.now) cut got.1) (sym c.cut.ensures)
           (c.run_op.ensures.pays got.0 got.1 got.2);
       ran = got.3;
-      notes = got.4 ∙ ap (λ items. notes_by items ++ notes_of got.1) c.new-stubs.ensures.items;
+      notes = got.4 ∙ ap (λ items. notes_by items ++ notes_of got.1) (c.reserve.ensures.items ∙ c.new-stubs.ensures.items);
     }

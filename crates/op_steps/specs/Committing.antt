@@ -1,0 +1,34 @@
+-- Commits of slots that end no put, as steps: what they say of themselves is all that a step of any claim says.
+use Rattle.std.specs.Prelude.{◌≡◌, ℕ, List, None, Option, Result}
+use Rattle.drive_base.specs.View.{views}
+use Rattle.drive_base.specs.declared.drive.Drive.{Ghosts}
+use Rattle.slot_core.specs.Committing.{CommitHolds, FitsFlight, MayCommitData, SaysCommit, ShowsTrash}
+use Rattle.slot_core.specs.Stubs.{Says}
+use Rattle.slot_core.specs.Turning.{Leaves, Turns}
+use Rattle.slot_core.specs.declared.commit.Commit.{Commit}
+use Rattle.slot_core.specs.declared.commit.Committed.{Committed}
+use Rattle.slot_core.specs.declared.fault.SlotFault.{SlotFault}
+use Rattle.slot_core.specs.declared.stub.Stub.{Stub}
+use Rattle.receipts.specs.Events.Shown.{NoneShown}
+use Rattle.op_steps.specs.Claims.{Claim}
+use Rattle.op_steps.specs.Looking.{AreOnlyRead}
+use Rattle.op_steps.specs.Moves.{TurnMoves}
+use Rattle.op_steps.specs.Notes.{noted}
+use Rattle.op_steps.specs.Store.{SlotSeen}
+
+module _ {D : Type 0} (ghosts : Ghosts D) where
+  -- what a section says that commits a deed at a moment, without a put
+  pub record CommitSays (was now : SlotSeen D) (deed : Commit) (at : ℕ) (answer : Result Committed SlotFault) (stub : Option Stub) (old new : List D) : Type 0 where
+    pub fits : FitsFlight deed None
+    pub turns : Turns was.numbers now.numbers was.entries now.entries was.faults now.faults answer stub
+    pub says : Says stub (SaysCommit deed at answer)
+    pub holds : CommitHolds None answer was.holding now.holding
+    pub leaves : Leaves ghosts.tells ghosts.files was.numbers now.numbers was.holding now.holding was.lanes now.lanes stub
+        (ShowsTrash deed answer was.holding.trash now.holding.trash) (MayCommitData deed now.holding)
+    pub read : AreOnlyRead ghosts old new
+
+  -- it is a step that leaves any claim
+  abbrev pub CommitIsTurn : Type 0
+  CommitIsTurn = (was now : SlotSeen D) (deed : Commit) (at : ℕ) (answer : Result Committed SlotFault) (stub : Option Stub) (old new : List D) (claim : Claim)
+      → CommitSays was now deed at answer stub old new
+      → TurnMoves ghosts.tells ghosts.files was now (noted stub) NoneShown claim claim (views ghosts old) (views ghosts new)
