@@ -16,7 +16,7 @@ name_byte_low byte (inl (inr digit)) = let above = digit.0 in let below = digit.
 name_byte_low byte (inr (inl dot)) = omega (arith, dot)
 name_byte_low byte (inr (inr hyphen)) = omega (arith, hyphen)
 
-name_low : (name : List ℕ) → All IsNameByte name → (i : ℕ) → slice_index name i < 128
+pub name_low : (name : List ℕ) → All IsNameByte name → (i : ℕ) → slice_index name i < 128
 name_low [] all i = omega arith
 name_low (byte ∷ rest) all zero = name_byte_low byte (all zero 0 (omega arith))
 name_low (byte ∷ rest) all (suc i) = name_low rest (λ k d l. all (suc k) d (omega (arith, l))) i

@@ -1,4 +1,11 @@
 pub mod BeginLemmas
+pub mod ChangeBeginLemmas
+pub mod ChangeLemmas
+pub mod ChangeOpLemmas
+pub mod ChangeStepLemmas
+pub mod DocumentLemmas
+pub mod DueLemmas
+pub mod FeedLemmas
 pub mod LookLemmas
 pub mod OpLemmas
 pub mod TellLemmas

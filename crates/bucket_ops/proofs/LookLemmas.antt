@@ -22,20 +22,15 @@ use Rattle.receipts.specs.Events.Event.{BarredFrom, Turned}
 use Rattle.receipts.specs.Events.Shown.{ContentShown, NoneShown}
 use Rattle.receipts.specs.Looks.{EndsAtLook, HasEntry, IsIdle, IsOfSection, LooksAt, TellsRefusal}
 use Rattle.receipts.specs.Owes.{OwesCall}
-use Rattle.receipts.specs.Paying.{Pays}
-use Rattle.receipts.specs.Paying.Outcome.{CutOff}
+use Rattle.receipts.specs.Paying.{ChangesNothing, LeavesAll, Pays}
 use Rattle.receipts.specs.Registers.{bucket_register, bucket_slot}
 use Rattle.receipts.specs.declared.barred.Barred.TheVariants.{Spent, NoMemory as NoRoom}
 use Rattle.op_steps.specs.Looking.{shown_by}
 use Rattle.op_steps.specs.Notes.{note_of, noted, refusal_by}
-use Rattle.bucket_ops.specs.Looks.{AfterLook, HasDone, IsReady, LookReply, look_call, look_reply}
+use Rattle.op_steps.proofs.TellLemmas.{none_pays, one_untold}
+use Rattle.bucket_ops.specs.Looks.{AfterLook, HasDone, LookReply, look_call, look_reply}
 use Rattle.bucket_ops.specs.declared.state.State.{State}
 use Rattle.bucket_ops.specs.declared.state.State.TheVariants.{Looking, Over, Telling}
-
--- of one event that tells nothing all is untold
-one_untold : (event : Event) → IsUntold event → All IsUntold (event ∷ [])
-one_untold event none zero d l = none
-one_untold event none (suc k) d l = let below : suc k < 1 = l in absurd (omega arith)
 
 -- a call that ended at its look is owed that
 ends_owes : (set : SetPlan) (asks : Bool) (bucket : List ℕ) (now : ℕ) (reply : Reply) (k : ℕ) (stub : Option Stub) (shown : Shown)
@@ -171,9 +166,16 @@ look_owes set asks bucket now reply numbers (Err (AuditFailed before after)) stu
 look_owes set asks bucket now reply numbers (Err NoMemoryFault) stub index x says told = absurd (subst is_none told.1 tt)
 look_owes set asks bucket now reply numbers (Err (NotInFlight id)) stub index x says told = wrote_owes set asks bucket now reply numbers (NotInFlight id) stub index x says told
 
--- want of memory pays for itself, where nothing was told
-pub none_pays : (set : SetPlan) (task : Task) (log : Log) → cuts_of log ≡ [] → tale_of log ≡ [] → Pays set task (Some NoMemory) log
-none_pays set task log cuts tale = record { outcome = CutOff NoMemory []; ends = refl; tells = sym tale; owes = (inl refl, inl cuts) }
+-- a look changes nothing
+kept_nothing : (name : List ℕ) (entry : Option Entry) → MatchOption entry (Unit {0}) (SaysKept name) → MatchOption entry (Unit {0}) (λ (e : Entry). LeavesAll e.deed)
+kept_nothing name None says = tt
+kept_nothing name (Some entry) says = subst LeavesAll (sym says.deed_is) tt
+
+look_nothing : (name : List ℕ) (k : ℕ) (stub : Option Stub) (shown : Shown) → Says stub (SaysKept name)
+    → All ChangesNothing (sections_of (Turned k (noted stub) shown ∷ []))
+look_nothing name k None shown says i d l = let below : i < 0 = l in absurd (omega arith)
+look_nothing name k (Some made) shown says zero d l = kept_nothing name made.entry says
+look_nothing name k (Some made) shown says (suc i) d l = let below : suc i < 1 = l in absurd (omega arith)
 
 -- what an op has done after its look
 pub done_after : (set : SetPlan) (asks : Bool) (bucket : List ℕ) (now : ℕ) (numbers : SlotNumbers) (answer : Result (List ℕ) SlotFault) (stub : Option Stub)
@@ -188,7 +190,8 @@ done_after set asks bucket now numbers answer stub (Telling reply) index x says 
 }
 done_after set asks bucket now numbers answer stub (Over cut) index x says after =
     subst (λ c. Pays set (record { call = look_call asks bucket; now = now }) c (Turned numbers.index (noted stub) (shown_by answer) ∷ [])) (sym after)
-    (none_pays set (record { call = look_call asks bucket; now = now }) (Turned numbers.index (noted stub) (shown_by answer) ∷ []) refl refl)
+    (none_pays set (record { call = look_call asks bucket; now = now }) (Turned numbers.index (noted stub) (shown_by answer) ∷ []) refl refl
+    (inl (look_nothing (bucket_register bucket) numbers.index stub (shown_by answer) says)))
 
 -- what it has done where it could not look
 barred_owes : (set : SetPlan) (asks : Bool) (bucket : List ℕ) (now : ℕ) → OwesCall set (look_call asks bucket) now (reply_of.Refused SeqSpentRefusal)
@@ -205,4 +208,4 @@ spent_done set asks bucket now = record {
 }
 
 pub no_room_done : (set : SetPlan) (task : Task) (k : ℕ) → HasDone set task (Over (Some NoMemory)) (BarredFrom k NoRoom ∷ [])
-no_room_done set task k = none_pays set task (BarredFrom k NoRoom ∷ []) refl refl
+no_room_done set task k = none_pays set task (BarredFrom k NoRoom ∷ []) refl refl (inl (λ i d l. let below : i < 0 = l in absurd (omega arith)))

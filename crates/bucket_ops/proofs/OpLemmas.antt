@@ -30,7 +30,8 @@ use Rattle.bucket_ops.specs.Looks.{AfterLook, HasDone, StandsSo, barred_state, l
 use Rattle.bucket_ops.specs.declared.state.State.{State}
 use Rattle.bucket_ops.specs.declared.state.State.TheVariants.{Looking, Over, Telling}
 use Rattle.bucket_ops.proofs.LookLemmas.{done_after, no_room_done, spent_done}
-use Rattle.bucket_ops.proofs.TellLemmas.{told_pays}
+use Rattle.op_steps.proofs.TellLemmas.{told_pays}
+use Rattle.bucket_ops.proofs.TellLemmas.{no_bytes, none_after}
 
 -- the slot of a section
 abbrev slot_in : OpNext → ℕ
@@ -93,5 +94,13 @@ section_so ghosts set asks bucket name now state later was after answer stub old
 pub tell_so : {T : Type 0} (takes breaks : Effect T) (set : SetPlan) (asks : Bool) (bucket : List ℕ) (now : ℕ) (reply : Reply) (cut : Option Cut) (old new : TellerSeen T) → TellMoves takes breaks (TheHead reply) cut old new
     → TellsSo takes breaks (StandsSo set (record { call = look_call asks bucket; now = now }) (bucket_slot bucket) (Telling reply))
     (StandsSo set (record { call = look_call asks bucket; now = now }) (bucket_slot bucket) (Over cut)) old new
-tell_so takes breaks set asks bucket now reply cut old new moves claim log x =
-    (TheHead reply, cut, record { none = x.none; done = told_pays takes breaks set asks bucket now reply log cut old new x.done moves }, moves)
+tell_so takes breaks set asks bucket now reply cut old new moves claim log x = (
+  TheHead reply,
+  cut,
+  record {
+    none = x.none;
+    done = told_pays takes breaks set (record { call = look_call asks bucket; now = now }) reply log cut old new (none_after asks bucket reply)
+        (no_bytes set asks bucket reply) x.done moves;
+  },
+  moves,
+)

@@ -1,5 +1,5 @@
 -- What a call that only looks at a bucket does: HeadBucket and GetBucketVersioning.
-use Rattle.std.specs.Prelude.{◌≡◌, ◌⊎◌, ℕ, true, false, Bool, List, [], All, Option, Some, None, Result, Ok, Err}
+use Rattle.std.specs.Prelude.{◌≡◌, ◌⊎◌, ℕ, true, false, Bool, List, [], Option, Some, None, Result, Ok, Err}
 use Rattle.bucket_book.specs.Content.{IsBucketOf, content_of}
 use Rattle.bucket_book.specs.Name.{IsBucketName}
 use Rattle.call_types.specs.declared.feed.Cut.{Cut}
@@ -16,12 +16,12 @@ use Rattle.drive_base.specs.declared.plan.SetPlan.{SetPlan}
 use Rattle.slot_core.specs.declared.fault.SlotFault.{SlotFault}
 use Rattle.receipts.specs.declared.barred.Barred.{Barred}
 use Rattle.receipts.specs.declared.barred.Barred.TheVariants as barred
-use Rattle.receipts.specs.Events.{IsUntold, Log, cuts_of}
+use Rattle.receipts.specs.Events.{Log}
 use Rattle.receipts.specs.Looks.{IsOfSection}
-use Rattle.receipts.specs.Owes.{OwesReply}
 use Rattle.receipts.specs.Paying.{Pays}
 use Rattle.op_steps.specs.Claims.{Claim, no_claim}
 use Rattle.op_steps.specs.Notes.{refusal_by}
+use Rattle.op_steps.specs.Ready.{IsReady}
 use Rattle.op_steps.specs.declared.next.OpNext.{OpNext}
 use Rattle.op_steps.specs.declared.next.OpNext.TheVariants as next
 use Rattle.bucket_ops.specs.declared.state.State.{State}
@@ -88,12 +88,6 @@ cut_of (Over cut) = cut
 abbrev pub barred_state : Barred → State
 barred_state barred.Spent = Telling (Refused SeqSpent)
 barred_state barred.NoMemory = Over (Some NoMemory)
-
--- a reply is owed, and nothing was told or failed
-pub record IsReady (set : SetPlan) (task : Task) (reply : Reply) (log : Log) : Type 0 where
-  pub untold : All IsUntold log
-  pub uncut : cuts_of log ≡ []
-  pub owed : OwesReply set task reply log
 
 -- the log of an op so far, which holds nothing of its slot
 abbrev pub HasDone : SetPlan → Task → State → Log → Type 0

@@ -9,7 +9,7 @@ ghost use Rattle.bucket_ops.specs.Looks.{AfterLook, look_reply};
 use crate::state::State;
 use bucket_book::read;
 use call_types::{Cut, Mode, Refusal, Reply};
-use register_core::QuorumFault;
+use op_steps::section_refusal;
 use seal_file::Bytes;
 use slot_core::SlotFault;
 use std::alloc::Global;
@@ -36,42 +36,11 @@ fn content_answer(alloc: Global, content: &Bytes, asks_mode: bool) -> State
     }
 }
 
-/// The refusal of the call that a register's is: want of memory is none.
-fn quorum_refusal(fault: &QuorumFault) -> Option<Refusal>
-    ensures { MatchOption result (Unit {0}) (λ why. (refusal_by (SlotFault.Quorum fault.now) ≡ Some why) × IsOfSection why) }
-{
-    match fault {
-        QuorumFault::ReadQuorum(whys) => Some(Refusal::ReadQuorum(*whys)),
-        QuorumFault::WriteQuorum(whys) => Some(Refusal::WriteQuorum(*whys)),
-        QuorumFault::Undecided { k, u, whys } => Some(Refusal::Undecided {
-            k: *k,
-            u: *u,
-            whys: *whys,
-        }),
-        QuorumFault::NoMemory => None,
-    }
-}
-
-/// The refusal of the call that a look's is. Want of memory is none, and what no look answers.
-fn look_refusal(fault: &SlotFault) -> Option<Refusal>
-    ensures { MatchOption result (Unit {0}) (λ why. (refusal_by fault.now ≡ Some why) × IsOfSection why) }
-{
-    match fault {
-        SlotFault::Quorum(fault) => quorum_refusal(fault),
-        SlotFault::SeqSpent => Some(Refusal::SeqSpent),
-        SlotFault::AuditFailed { before, after } => Some(Refusal::AuditFailed {
-            before: *before,
-            after: *after,
-        }),
-        SlotFault::Key(_) | SlotFault::NoMemory | SlotFault::NotInFlight(_) => None,
-    }
-}
-
 /// What a refusal answers.
 fn fault_answer(fault: &SlotFault, asks_mode: bool) -> State
     ensures { AfterLook asks_mode (Err fault.now) result }
 {
-    match look_refusal(fault) {
+    match section_refusal(fault) {
         Some(why) => State::Telling(Reply::Refused(why)),
         None => State::Over(Some(Cut::NoMemory)),
     }

@@ -1,16 +1,26 @@
-//! The calls on buckets, step by step: so far HeadBucket and GetBucketVersioning.
+//! The calls on buckets, step by step: so far all but ListBuckets.
 //!
-//! A [`LookOp`] looks at the bucket's register once and tells what it found. It is an [`Op`](op_steps::Op): each of its logs pays what its call owes. The
-//! crate stands on `op_steps` for steps and what they owe, on `slot_core` for looks, on `bucket_book` for the records of buckets, and on `slot_history` for
-//! the names of registers.
+//! A [`LookOp`] (HeadBucket, GetBucketVersioning) looks at the bucket's register once and tells what it found. A [`ChangeOp`] (CreateBucket,
+//! PutBucketVersioning) takes the document, where the call has one, commits its change at the bucket's register and tells the reply. Each is an
+//! [`Op`](op_steps::Op): each of its logs pays what its call owes. The crate stands on `op_steps` for steps and what they owe, on `slot_core` for looks and
+//! commits, on `s3_docs` for documents, on `bucket_book` for the records of buckets, and on `slot_history` for the names of registers.
 #![tactic(auto)]
 
 mod answering;
+mod change;
+mod change_making;
+mod change_op;
+mod change_state;
+mod deciding;
+mod document;
 mod look;
 mod look_op;
 mod making;
 mod state;
+mod taking;
+mod telling;
 
+pub use change_op::ChangeOp;
 pub use look_op::LookOp;
 
 #[cfg(test)]

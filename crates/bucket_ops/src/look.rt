@@ -1,15 +1,13 @@
 //! HeadBucket and GetBucketVersioning.
 
 ghost use Rattle.std.specs.Prelude.{◌≡◌};
-ghost use Rattle.desk_base.specs.Telling.Telling.{Head};
 ghost use Rattle.slot_history.specs.Names.{bucket_slot};
-ghost use Rattle.op_steps.specs.Moves.{TellMoves};
-ghost use Rattle.op_steps.specs.Store.{teller_of};
 ghost use Rattle.bucket_ops.specs.Looks.{StandsSo, barred_state, cut_of, left_of, look_call, step_of};
 
 use crate::answering::answer_of;
 use crate::look_op::LookOp;
 use crate::state::State;
+use crate::telling::tell_head;
 use audit_trail::Audit;
 use call_types::{Cut, Feed, Refusal, Reply};
 use desk_base::Teller;
@@ -28,13 +26,6 @@ fn barred_state(why: Barred) -> State
         Barred::Spent => State::Telling(Reply::Refused(Refusal::SeqSpent)),
         Barred::NoMemory => State::Over(Some(Cut::NoMemory)),
     }
-}
-
-/// Tells the head of a reply.
-fn tell_head<T: Teller>(teller: &mut T, reply: &Reply) -> Option<Cut>
-    ensures { TellMoves T.takes T.breaks (Head reply.now) result (teller_of teller.old (T.faults teller.old)) (teller_of teller.new (T.faults teller.new)) }
-{
-    teller.head(reply).err()
 }
 
 impl Op for LookOp {
