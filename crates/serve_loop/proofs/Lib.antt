@@ -1,10 +1,11 @@
 pub mod AskLemmas
 pub mod CallLemmas
 pub mod CutLemmas
+pub mod DoorLemmas
 pub mod HeadLemmas
-pub mod IdleLemmas
 pub mod IntakeLemmas
 pub mod RestLemmas
+pub mod ScriptLemmas
 pub mod SessionLemmas
 pub mod TellingLemmas
 pub mod TurnLemmas

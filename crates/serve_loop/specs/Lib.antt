@@ -1,5 +1,6 @@
 pub mod Asks
 pub mod Deeds
+pub mod Doors
 pub mod Exchanges
 pub mod Intakes
 pub mod Seen

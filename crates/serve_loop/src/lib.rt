@@ -6,20 +6,27 @@
 //! Its promise is a [`Session`](../specs/Session.antt): a list of exchanges whose requests are the bytes that were taken and whose texts are the
 //! bytes that were given, in order, each a call of the desk or a refusal that the head explains, and an end with its cause. It knows nothing of what a
 //! desk is: each exchange moves the pass as the desk's own relation says.
+//!
+//! [`serve_door`] serves the connections of a door so, one after another, and hands each back. A [`ServeWork`] is that as a work for a thread: workers
+//! share one desk, each with a pass and a door of its own. It stands on `io_base` for doors and works.
 #![tactic(auto)]
 
 mod asks;
 mod connection;
+mod doors;
 mod ends;
 mod giving;
 mod intake;
 mod manner;
 mod serving;
 mod telling;
+mod works;
 
 pub use connection::{MOST_REQUESTS, Served, serve_connection};
+pub use doors::{DoorEnd, serve_door};
 pub use ends::ConnectionEnd;
 pub use serving::MOST_BODY;
+pub use works::ServeWork;
 
 #[cfg(test)]
 mod tests;

@@ -1,86 +1,49 @@
-//! Tests of what no clause says: whole connections as bytes, over a desk that tells each call that it is done.
+//! Tests of what no clause says: whole connections as bytes, the order of reads and writes, and doors.
+
+mod doors;
+mod order;
+mod scripted;
 
 use crate::{ConnectionEnd, serve_connection};
-use call_types::{Cut, Feed, Reply};
-use desk_base::{Call, Desk, Teller};
+use call_types::Whys;
 use io_base::{MemClock, MemSink, MemSource};
+use scripted::{ScriptedDesk, Way};
 use std::alloc::Global;
 use std::test::Fail;
 
 /// Two requests at once.
-const TWO_REQUESTS: &[u8] = b"GET /pic/a HTTP/1.1\r\n\r\nDELETE /pic/a HTTP/1.1\r\n\r\n";
+const TWO_REQUESTS: &[u8] = b"PUT /pic HTTP/1.1\r\n\r\nDELETE /pic/a HTTP/1.1\r\n\r\n";
 
-/// A body that is awaited, and a request behind it.
+/// What is given for them.
+const TWO_REPLIES: &[u8] =
+    b"HTTP/1.1 200 OK\r\nDate: Sun, 06 Nov 1994 08:49:37 GMT\r\nContent-Length: 0\r\nLocation: /pic\r\n\r\nHTTP/1.1 204 No Content\r\nDate: Sun, 06 Nov 1994 08:49:37 GMT\r\n\r\n";
+
+/// A body that is awaited, and a GET behind it.
 const AWAITED_BODY: &[u8] =
-    b"PUT /pic/a HTTP/1.1\r\nContent-Length: 6\r\nExpect: 100-Continue\r\n\r\nabcdefHEAD /pic HTTP/1.1\r\n\r\n";
+    b"PUT /pic/a HTTP/1.1\r\nContent-Length: 6\r\nExpect: 100-Continue\r\n\r\nabcdefGET /pic/a HTTP/1.1\r\n\r\n";
+
+/// What is given for them.
+const AWAITED_REPLIES: &[u8] =
+    b"HTTP/1.1 100 Continue\r\n\r\nHTTP/1.1 200 OK\r\nDate: Sun, 06 Nov 1994 08:49:37 GMT\r\nContent-Length: 0\r\n\r\nHTTP/1.1 200 OK\r\nDate: Sun, 06 Nov 1994 08:49:37 GMT\r\nContent-Length: 5\r\nContent-Type: text/plain\r\nLast-Modified: Sun, 06 Nov 1994 08:49:37 GMT\r\nETag: \"00000000000000000000000000000000\"\r\nAccept-Ranges: bytes\r\n\r\nhello";
 
 /// A request that asks to close, and one behind it.
 const CLOSING_REQUEST: &[u8] =
     b"DELETE /pic/a HTTP/1.1\r\nConnection: keep-alive , Close\r\n\r\nGET / HTTP/1.1\r\n\r\n";
 
-/// A body that ends early.
-const CUT_BODY: &[u8] =
-    b"PUT /pic/a HTTP/1.1\r\nContent-Length: 9\r\nExpect: 100-continue\r\n\r\nabcdef";
-
-/// A call that is refused, with a body, and a request behind it.
-const REFUSED_CALL: &[u8] =
-    b"PUT /pic/a?acl HTTP/1.1\r\nContent-Length: 3\r\n\r\nabcDELETE /pic/a HTTP/1.1\r\n\r\n";
-
-/// Two requests without a body.
-const TWO_DELETES: &[u8] = b"DELETE /pic/a HTTP/1.1\r\n\r\nDELETE /pic/b HTTP/1.1\r\n\r\n";
-
-/// What is given for it.
-const TWO_REPLIES: &[u8] =
-    b"HTTP/1.1 200 OK\r\nDate: Sun, 06 Nov 1994 08:49:37 GMT\r\nContent-Length: 0\r\n\r\nHTTP/1.1 204 No Content\r\nDate: Sun, 06 Nov 1994 08:49:37 GMT\r\n\r\n";
-
-/// What is given for it.
-const AWAITED_REPLIES: &[u8] =
-    b"HTTP/1.1 100 Continue\r\n\r\nHTTP/1.1 200 OK\r\nDate: Sun, 06 Nov 1994 08:49:37 GMT\r\nContent-Length: 0\r\n\r\nHTTP/1.1 200 OK\r\nDate: Sun, 06 Nov 1994 08:49:37 GMT\r\n\r\n";
-
 /// What is given for it.
 const CLOSING_REPLY: &[u8] =
     b"HTTP/1.1 204 No Content\r\nDate: Sun, 06 Nov 1994 08:49:37 GMT\r\nConnection: close\r\n\r\n";
 
+/// A body that ends early.
+const CUT_BODY: &[u8] =
+    b"PUT /pic/a HTTP/1.1\r\nContent-Length: 9\r\nExpect: 100-continue\r\n\r\nabcdef";
+
 /// What is given for it.
 const CONTINUE: &[u8] = b"HTTP/1.1 100 Continue\r\n\r\n";
 
-/// What is given for it.
-const ONE_REPLY: &[u8] = b"HTTP/1.1 204 No Content\r\nDate: Sun, 06 Nov 1994 08:49:37 GMT\r\n\r\n";
-
-/// A desk that does nothing, takes up to four bytes of a body, and tells that the call is done.
-#[derive(Drop)]
-struct IdleDesk;
-
-impl Desk for IdleDesk {
-    ghost use Rattle.desk_base.specs.Answering.{CallTells};
-
-    type Pass = u64;
-
-    type Receipt = ();
-
-    ghost Holds = { Unit {0} };
-
-    ghost holds = { λ pass. tt };
-
-    ghost answers = { λ desk task before after body tale result. CallTells task.call result tale };
-
-    fn call<F: Feed, T: Teller>(
-        &self,
-        _alloc: Global,
-        pass: &mut u64,
-        _call: &Call,
-        _now: u64,
-        feed: &mut F,
-        teller: &mut T,
-    ) -> Result<(), Cut> {
-        *pass = pass.saturating_add(1);
-        let mut piece = [0; 4];
-        match feed.take(&mut piece) {
-            Ok(_) => teller.head(&Reply::Plain),
-            Err(cut) => Err(cut),
-        }
-    }
-}
+/// A call that is refused, with a body, and a request behind it.
+const REFUSED_CALL: &[u8] =
+    b"PUT /pic/a?acl HTTP/1.1\r\nContent-Length: 3\r\n\r\nabcDELETE /pic/a HTTP/1.1\r\n\r\n";
 
 /// How a connection ended, how many calls the desk served, and what was given.
 #[derive(Drop)]
@@ -90,13 +53,13 @@ struct Talk {
     sink: MemSink,
 }
 
-/// A connection of these bytes, over a sink that fails at these calls.
-fn hold_talk(alloc: Global, input: &[u8], fails: Vec<u64>) -> Result<Talk, Fail> {
+/// A connection of these bytes, over a sink that fails at this write.
+fn hold_talk(alloc: Global, desk: &ScriptedDesk, input: &[u8], fails: u64) -> Result<Talk, Fail> {
     let source = MemSource::new(Vec::from_slice(alloc, input)?, Vec::new(alloc));
-    let mut sink = MemSink::new(fails);
+    let mut sink = MemSink::new(vec![in alloc; fails]?);
     let mut served = 0;
     let clock = MemClock::new(784_111_777);
-    let talked = serve_connection(alloc, &IdleDesk, &mut served, source, &mut sink, &clock);
+    let talked = serve_connection(alloc, desk, &mut served, source, &mut sink, &clock);
     Ok(Talk {
         end: talked.end,
         served,
@@ -104,61 +67,65 @@ fn hold_talk(alloc: Global, input: &[u8], fails: Vec<u64>) -> Result<Talk, Fail>
     })
 }
 
+/// The number of a write that no connection of the tests makes.
+const NO_WRITE: u64 = 99;
+
+/// How many bytes of `AWAITED_REPLIES` are given in the first write, in the first two and in three.
+const WRITTEN: [usize; 3] = [25, 100, 314];
+
 #[test]
-fn requests_may_come_at_once(rt: HostRuntime) -> Result<(), Fail> {
+fn connections_are_answered_in_order(rt: HostRuntime) -> Result<(), Fail> {
     let alloc = rt.alloc();
-    let talked = hold_talk(alloc, TWO_REQUESTS, Vec::new(alloc))?;
-    assert_eq!(rt; talked.end, ConnectionEnd::Over);
-    assert_eq!(rt; talked.served, 2);
-    assert_eq!(rt; talked.sink.given(), TWO_REPLIES);
+    let desk = ScriptedDesk::new(alloc, Way::Whole)?;
+    let table = [
+        (TWO_REQUESTS, ConnectionEnd::Over, 2, TWO_REPLIES),
+        (AWAITED_BODY, ConnectionEnd::Over, 2, AWAITED_REPLIES),
+        (CLOSING_REQUEST, ConnectionEnd::Over, 1, CLOSING_REPLY),
+        (CUT_BODY, ConnectionEnd::InputCut, 1, CONTINUE),
+    ];
+    for (input, end, served, given) in table {
+        let talk = hold_talk(alloc, &desk, input, NO_WRITE)?;
+        assert_eq!(rt; talk.end, end);
+        assert_eq!(rt; talk.served, served);
+        assert_eq!(rt; talk.sink.given(), given);
+    }
+    let refused = hold_talk(alloc, &desk, REFUSED_CALL, NO_WRITE)?;
+    assert_eq!(rt; (refused.end, refused.served), (ConnectionEnd::Over, 1));
     Ok(())
 }
 
 #[test]
-fn a_body_is_awaited_and_read_to_its_end(rt: HostRuntime) -> Result<(), Fail> {
+fn a_connection_is_cut_at_each_place(rt: HostRuntime) -> Result<(), Fail> {
     let alloc = rt.alloc();
-    let talked = hold_talk(alloc, AWAITED_BODY, Vec::new(alloc))?;
-    assert_eq!(rt; talked.end, ConnectionEnd::Over);
-    assert_eq!(rt; talked.served, 2);
-    assert_eq!(rt; talked.sink.given(), AWAITED_REPLIES);
-    Ok(())
-}
-
-#[test]
-fn a_token_closes(rt: HostRuntime) -> Result<(), Fail> {
-    let alloc = rt.alloc();
-    let talked = hold_talk(alloc, CLOSING_REQUEST, Vec::new(alloc))?;
-    assert_eq!(rt; talked.end, ConnectionEnd::Over);
-    assert_eq!(rt; talked.served, 1);
-    assert_eq!(rt; talked.sink.given(), CLOSING_REPLY);
-    Ok(())
-}
-
-#[test]
-fn nothing_is_told_before_the_whole_body(rt: HostRuntime) -> Result<(), Fail> {
-    let alloc = rt.alloc();
-    let talked = hold_talk(alloc, CUT_BODY, Vec::new(alloc))?;
-    assert_eq!(rt; talked.end, ConnectionEnd::InputCut);
-    assert_eq!(rt; talked.served, 1);
-    assert_eq!(rt; talked.sink.given(), CONTINUE);
-    Ok(())
-}
-
-#[test]
-fn a_refused_call_goes_on_behind_its_body(rt: HostRuntime) -> Result<(), Fail> {
-    let alloc = rt.alloc();
-    let talked = hold_talk(alloc, REFUSED_CALL, Vec::new(alloc))?;
-    assert_eq!(rt; talked.end, ConnectionEnd::Over);
-    assert_eq!(rt; talked.served, 1);
-    Ok(())
-}
-
-#[test]
-fn a_second_write_fails(rt: HostRuntime) -> Result<(), Fail> {
-    let alloc = rt.alloc();
-    let talked = hold_talk(alloc, TWO_DELETES, vec![in alloc; 1u64]?)?;
-    assert_eq!(rt; talked.end, ConnectionEnd::WriteFault);
-    assert_eq!(rt; talked.served, 2);
-    assert_eq!(rt; talked.sink.given(), ONE_REPLY);
+    let whys = Whys::all_good(4);
+    // The desk's way, the write that fails, the end, the calls that were served, and how much was given.
+    let table = [
+        (Way::Whole, 0, ConnectionEnd::WriteFault, 0, 0),
+        (Way::Whole, 1, ConnectionEnd::WriteFault, 1, WRITTEN[0]),
+        (Way::Whole, 2, ConnectionEnd::WriteFault, 2, WRITTEN[1]),
+        (Way::Whole, 3, ConnectionEnd::WriteFault, 2, WRITTEN[2]),
+        (
+            Way::Starved,
+            NO_WRITE,
+            ConnectionEnd::NoMemory,
+            2,
+            WRITTEN[1],
+        ),
+        (
+            Way::Cut,
+            NO_WRITE,
+            ConnectionEnd::ReplyCut(whys),
+            2,
+            WRITTEN[2],
+        ),
+    ];
+    for (way, fails, end, served, length) in table {
+        let desk = ScriptedDesk::new(alloc, way)?;
+        let talk = hold_talk(alloc, &desk, AWAITED_BODY, fails)?;
+        assert_eq!(rt; talk.end, end);
+        assert_eq!(rt; talk.served, served);
+        assert_eq!(rt; talk.sink.given().len(), length);
+        assert!(rt; AWAITED_REPLIES.starts_with(talk.sink.given()));
+    }
     Ok(())
 }

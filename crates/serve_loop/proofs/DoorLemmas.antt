@@ -1,0 +1,124 @@
+-- The connections of a door, put together.
+use Rattle.std.proofs.Common.{◌≡◌, inl, inr, ◌≤◌, ◌<◌, ◌+◌, ℕ, Bool, true, false, List, [], ◌∷◌, ◌++◌, length, map, Option, Some, None, refl, sym, ap, ◌∙◌, subst, arith, append_assoc, append-nil, length-append}
+use Rattle.std.specs.Prelude.{Result}
+use Rattle.std.proofs.lemmas.List.{map-append, length-map}
+use Rattle.fault_base.specs.Counts.{Rose}
+use Rattle.io_base.specs.Door.{IsOwed, told_more}
+use Rattle.call_types.specs.declared.feed.Cut.{Cut}
+use Rattle.desk_base.specs.Answering.{Task}
+use Rattle.desk_base.specs.Telling.{Telling}
+use Rattle.serve_loop.specs.Doors.{AreVisited, DoorServed, DoorView, GaveVisits, IsEven, IsVisited, RoundGoes, ServesOne, Sight, Visit, given_of, returned_of, told_all}
+use Rattle.serve_loop.specs.declared.doors.DoorEnd.TheVariants.{Over, DoorFailed}
+use Rattle.serve_loop.specs.declared.doors.Round.TheVariants as round
+use Rattle.serve_loop.specs.declared.ends.ConnectionEnd.{ConnectionEnd}
+
+told_none : {X : Type 0} (known : Option (List X)) → known ≡ told_all known []
+told_none None = refl
+told_none (Some all) = ap Some (sym (append-nil all))
+
+told_both : {X : Type 0} (known : Option (List X)) (xs ys : List X) → told_all (told_all known xs) ys ≡ told_all known (xs ++ ys)
+told_both None xs ys = refl
+told_both (Some all) xs ys = ap Some (append_assoc all xs ys)
+
+-- ---- pairs that came back
+
+owed : {X : Type 0} (gave returned : Option (List X)) (pair : X) → IsEven gave returned → IsOwed (told_more gave pair) returned
+owed None returned pair even = tt
+owed (Some gave) None pair even = tt
+owed (Some gave) (Some returned) pair even = omega (arith, even, length-append gave (pair ∷ []))
+
+even_more : {X : Type 0} (gave returned : Option (List X)) (xs ys : List X) → length ys ≤ length xs → IsEven gave returned → IsEven (told_all gave xs) (told_all returned ys)
+even_more None returned xs ys less even = tt
+even_more (Some gave) None xs ys less even = tt
+even_more (Some gave) (Some returned) xs ys less even = omega (arith, less, even, length-append gave xs, length-append returned ys)
+
+module _ {S T : Type 0} where
+  as_many : (visits : List (Visit S T)) → length (map returned_of visits) ≤ length (map given_of visits)
+  as_many visits = omega (arith, length-map visits returned_of, length-map visits given_of)
+
+  pub visits_none : (old new : DoorView S T) → new.gave ≡ old.gave → new.returned ≡ old.returned → GaveVisits [] old new
+  visits_none old new gave returned = record {
+    gave = gave ∙ told_none old.gave;
+    returned = λ even. returned ∙ told_none old.returned;
+    shut = λ over. refl;
+  }
+
+  visits_more : (vs ws : List (Visit S T)) (old mid new : DoorView S T) → GaveVisits vs old mid → mid.over ≡ old.over → GaveVisits ws mid new → GaveVisits (vs ++ ws) old new
+  visits_more vs ws old mid new first over more = record {
+    gave = more.gave ∙ ap (λ k. told_all k (map given_of ws)) first.gave ∙ told_both old.gave (map given_of vs) (map given_of ws)
+        ∙ ap (told_all old.gave) (sym (map-append given_of vs ws));
+    returned = λ even.
+        let came = first.returned even in
+        let now_even : IsEven mid.gave mid.returned = subst (λ g. IsEven g mid.returned) (sym first.gave)
+        (subst (IsEven (told_all old.gave (map given_of vs))) (sym came)
+        (even_more old.gave old.returned (map given_of vs) (map returned_of vs) (as_many vs) even)) in
+        more.returned now_even ∙ ap (λ k. told_all k (map returned_of ws)) came ∙ told_both old.returned (map returned_of vs) (map returned_of ws)
+        ∙ ap (told_all old.returned) (sym (map-append returned_of vs ws));
+    shut = λ shut. ap (λ l. l ++ ws) (first.shut shut) ∙ more.shut (over ∙ shut);
+  }
+
+  -- one pair was given, and came back
+  pub visits_one : (visit : Visit S T) (old mid new : DoorView S T) → (old.over ≡ false) → mid.gave ≡ told_more old.gave (given_of visit) → mid.returned ≡ old.returned
+      → (IsOwed mid.gave mid.returned → new.returned ≡ told_more mid.returned (returned_of visit)) → new.gave ≡ mid.gave → GaveVisits (visit ∷ []) old new
+  visits_one visit old mid new open_before gave same back stays = record {
+    gave = stays ∙ gave;
+    returned = λ even. back (subst (IsOwed mid.gave) (sym same) (subst (λ g. IsOwed g old.returned) (sym gave) (owed old.gave old.returned (given_of visit) even)))
+        ∙ ap (λ k. told_more k (returned_of visit)) same;
+    shut = λ shut. let clash : false ≡ true = sym open_before ∙ shut in cc;
+  }
+
+module _ {M R S T : Type 0} (answers : Task → M → M → List ℕ → List Telling → Result R Cut → Type 0) (clock : Option ℕ) (seen : Sight S T) where
+  visited_more : (vs ws : List (Visit S T)) (old mid new : M) → AreVisited answers clock seen old vs mid → AreVisited answers clock seen mid ws new → AreVisited answers clock seen old (vs ++ ws) new
+  visited_more [] ws old mid new same more = subst (λ m. AreVisited answers clock seen m ws new) (sym same) more
+  visited_more (visit ∷ vs) ws old mid new (next, first, rest) more = (next, first, visited_more vs ws next mid new rest more)
+
+  -- a connection was served that the door gave, and it came back
+  pub serves_one : (visit : Visit S T) (old new : M) (before mid after : DoorView S T) → IsVisited answers clock seen old visit new
+      → (before.over ≡ false) × (mid.over ≡ false) → mid.gave ≡ told_more before.gave (given_of visit) → mid.returned ≡ before.returned → mid.faults ≡ before.faults
+      → (IsOwed mid.gave mid.returned → after.returned ≡ told_more mid.returned (returned_of visit)) → after.over ≡ mid.over → after.gave ≡ mid.gave → after.faults ≡ mid.faults
+      → ServesOne answers clock seen old new before after
+  serves_one visit old new before mid after visited opened gave same counted back over stays count = record {
+    visit = visit;
+    visited = visited;
+    passed = visits_one visit before mid after opened.0 gave same back stays;
+    over = over ∙ opened.1 ∙ sym opened.0;
+    counted = count ∙ counted;
+  }
+
+  -- the connections so far
+  pub record DoorSoFar (old now : M) (start here : DoorView S T) : Type 0 where
+    pub visits : List (Visit S T)
+    pub visited : AreVisited answers clock seen old visits now
+    pub passed : GaveVisits visits start here
+    pub over : here.over ≡ start.over
+    pub counted : here.faults ≡ start.faults
+
+  pub door_none : (old : M) (start : DoorView S T) → DoorSoFar old old start start
+  door_none old start = record { visits = []; visited = refl; passed = visits_none start start refl refl; over = refl; counted = refl }
+
+  pub door_more : (old mid new : M) (start here there : DoorView S T) → DoorSoFar old mid start here → ServesOne answers clock seen mid new here there → DoorSoFar old new start there
+  door_more old mid new start here there so_far one = record {
+    visits = so_far.visits ++ one.visit ∷ [];
+    visited = visited_more so_far.visits (one.visit ∷ []) old mid new so_far.visited (new, one.visited, refl);
+    passed = visits_more so_far.visits (one.visit ∷ []) start here there so_far.passed so_far.over one.passed;
+    over = one.over ∙ so_far.over;
+    counted = one.counted ∙ so_far.counted;
+  }
+
+  pub door_over : (old mid new : M) (start here there : DoorView S T) → DoorSoFar old mid start here → RoundGoes answers clock seen round.Over mid new here there
+      → DoorServed answers clock seen Over old new start there
+  door_over old mid new start here there so_far goes = record {
+    visits = so_far.visits ++ [];
+    visited = visited_more so_far.visits [] old mid new so_far.visited (sym goes.0);
+    passed = visits_more so_far.visits [] start here there so_far.passed so_far.over goes.1;
+    ends = (goes.2, goes.3 ∙ so_far.counted);
+  }
+
+  pub door_failed : (old mid new : M) (start here there : DoorView S T) (before after : ℕ) → DoorSoFar old mid start here → RoundGoes answers clock seen round.Failed mid new here there
+      → before ≡ start.faults → after ≡ there.faults → DoorServed answers clock seen (DoorFailed before after) old new start there
+  door_failed old mid new start here there before after so_far goes first last = record {
+    visits = so_far.visits ++ [];
+    visited = visited_more so_far.visits [] old mid new so_far.visited (sym goes.0);
+    passed = visits_more so_far.visits [] start here there so_far.passed so_far.over goes.1;
+    ends = (goes.2 ∙ so_far.over, first, last, subst (λ n. Rose n there.faults) so_far.counted goes.3);
+  }

@@ -1,0 +1,43 @@
+use Rattle.std.proofs.Common.{refl, ◌∙◌}
+use Rattle.serve_loop.specs.Doors.{door_view, sight}
+use Rattle.serve_loop.specs.declared.doors.DoorEnd.TheVariants.{DoorFailed}
+use Rattle.serve_loop.proofs.DoorLemmas.{door_failed, door_more, door_none, serves_one, visits_none}
+use Rattle.serve_loop.proofs.works.ServeWorkWork.work.Goals as goal
+
+pub rounds-init : goal.rounds-init
+rounds-init g c = record {
+  holds = refl;
+  so_far = door_none (g.K.Desk.answers c.args.self.now.desk.now) (g.C.Clock.moment c.args.self.now.clock.now)
+      (sight g.O.In.Source.left g.O.In.Source.faults g.O.Out.Sink.given g.O.Out.Sink.faults)
+      c.args.self.now.pass (door_view g.O.Door.over g.O.Door.gave g.O.Door.returned g.O.Door.faults c.args.self.now.door);
+}
+
+pub rounds-preserved : goal.rounds-preserved
+rounds-preserved g c =
+    let view = door_view g.O.Door.over g.O.Door.gave g.O.Door.returned g.O.Door.faults in
+    let seen = sight g.O.In.Source.left g.O.In.Source.faults g.O.Out.Sink.given g.O.Out.Sink.faults in
+    record {
+      holds = c.serve_connection-served.ensures.holds ∙ c.rounds.invariant.holds;
+      so_far = door_more (g.K.Desk.answers c.args.self.now.desk.now) (g.C.Clock.moment c.args.self.now.clock.now) seen
+          c.args.self.now.pass c.rounds.pass c.serve_connection-served.new.pass (view c.args.self.now.door) (view c.rounds.door) (view c.back.new.self) c.rounds.invariant.so_far
+          (serves_one (g.K.Desk.answers c.args.self.now.desk.now) (g.C.Clock.moment c.args.self.now.clock.now) seen
+          (record {
+            source = c.in-Ok-Some.source;
+            sink = c.in-Ok-Some.sink;
+            end = c.serve_connection-served.result.end;
+            source_after = c.serve_connection-served.result.source;
+            sink_after = c.serve_connection-served.new.sink;
+          })
+          c.rounds.pass c.serve_connection-served.new.pass (view c.rounds.door) (view c.next-in-rounds.new.self) (view c.back.new.self) c.serve_connection-served.ensures.session
+          (rw c.in-Ok-Some.field-0-is at c.in-Ok-Some.ensures.over) (rw c.in-Ok-Some.field-0-is at c.in-Ok-Some.ensures.gave) c.in-Ok-Some.ensures.returned c.in-Ok-Some.ensures.counted
+          c.back.ensures.returned c.back.ensures.over c.back.ensures.gave c.back.ensures.count);
+    }
+
+pub returns-in-Err-clause-served : goal.returns-in-Err-clause-served
+returns-in-Err-clause-served g c =
+    let view = door_view g.O.Door.over g.O.Door.gave g.O.Door.returned g.O.Door.faults in (
+      DoorFailed (g.O.Door.faults c.args.self.now.door) (g.O.Door.faults c.next-in-rounds.new.self),
+      door_failed (g.K.Desk.answers c.args.self.now.desk.now) (g.C.Clock.moment c.args.self.now.clock.now) (sight g.O.In.Source.left g.O.In.Source.faults g.O.Out.Sink.given g.O.Out.Sink.faults)
+          c.args.self.now.pass c.rounds.pass c.rounds.pass (view c.args.self.now.door) (view c.rounds.door) (view c.next-in-rounds.new.self) _ _ c.rounds.invariant.so_far
+          (refl, visits_none (view c.rounds.door) (view c.next-in-rounds.new.self) c.in-Err.ensures.gave c.in-Err.ensures.returned, c.in-Err.ensures.over, c.in-Err.ensures.counted) refl refl,
+    )

@@ -1,0 +1,124 @@
+-- What the serving of a door comes to: connections one after another, and how it ended.
+use Rattle.std.specs.Prelude.{◌≡◌, ◌⊎◌, ◌≤◌, ℕ, Bool, true, List, [], ◌∷◌, ◌++◌, length, map, Option, Some, None, option_map, Result}
+use Rattle.fault_base.specs.Counts.{Rose}
+use Rattle.call_types.specs.declared.feed.Cut.{Cut}
+use Rattle.desk_base.specs.Answering.{Task}
+use Rattle.desk_base.specs.Telling.{Telling}
+use Rattle.serve_loop.specs.Deeds.{Wires, wires}
+use Rattle.serve_loop.specs.Session.{Session}
+use Rattle.serve_loop.specs.declared.doors.DoorEnd.{DoorEnd}
+use Rattle.serve_loop.specs.declared.doors.DoorEnd.TheVariants.{Over, DoorFailed}
+use Rattle.serve_loop.specs.declared.doors.Round.{Round}
+use Rattle.serve_loop.specs.declared.doors.Round.TheVariants as round
+use Rattle.serve_loop.specs.declared.ends.ConnectionEnd.{ConnectionEnd}
+
+-- how the ends of connections are seen: what of a source was not taken, what was given to a sink, and their counts of faults
+pub record Sight (S T : Type 0) : Type 0 where
+  pub left : S → Option (List ℕ)
+  pub reads : S → ℕ
+  pub given : T → Option (List ℕ)
+  pub writes : T → ℕ
+
+-- a sight, from its parts
+abbrev pub sight : {S T : Type 0} → (S → Option (List ℕ)) → (S → ℕ) → (T → Option (List ℕ)) → (T → ℕ) → Sight S T
+sight left reads given writes = record { left = left; reads = reads; given = given; writes = writes }
+
+-- the wires between two ends
+abbrev pub wires_by : {S T : Type 0} → Sight S T → S → T → Wires
+wires_by seen source sink = wires (seen.left source) (seen.given sink) (seen.reads source) (seen.writes sink)
+
+-- what is seen of a door: whether no connection will come any more, the pairs that it gave and those that came back, told or not, and its count
+-- of faults
+pub record DoorView (S T : Type 0) : Type 0 where
+  pub over : Bool
+  pub gave : Option (List (S × T))
+  pub returned : Option (List (S × T))
+  pub faults : ℕ
+
+-- a door's view, from its parts
+abbrev pub door_view : {O S T : Type 0} → (O → Bool) → (O → Option (List (S × T))) → (O → Option (List (S × T))) → (O → ℕ) → O → DoorView S T
+door_view over gave returned faults door = record { over = over door; gave = gave door; returned = returned door; faults = faults door }
+
+-- one connection of a door: its two ends as the door gave them, how it ended, and both ends as they came back
+pub record Visit (S T : Type 0) : Type 0 where
+  pub source : S
+  pub sink : T
+  pub end : ConnectionEnd
+  pub source_after : S
+  pub sink_after : T
+
+-- the pair that the door gave
+abbrev pub given_of : {S T : Type 0} → Visit S T → S × T
+given_of visit = (visit.source, visit.sink)
+
+-- the pair that came back
+abbrev pub returned_of : {S T : Type 0} → Visit S T → S × T
+returned_of visit = (visit.source_after, visit.sink_after)
+
+-- what is known, and behind it these
+abbrev pub told_all : {X : Type 0} → Option (List X) → List X → Option (List X)
+told_all known xs = option_map (λ all. all ++ xs) known
+
+-- no more pairs came back than the door gave, as far as it tells
+abbrev pub IsEven : {X : Type 0} → Option (List X) → Option (List X) → Type 0
+IsEven None returned = Unit {0}
+IsEven (Some gave) None = Unit {0}
+IsEven (Some gave) (Some returned) = length returned ≤ length gave
+
+-- the door gave these connections and no other, and each of them came back; one that was over gave none
+pub record GaveVisits {S T : Type 0} (visits : List (Visit S T)) (old new : DoorView S T) : Type 0 where
+  pub gave : new.gave ≡ told_all old.gave (map given_of visits)
+  pub returned : IsEven old.gave old.returned → new.returned ≡ told_all old.returned (map returned_of visits)
+  pub shut : old.over ≡ true → visits ≡ []
+
+-- how the serving of a door ended: the door is over and failed at nothing, or it failed, as its count of faults shows, and is no more over than before
+abbrev pub DoorEndsSo : {S T : Type 0} → DoorEnd → (old new : DoorView S T) → Type 0
+DoorEndsSo Over old new = (new.over ≡ true) × (new.faults ≡ old.faults)
+DoorEndsSo (DoorFailed before after) old new =
+    (new.over ≡ old.over) × (before ≡ old.faults) × (after ≡ new.faults) × Rose old.faults new.faults
+
+-- a door was served to its end, from this count of faults on: it is over, or it failed since
+abbrev pub IsServedOut : (over : Bool) → (before now : ℕ) → Type 0
+IsServedOut over before now = (over ≡ true) ⊎ Rose before now
+
+-- what stays while a work serves a door: what its pass holds, and the door's count of faults when the work was made
+pub record WorkKeeps (H : Type 0) : Type 0 where
+  pub holds : H
+  pub before : ℕ
+
+-- that, from its parts
+abbrev pub work_keeps : {H : Type 0} → H → ℕ → WorkKeeps H
+work_keeps holds before = record { holds = holds; before = before }
+
+module _ {M R S T : Type 0} (answers : Task → M → M → List ℕ → List Telling → Result R Cut → Type 0) (clock : Option ℕ) (seen : Sight S T) where
+  -- a connection was served, and how it ended
+  abbrev pub IsVisited : M → Visit S T → M → Type 0
+  IsVisited old visit new =
+      Session answers clock old new visit.end (wires_by seen visit.source visit.sink) (wires_by seen visit.source_after visit.sink_after)
+
+  -- connections were served one after another, each from where the one before left the pass
+  abbrev pub AreVisited : M → List (Visit S T) → M → Type 0
+  AreVisited old [] new = old ≡ new
+  AreVisited old (visit ∷ visits) new = (mid : M) × IsVisited old visit mid × AreVisited mid visits new
+
+  -- a door was served: its connections one after another, until it was over or failed
+  pub record DoorServed (end : DoorEnd) (old new : M) (before after : DoorView S T) : Type 0 where
+    pub visits : List (Visit S T)
+    pub visited : AreVisited old visits new
+    pub passed : GaveVisits visits before after
+    pub ends : DoorEndsSo end before after
+
+  -- one connection was served
+  pub record ServesOne (old new : M) (before after : DoorView S T) : Type 0 where
+    pub visit : Visit S T
+    pub visited : IsVisited old visit new
+    pub passed : GaveVisits (visit ∷ []) before after
+    pub over : after.over ≡ before.over
+    pub counted : after.faults ≡ before.faults
+
+  -- what one round comes to: a connection was served, or the door is over, or it failed
+  abbrev pub RoundGoes : Round → (old new : M) → (before after : DoorView S T) → Type 0
+  RoundGoes round.Served old new before after = ServesOne old new before after
+  RoundGoes round.Over old new before after = (new ≡ old) × GaveVisits [] before after × (after.over ≡ true) × (after.faults ≡ before.faults)
+  RoundGoes round.Failed old new before after =
+      (new ≡ old) × GaveVisits [] before after × (after.over ≡ before.over) × Rose before.faults after.faults
