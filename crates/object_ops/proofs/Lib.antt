@@ -1,0 +1,11 @@
+pub mod HeadLemmas
+pub mod LookingLemmas
+pub mod ReadingBars
+pub mod ReadingClaims
+pub mod ReadingKey
+pub mod ReadingLists
+pub mod ReadingLook
+pub mod ReadingStart
+pub mod ReadingTell
+pub mod ReadingTurn
+pub mod TellingLemmas

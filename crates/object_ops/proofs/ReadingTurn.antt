@@ -1,0 +1,164 @@
+-- The begin and the end of a read, as steps of an op that has the pin between them.
+use Rattle.std.proofs.Common.{◌≡◌, ◌∙◌, ℕ, Bool, List, Option, Some, None, Result, Ok, Err, refl, sym, subst, subst₂, arith}
+use Rattle.audit_trail.specs.declared.entry.Entry.{Entry}
+use Rattle.call_types.specs.declared.names.Key.{Key}
+use Rattle.drive_base.specs.Files.{Files}
+use Rattle.drive_base.specs.View.{AllOnlyRead, DriveView, views}
+use Rattle.drive_base.specs.declared.drive.Drive.{Ghosts}
+use Rattle.slot_history.specs.Standing.{Records}
+use Rattle.slot_history.specs.State.{State}
+use Rattle.slot_data.specs.Disks.{Disks}
+use Rattle.slot_data.specs.Holding.{Holding, Pinned}
+use Rattle.slot_data.specs.Holding.Purpose.{ForRead}
+use Rattle.slot_data.specs.Standing.{DataStands}
+use Rattle.slot_core.specs.Hands.{HandsStay}
+use Rattle.slot_core.specs.Sections.{MayLetGo, PinGoes, ReadHolds, ShowsNoMore}
+use Rattle.slot_core.specs.Stubs.{entry_of}
+use Rattle.slot_core.specs.Turning.{EntryMoves, Leaves, Turns, TurnsQuietly}
+use Rattle.slot_core.specs.Views.{last_of}
+use Rattle.slot_core.specs.declared.fault.SlotFault.{SlotFault}
+use Rattle.slot_core.specs.declared.reading.ReadStart.{ReadStart}
+use Rattle.slot_core.specs.declared.stub.Stub.{Stub}
+use Rattle.receipts.specs.Events.Shown.{NoneShown}
+use Rattle.op_steps.specs.Claims.{Claim, HoldsAt, IsMet, among, claims_at, disks_of, hands_of, no_claim}
+use Rattle.op_steps.specs.Looking.{AreOnlyRead}
+use Rattle.op_steps.specs.Moves.{ShowsBy, TurnLeaves, TurnMoves}
+use Rattle.op_steps.specs.Notes.{noted}
+use Rattle.op_steps.specs.Store.{LanesStand, SlotSeen}
+use Rattle.op_steps.proofs.DataLemmas.{data_read, last_rises}
+use Rattle.op_steps.proofs.LookLemmas.{all_read}
+use Rattle.op_steps.proofs.NoteLemmas.{audit_noted, entry_counts, entry_noted, same_entry}
+use Rattle.object_ops.specs.Reading.{HoldsStart, pinned_claim}
+use Rattle.object_ops.proofs.ReadingClaims.{begin_holds, end_holds}
+
+-- a section that shows nothing more
+moves_none : (slot : ℕ) (entry : Option Entry) (records after : Records) (state now : State) → EntryMoves slot entry ShowsNoMore records state after now
+    → EntryMoves slot entry (ShowsBy entry NoneShown) records state after now
+moves_none slot None records after state now x = x
+moves_none slot (Some entry) records after state now x = (x.0, tt)
+
+module _ {D : Type 0} (ghosts : Ghosts D) where
+  -- what the begin of a read says
+  pub record BeginSays (was now : SlotSeen D) (at : Key) (answer : Result ReadStart SlotFault) (stub : Option Stub) (old new : List D) : Type 0 where
+    pub turns : Turns was.numbers now.numbers was.entries now.entries was.faults now.faults answer stub
+    pub holds : ReadHolds was.numbers at answer was.holding now.holding
+    pub leaves : Leaves ghosts.tells ghosts.files was.numbers now.numbers was.holding now.holding was.lanes now.lanes stub ShowsNoMore HandsStay
+    pub read : AreOnlyRead ghosts old new
+
+  -- what it leaves where the data goes on to hold with other claims
+  leaves_so : (was now : SlotSeen D) (at : Key) (answer : Result ReadStart SlotFault) (stub : Option Stub) (old new : List D) (claim later : Claim)
+      → BeginSays was now at answer stub old new
+      → ((unseen : Disks) (front rest : List Claim) (records after : Records) (state state_after : State)
+      → HoldsAt was.numbers.set was.numbers.index (last_of was.numbers) was.holding unseen (views ghosts old) (among front claim rest) records state
+      → ((hands : _) → DataStands was.numbers.set was.numbers.index (last_of was.numbers) records state was.holding (disks_of unseen was.numbers.set.out (views ghosts old)) hands
+      → DataStands was.numbers.set was.numbers.index (last_of now.numbers) after state_after now.holding (disks_of unseen was.numbers.set.out (views ghosts old)) hands)
+      → HoldsAt was.numbers.set was.numbers.index (last_of now.numbers) now.holding unseen (views ghosts old) (among front later rest) after state_after)
+      → (records : Records) (state : State) → LanesStand ghosts.tells ghosts.files was records state
+      → TurnLeaves ghosts.tells ghosts.files was now (noted stub) NoneShown claim later (views ghosts old) (views ghosts new) records state
+  leaves_so was now at answer stub old new claim later x goes records state stands =
+      let left = x.leaves records state stands in
+      record {
+        records_after = left.after;
+        state_after = left.now;
+        stands = left.stands;
+        moves = subst (λ e. EntryMoves was.numbers.index e (ShowsBy e NoneShown) records state left.after left.now) (sym (same_entry stub))
+            (moves_none was.numbers.index (entry_of stub) records left.after state left.now left.moves);
+        holds = λ unseen front rest d.
+            data_read now.numbers now.holding unseen (views ghosts old) (views ghosts new) (among front later rest) (among front later rest) left.after left.now
+            (all_read ghosts old new x.read) refl
+            (subst₂ (λ s i. HoldsAt s i (last_of now.numbers) now.holding unseen (views ghosts old) (among front later rest) left.after left.now)
+            (sym x.turns.numbers.set) (sym x.turns.numbers.index)
+            (goes unseen front rest records left.after state left.now d
+            (λ hands. left.holds (disks_of unseen was.numbers.set.out (views ghosts old)) hands hands refl)));
+      }
+
+  -- the begin of a read is a step, after which its pin is held
+  pub begin_turn : (was now : SlotSeen D) (at : Key) (answer : Result ReadStart SlotFault) (stub : Option Stub) (old new : List D)
+      → BeginSays was now at answer stub old new → (later : Claim) × HoldsStart was.numbers.index answer later
+      × TurnMoves ghosts.tells ghosts.files was now (noted stub) NoneShown (no_claim was.numbers.index) later (views ghosts old) (views ghosts new)
+  begin_turn was now at (Ok start) stub old new x =
+      let p = x.holds.0 in (
+        pinned_claim was.numbers.index p,
+        record { pinned = p; ticket = x.holds.1.ticket_is ∙ sym x.holds.1.handle; purpose = x.holds.1.purpose; claim_is = refl },
+        record {
+          numbers = x.turns.numbers;
+          note_is = entry_noted was.numbers (Ok start) stub x.turns.stub_is;
+          audit = audit_noted stub was.entries now.entries x.turns.audit;
+          faults = entry_counts was.numbers (Ok start) stub was.faults now.faults x.turns.stub_is x.turns.faults;
+          claims = record { slot = refl; elsewhere = λ other. absurd (other refl) };
+          read = all_read ghosts old new x.read;
+          leaves = leaves_so was now at (Ok start) stub old new (no_claim was.numbers.index) (pinned_claim was.numbers.index p) x
+              (λ unseen front rest records after state state_after d leaves.
+              subst (λ (h : Holding). HoldsAt was.numbers.set was.numbers.index (last_of now.numbers) h unseen (views ghosts old)
+              (among front (pinned_claim was.numbers.index p) rest) after state_after) (sym x.holds.2)
+              (begin_holds was.numbers.set was.numbers.index (last_of was.numbers) (last_of now.numbers) was.holding p unseen (views ghosts old) front rest
+              records after state state_after (last_rises was.numbers now.numbers x.turns.numbers) d
+              (λ hands stands. subst (λ (h : Holding). DataStands was.numbers.set was.numbers.index (last_of now.numbers) after state_after h
+              (disks_of unseen was.numbers.set.out (views ghosts old)) hands) x.holds.2 (leaves hands stands))));
+        },
+      )
+  begin_turn was now at (Err fault) stub old new x = (
+    no_claim was.numbers.index,
+    refl,
+    record {
+      numbers = x.turns.numbers;
+      note_is = entry_noted {T = ReadStart} was.numbers (Err fault) stub x.turns.stub_is;
+      audit = audit_noted stub was.entries now.entries x.turns.audit;
+      faults = entry_counts {T = ReadStart} was.numbers (Err fault) stub was.faults now.faults x.turns.stub_is x.turns.faults;
+      claims = record { slot = refl; elsewhere = λ other. refl };
+      read = all_read ghosts old new x.read;
+      leaves = leaves_so was now at (Err fault) stub old new (no_claim was.numbers.index) (no_claim was.numbers.index) x
+          (λ unseen front rest records after state state_after d leaves. record {
+            tell = d.tell;
+            stands = leaves (hands_of (claims_at was.numbers.index (among front (no_claim was.numbers.index) rest))) d.stands;
+            loose = λ k id inside in_use own above. d.loose k id inside in_use own
+                (let rises = last_rises was.numbers now.numbers x.turns.numbers in omega (arith, rises, above));
+            met = λ c there. subst (λ (h : Holding). IsMet was.numbers.set h unseen (views ghosts old) c) (sym x.holds) (d.met c there);
+            apart = d.apart;
+          });
+    },
+  )
+
+-- data drives to which nothing is done are only read
+untouched : (disks : List DriveView) → AllOnlyRead disks disks
+untouched disks = record { long = refl; each = λ k inside. record { goes_on = record { tells = refl; count = omega arith }; files = λ tells. refl } }
+
+module _ {D T : Type 0} (tells : D → Bool) (files : D → Files) where
+  -- what the end of a read says
+  pub record EndSays (was now : SlotSeen D) (ticket : ℕ) (answer : Result T SlotFault) (stub : Option Stub) : Type 0 where
+    pub turns : TurnsQuietly was.numbers now.numbers was.entries now.entries was.faults now.faults answer stub
+    pub holds : PinGoes ticket was.holding now.holding
+    pub leaves : Leaves tells files was.numbers now.numbers was.holding now.holding was.lanes now.lanes stub ShowsNoMore
+        (MayLetGo was.numbers.set ticket was.holding)
+
+  end_leaves : (was now : SlotSeen D) (p : Pinned) (answer : Result T SlotFault) (disks : List DriveView) → p.purpose ≡ ForRead
+      → EndSays was now p.ticket answer None → (records : Records) (state : State) → LanesStand tells files was records state
+      → TurnLeaves tells files was now None NoneShown (pinned_claim was.numbers.index p) (no_claim was.numbers.index) disks disks records state
+  end_leaves was now p answer disks purpose x records state stands =
+      let left = x.leaves records state stands in
+      record {
+        records_after = left.after;
+        state_after = left.now;
+        stands = left.stands;
+        moves = moves_none was.numbers.index None records left.after state left.now left.moves;
+        holds = λ unseen front rest d.
+            subst₂ (λ s i. HoldsAt s i (last_of now.numbers) now.holding unseen disks (among front (no_claim was.numbers.index) rest) left.after left.now)
+            (sym x.turns.numbers.set) (sym x.turns.numbers.index)
+            (end_holds was.numbers.set was.numbers.index (last_of was.numbers) (last_of now.numbers) was.holding now.holding p unseen disks front rest
+            records left.after state left.now (last_rises was.numbers now.numbers x.turns.numbers) purpose x.holds d
+            (λ hands may. left.holds (disks_of unseen was.numbers.set.out disks) hands hands may));
+      }
+
+  -- the end of a read is a step, after which nothing is held
+  pub end_turn : (was now : SlotSeen D) (p : Pinned) (answer : Result T SlotFault) (disks : List DriveView) → p.purpose ≡ ForRead
+      → EndSays was now p.ticket answer None
+      → TurnMoves tells files was now None NoneShown (pinned_claim was.numbers.index p) (no_claim was.numbers.index) disks disks
+  end_turn was now p answer disks purpose x = record {
+    numbers = x.turns.numbers;
+    note_is = tt;
+    audit = x.turns.audit;
+    faults = x.turns.faults;
+    claims = record { slot = refl; elsewhere = λ other. absurd (other refl) };
+    read = untouched disks;
+    leaves = end_leaves was now p answer disks purpose x;
+  }

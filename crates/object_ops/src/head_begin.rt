@@ -1,0 +1,50 @@
+//! How the op of a HeadObject begins.
+
+ghost use Rattle.std.specs.Prelude.{◌≡◌, ℕ, [], IfOk};
+ghost use Rattle.desk_base.specs.Calls.{IsKey};
+ghost use Rattle.op_steps.specs.Claims.{no_claim};
+ghost use Rattle.object_ops.specs.HeadBegin.{IsHead, IsNewHead};
+
+use crate::head_op::HeadOp;
+use crate::head_state::HeadState;
+use call_types::{Key, Pick};
+use desk_base::Call;
+use drive_base::SetPlan;
+use fault_base::NoMemory;
+use op_steps::Op;
+use slot_history::bucket_name;
+use std::alloc::Global;
+
+impl HeadOp {
+    /// The op of a HeadObject, made in this Unix second, on a store over this set. It has done nothing yet.
+    pub fn new(alloc: Global, set: SetPlan, call: &Call, now: u64) -> Result<HeadOp, NoMemory>
+        requires { IsHead call.now }
+        ensures set { IfOk result (λ op. ⟦<HeadOp as Op>⟧.set op ≡ set) }
+        ensures task { IfOk result (λ op. ⟦<HeadOp as Op>⟧.task op ≡ record { call = call.now; now = now }) }
+        ensures taken { IfOk result (λ op. ⟦<HeadOp as Op>⟧.taken op ≡ 0) }
+        ensures begins { IfOk result (λ op. (slot : ℕ) × ⟦<HeadOp as Op>⟧.stands op (no_claim slot) []) }
+    {
+        match call {
+            Call::Head { at, pick } => HeadOp::of(alloc, set, at, *pick, now),
+            _ => Err(NoMemory),
+        }
+    }
+
+    /// The op of a HeadObject of this key.
+    fn of(alloc: Global, set: SetPlan, at: &Key, pick: Pick, now: u64) -> Result<HeadOp, NoMemory>
+        requires { IsKey at.now }
+        ensures { IfOk result (IsNewHead set at.now pick now) }
+    {
+        let name = bucket_name(alloc, &at.bucket)?;
+        let key = at.clone()?;
+        Ok(HeadOp {
+            set,
+            at: key,
+            pick,
+            name,
+            now,
+            state: HeadState::Looking,
+            pin: None,
+        })
+    }
+}
