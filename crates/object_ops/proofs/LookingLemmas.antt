@@ -1,5 +1,5 @@
 -- What a log says of the bucket, whose one section is the look at it.
-use Rattle.std.proofs.Common.{◌≡◌, ◌∙◌, ℕ, zero, suc, List, [], ◌∷◌, All, Option, Some, None, Result, Err, MatchOption, option_and_then, inl, inr, refl, sym, ap, subst, arith}
+use Rattle.std.proofs.Common.{◌≡◌, ◌⊎◌, ◌<◌, ◌∙◌, ℕ, zero, suc, List, [], ◌∷◌, All, Option, Some, None, Result, Ok, Err, MatchOption, option_and_then, inl, inr, refl, sym, ap, subst, arith}
 use Rattle.audit_trail.specs.declared.entry.Deed.TheVariants.{Kept}
 use Rattle.audit_trail.specs.declared.entry.Entry.{Entry}
 use Rattle.bucket_book.specs.Content.{IsBucketOf, content_of}
