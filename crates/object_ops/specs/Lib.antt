@@ -1,2 +1,5 @@
+pub mod Clearing
+pub mod DataNames
 pub mod Logs
 pub mod Looking
+pub mod Removing
