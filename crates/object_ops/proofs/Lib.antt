@@ -1,5 +1,9 @@
+pub mod CallLemmas
+pub mod ClaimLemmas
+pub mod ElsewhereLemmas
 pub mod HeadLemmas
 pub mod LookingLemmas
+pub mod OrderLemmas
 pub mod ReadingBars
 pub mod ReadingClaims
 pub mod ReadingKey
@@ -8,4 +12,6 @@ pub mod ReadingLook
 pub mod ReadingStart
 pub mod ReadingTell
 pub mod ReadingTurn
+pub mod RemovalLemmas
 pub mod TellingLemmas
+pub mod TrashLemmas

@@ -1,3 +1,5 @@
+pub mod Clearing
+pub mod DataNames
 pub mod Head
 pub mod HeadBegin
 pub mod HeadStands
@@ -5,3 +7,4 @@ pub mod Logs
 pub mod Looking
 pub mod Reading
 pub mod ReadingStart
+pub mod Removing
