@@ -67,6 +67,9 @@ impl Op for ChangeOp {
     fn data<D: Drive>(&mut self, _alloc: Global, _disks: &mut [D]) {}
 
     fn feed<F: Feed>(&mut self, alloc: Global, feed: &mut F) {
+        let ChangeState::Reading = &self.state else {
+            return;
+        };
         let cut = self.document.take(feed);
         if cut.is_some() {
             self.state = ChangeState::Over(cut);

@@ -26,7 +26,7 @@ use std::alloc::Global;
 
 /// A call that is served step by step: each step is one section of a slot, one call of a data drive, some bytes of the body or one telling. Other calls may
 /// work between two steps. An op holds no slot, no drive and no connection; what it does to them stands in the log of its steps, and what it relies on between
-/// two steps is its claim.
+/// two steps is its claim. An op that never makes such a step has a `data` or a `feed` that does nothing.
 pub trait Op {
     /// The set of the store.
     ghost set: { Self → SetPlan };
@@ -86,28 +86,26 @@ pub trait Op {
         ensures taken { taken self.new ≡ taken self.old }
         ensures barred { BarredSo (stands self.old) (stands self.new) (step self.old) why };
 
-    /// Makes the one call of a data drive that is due.
+    /// Makes the one call of a data drive that is due, where one is.
     fn data<D: Drive>(&mut self, alloc: Global, disks: &mut [D])
-        requires next { step self.old ≡ OpNext.Data }
         requires disks { length disks.old ≡ (set self.old).drives }
         ensures set { set self.new ≡ set self.old }
         ensures task { task self.new ≡ task self.old }
-        ensures left { left self.new < left self.old }
+        ensures left { step self.old ≡ OpNext.Data → left self.new < left self.old }
         ensures taken { taken self.new ≡ taken self.old }
         ensures disks { length disks.new ≡ length disks.old }
-        ensures calls { CallsSo (stands self.old) (stands self.new) (set self.old) (views D.Drive disks.old) (views D.Drive disks.new) };
+        ensures calls { step self.old ≡ OpNext.Data → CallsSo (stands self.old) (stands self.new) (set self.old) (views D.Drive disks.old) (views D.Drive disks.new) };
 
-    /// Takes the next bytes of the body from its feed, which is the same one at each step.
+    /// Takes the next bytes of the body from its feed, which is the same one at each step, where some are due.
     fn feed<F: Feed>(&mut self, alloc: Global, feed: &mut F)
-        requires next { step self.old ≡ OpNext.Feed }
         requires stated { (F.seen feed.old).stated ≡ stated_length (task self.old).call }
         requires given { (F.seen feed.old).given ≡ taken self.old }
         ensures set { set self.new ≡ set self.old }
         ensures task { task self.new ≡ task self.old }
-        ensures left { left self.new < left self.old }
+        ensures left { step self.old ≡ OpNext.Feed → left self.new < left self.old }
         ensures taken { taken self.new ≡ (F.seen feed.new).given }
         ensures stated { (F.seen feed.new).stated ≡ (F.seen feed.old).stated }
-        ensures feeds { FeedsSo (stands self.old) (stands self.new) (record { view = F.seen feed.old; faults = F.faults feed.old })
+        ensures feeds { step self.old ≡ OpNext.Feed → FeedsSo (stands self.old) (stands self.new) (record { view = F.seen feed.old; faults = F.faults feed.old })
             (record { view = F.seen feed.new; faults = F.faults feed.new }) };
 
     /// Tells the next thing of the reply.
