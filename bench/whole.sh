@@ -1,99 +1,321 @@
 #!/usr/bin/env bash
-# Sends 4 PUTs of 16 MiB through one `pipe` process, and as many PUTs and then as many GETs through another, and prints
-# MB/s of bodies (MB = 10^6 bytes) by the processor time of the process, the best of three runs; that of the GETs is
-# what the second took more than the first. Beside it stand the parts that can be measured
-# alone: SHA-256 of the blocks (twice the body in a PUT, once in a GET), MD5 of the body, and the code. Each is timed in
-# a small program, which is proved and built in a temporary repository with copies of the crates; the first time that
-# takes some minutes. With a number: so many PUTs and GETs.
+# Puts bodies of 16 MiB and of 256 MiB through a `Stage` and gets them back through a `Reader`, one drive call a step, over
+# drives in memory: a set of six with two of parity, and a set of four with two. It prints MB/s of the body (MB = 10^6
+# bytes) by processor time, the best of five runs of 16 MiB and of two of 256 MiB. Beside it stands the speed that their
+# parts alone would have together, measured in the same run over stripes of 1 MiB: SHA-256 of the blocks in four lanes,
+# MD5, and the code. Then come what part of that speed is reached, and the share of the time that each of these parts
+# takes; what is left are copies, the drives' own work and blocks that fill no lanes. The program is proved and built in a
+# temporary repository with copies of the crates; the first time that takes some minutes.
 set -euo pipefail
 
 source "$(dirname "$(readlink -f "${BASH_SOURCE[0]}")")/common.sh"
-count="${1:-4}"
-size=16777216
 
-[[ "$count" =~ ^[1-9][0-9]?$ ]] || fail 2 "the number of bodies is 1 to 99"
-
-new_program whole_bench drive_base poly_code hash_lanes sha2 md5
+new_program whole_bench fault_base drive_base drive_memory stamp_id call_types poly_code hash_lanes put_stage get_read md5
 cat >"$work/crates/whole_bench/src/main.rt" <<'END'
-//! Times the parts of a PUT and of a GET of a stripe of 1 MiB over four drives, two of them parity.
+//! Times PUT and GET of bodies over drives in memory, by one drive call a step, and their parts alone.
 #![tactic(auto)]
 
-use drive_base::SetPlan;
-use hash_lanes::hash_equal_blocks;
-use md5::{Digest as _, Md5};
-use poly_code::{encode, rebuild};
-use sha2::{Digest, Sha256};
-use std::alloc::Global;
+mod bodies;
+mod feed;
+mod parts;
+
+use bodies::time_bodies;
+use parts::time_parts;
 use std::process::ExitCode;
-use std::time::{CpuClock, Duration};
-
-const ROUNDS: u32 = 32;
-
-/// The bytes of a stripe with its parity, of a stripe, and of one of its blocks.
-const BLOCKS: usize = 2_097_152;
-
-const STRIPE: usize = 1_048_576;
-
-const BLOCK: usize = 524_288;
+use std::time::Duration;
 
 fn main(rt: HostRuntime) -> ExitCode {
     match measure(&rt) {
         Some(()) => ExitCode::SUCCESS,
         None => {
-            let _ = eprintln!(rt; "whole_bench: no memory or no clock");
+            let _ = eprintln!(rt; "whole_bench: no memory, no clock or another body");
             ExitCode::FAILURE
         }
     }
 }
 
 fn measure(rt: &HostRuntime) -> Option<()> {
-    let blocks = filled(rt.alloc(), BLOCKS)?;
+    time_parts(rt)?;
+    for drives in [6u8, 4] {
+        time_bodies(rt, drives, 16_777_216, 5)?;
+        time_bodies(rt, drives, 268_435_456, 2)?;
+    }
+    Some(())
+}
+
+/// Prints the MB/s of so many bytes in a time.
+pub fn report(rt: &HostRuntime, name: &str, drives: u8, bytes: u64, time: Duration) -> Option<()> {
+    let rate = (bytes as u128 * 1000).checked_div(time.as_nanos())?;
+    println!(rt; "{name} {drives} {bytes} {rate}").ok()
+}
+END
+cat >"$work/crates/whole_bench/src/feed.rt" <<'END'
+//! A body whose bytes repeat.
+
+ghost use Rattle.std.specs.Prelude.{◌≡◌, ◌≤◌, None};
+
+use call_types::{Cut, Feed};
+use std::alloc::{AllocError, Global};
+
+/// How many bytes repeat.
+pub const PERIOD: usize = 1_000_003;
+
+/// The body, and how much of it is given.
+#[derive(Drop)]
+pub struct Repeats {
+    period: Vec<u8>,
+    stated: u64,
+    given: u64,
+    pub ghost at_most: { given ≤ stated },
+}
+
+/// The bytes that repeat.
+pub fn period(alloc: Global) -> Result<Vec<u8>, AllocError> {
+    let mut bytes = Vec::new(alloc);
+    let mut state = 1u32;
+    for _ in 0..PERIOD {
+        state = state.wrapping_mul(1_664_525).wrapping_add(1_013_904_223);
+        bytes.push((state >> 24) as u8)?;
+    }
+    Ok(bytes)
+}
+
+impl Repeats {
+    /// A body of so many bytes.
+    pub fn new(period: Vec<u8>, stated: u64) -> Repeats
+        ensures stated { (⟦<Repeats as Feed>⟧.seen result).stated ≡ stated }
+        ensures given { (⟦<Repeats as Feed>⟧.seen result).given ≡ 0 }
+    {
+        Repeats {
+            period,
+            stated,
+            given: 0,
+        }
+    }
+}
+
+impl Feed for Repeats {
+    ghost seen = { λ feed. record { stated = feed.stated; given = feed.given; left = None } };
+
+    ghost faults = { λ feed. 0 };
+
+    fn take(&mut self, into: &mut [u8]) -> Result<usize, Cut> {
+        let wanted = (into.len() as u64).min(self.stated - self.given) as usize;
+        if wanted == 0 {
+            return Ok(0);
+        }
+        let at = (self.given % PERIOD as u64) as usize;
+        if at >= self.period.len() {
+            return Err(Cut::BodyCut {
+                read: self.given,
+                stated: self.stated,
+            });
+        }
+        let count = wanted.min(self.period.len() - at);
+        into[..count].copy_from_slice(&self.period.as_slice()[at..at + count]);
+        self.given += count as u64;
+        Ok(count)
+    }
+}
+END
+cat >"$work/crates/whole_bench/src/bodies.rt" <<'END'
+//! Bodies put and got.
+
+ghost use Rattle.std.specs.Prelude.{◌≡◌, ◌+◌, ◌≤◌, ◌<◌, ◌^◌, IfOk, length};
+
+use crate::feed::{PERIOD, Repeats, period};
+use crate::report;
+use call_types::{Feed, Span};
+use drive_base::SetPlan;
+use drive_memory::MemDrive;
+use get_read::{ReadStep, Reader};
+use put_stage::{Stage, StageNext};
+use stamp_id::{Ballot, ChangeId, VersionId};
+use std::alloc::{AllocError, Global};
+use std::time::{CpuClock, Duration};
+
+/// Prints the best times of a PUT and of a GET over so many drives, two of them parity.
+pub fn time_bodies(rt: &HostRuntime, drives: u8, size: u64, runs: u32) -> Option<()>
+    requires enough { 4 ≤ drives }
+    requires few { drives ≤ 16 }
+    requires size { size ≤ 5368709120 }
+{
+    let mut puts = Duration::MAX;
+    let mut gets = Duration::MAX;
+    for _ in 0..runs {
+        let (put, get) = time_body(rt, drives, size)?;
+        puts = puts.min(put);
+        gets = gets.min(get);
+    }
+    report(rt, "put", drives, size, puts)?;
+    report(rt, "get", drives, size, gets)
+}
+
+/// The times of a PUT and of a GET.
+fn time_body(rt: &HostRuntime, drives: u8, size: u64) -> Option<(Duration, Duration)>
+    requires enough { 4 ≤ drives }
+    requires few { drives ≤ 16 }
+    requires size { size ≤ 5368709120 }
+{
+    let set = SetPlan::new([0; 16], drives, 2);
+    let mut drives = fresh(rt.alloc(), set.drives).ok()?;
+    let feed = Repeats::new(period(rt.alloc()).ok()?, size);
+    let from = rt.thread_cpu_time().ok()?;
+    let print = put(rt.alloc(), set, size, feed, drives.as_mut_slice())?;
+    let put_time = rt.thread_cpu_time().ok()?.checked_sub(from)?;
+    let bytes = period(rt.alloc()).ok()?;
+    let from = rt.thread_cpu_time().ok()?;
+    get(rt.alloc(), set, print, size, bytes.as_slice(), drives.as_mut_slice())?;
+    let get_time = rt.thread_cpu_time().ok()?.checked_sub(from)?;
+    Some((put_time, get_time))
+}
+
+/// So many drives without a file.
+fn fresh(alloc: Global, count: u8) -> Result<Vec<MemDrive>, AllocError>
+    ensures { IfOk result (λ drives. length drives.items ≡ count) }
+{
+    let mut drives = Vec::new(alloc);
+    for _ in 0..count {
+        drives.push(MemDrive::new(alloc))?;
+    }
+    Ok(drives)
+}
+
+fn id() -> VersionId {
+    VersionId::from_parts(ChangeId(Ballot { term: 1, seq: 7 }), 5)
+}
+
+/// Puts a body, and tells its print.
+fn put(alloc: Global, set: SetPlan, size: u64, feed: Repeats, drives: &mut [MemDrive]) -> Option<[u8; 32]>
+    requires drives { length drives.old ≡ set.drives }
+    requires size { size ≤ 5368709120 }
+    requires stated { (⟦<Repeats as Feed>⟧.seen feed).stated ≡ size }
+    requires given { (⟦<Repeats as Feed>⟧.seen feed).given ≡ 0 }
+{
+    let stage = Stage::new(alloc, set, id(), "k/pic/a", size, None).ok()?;
+    finish(alloc, stage, feed, drives)
+}
+
+/// Runs a stage to its end.
+fn finish(alloc: Global, stage: Stage, feed: Repeats, drives: &mut [MemDrive]) -> Option<[u8; 32]>
+    requires drives { length drives.old ≡ stage.load.set.drives }
+    requires feed { (⟦<Repeats as Feed>⟧.seen feed).given + stage.load.left ≡ (⟦<Repeats as Feed>⟧.seen feed).stated }
+{
+    let mut stage = stage;
+    let mut feed = feed;
+    for round in 0..u64::MAX {
+        match stage.next() {
+            StageNext::Fill => stage.fill(alloc, &mut feed).ok()?,
+            StageNext::Step => stage.step(drives),
+            StageNext::Finish => return stage.finish().ok().map(|staged| staged.print),
+        }
+    }
+    None
+}
+
+/// Gets a body, and looks at the first byte of each piece.
+fn get(alloc: Global, set: SetPlan, print: [u8; 32], size: u64, period: &[u8], drives: &mut [MemDrive]) -> Option<()>
+    requires drives { length drives.old ≡ set.drives }
+    requires size { size ≤ 5368709120 }
+{
+    let span = Span { at: 0, length: size };
+    let reader = Reader::new(alloc, &set, print, id(), span).ok()?;
+    read_on(alloc, reader, size, period, drives)
+}
+
+fn read_on(alloc: Global, reader: Reader, size: u64, period: &[u8], drives: &mut [MemDrive]) -> Option<()>
+    requires drives { length drives.old ≡ reader.asked.wanted.set.drives }
+{
+    let mut reader = reader;
+    let mut at = 0u64;
+    for round in 0..u64::MAX {
+        match reader.step(alloc, drives).ok()? {
+            ReadStep::More => (),
+            ReadStep::Piece => {
+                let piece = reader.piece();
+                if piece.first() != period.get((at % PERIOD as u64) as usize) {
+                    return None;
+                }
+                at = at.saturating_add(piece.len() as u64);
+            }
+            ReadStep::Done => return if at == size { Some(()) } else { None },
+        }
+    }
+    None
+}
+END
+cat >"$work/crates/whole_bench/src/parts.rt" <<'END'
+//! The parts alone.
+
+use crate::report;
+use drive_base::SetPlan;
+use hash_lanes::hash_equal_blocks;
+use md5::{Digest as _, Md5};
+use poly_code::{encode, rebuild};
+use std::alloc::Global;
+use std::time::{CpuClock, Duration};
+
+const ROUNDS: u32 = 64;
+
+const STRIPE: usize = 1_048_576;
+
+/// The bytes of a block where a stripe has two.
+const HALF: usize = 524_288;
+
+/// The bytes of a block where a stripe has four.
+const QUARTER: usize = 262_144;
+
+pub fn time_parts(rt: &HostRuntime) -> Option<()> {
     let stripe = filled(rt.alloc(), STRIPE)?;
-    let block = filled(rt.alloc(), BLOCK)?;
+    let mut half = filled(rt.alloc(), HALF)?;
     let mut parity = filled(rt.alloc(), STRIPE)?;
-    let mut rebuilt = filled(rt.alloc(), BLOCK)?;
-    if blocks.len() != BLOCKS || stripe.len() != STRIPE || block.len() != BLOCK {
+    if stripe.len() != STRIPE || half.len() != HALF || parity.len() != STRIPE {
         return None;
     }
-    if parity.len() != STRIPE || rebuilt.len() != BLOCK {
+    time_digests(rt, stripe.as_slice())?;
+    let from = rt.thread_cpu_time().ok()?;
+    for _ in 0..ROUNDS {
+        encoded(SetPlan::new([0; 16], 4, 2), stripe.as_slice(), parity.as_mut_slice(), HALF)?;
+    }
+    report(rt, "encode", 4, STRIPE as u64, since(rt, from)?)?;
+    let from = rt.thread_cpu_time().ok()?;
+    for _ in 0..ROUNDS {
+        encoded(SetPlan::new([0; 16], 6, 2), stripe.as_slice(), half.as_mut_slice(), QUARTER)?;
+    }
+    report(rt, "encode", 6, STRIPE as u64, since(rt, from)?)?;
+    let set = SetPlan::new([0; 16], 4, 2);
+    let from = rt.thread_cpu_time().ok()?;
+    for _ in 0..ROUNDS {
+        rebuild(set, &[0, 1], stripe.as_slice(), 0, half.as_mut_slice());
+        rebuild(set, &[0, 1], stripe.as_slice(), 1, half.as_mut_slice());
+    }
+    report(rt, "rebuild", 4, STRIPE as u64, since(rt, from)?)
+}
+
+fn time_digests(rt: &HostRuntime, stripe: &[u8]) -> Option<()> {
+    if stripe.len() != STRIPE {
         return None;
     }
     let mut digests = [[0u8; 32]; 4];
     let from = rt.thread_cpu_time().ok()?;
     for _ in 0..ROUNDS {
-        hash_equal_blocks(blocks.as_slice(), BLOCK, &mut digests);
+        hash_equal_blocks(stripe, QUARTER, &mut digests);
     }
-    report(rt, "lanes", 2, since(rt, from)?)?;
-    let from = rt.thread_cpu_time().ok()?;
-    for _ in 0..ROUNDS {
-        digests[0] = Sha256::digest(block.as_slice());
-        digests[1] = Sha256::digest(block.as_slice());
-    }
-    report(rt, "sha2", 1, since(rt, from)?)?;
+    report(rt, "lanes", 0, STRIPE as u64, since(rt, from)?)?;
     let from = rt.thread_cpu_time().ok()?;
     let mut tag = [0u8; 16];
     for _ in 0..ROUNDS {
-        tag = Md5::digest(stripe.as_slice());
+        tag = Md5::digest(stripe);
     }
-    report(rt, "md5", 1, since(rt, from)?)?;
-    let set = SetPlan::new([0; 16], 4, 2);
-    let from = rt.thread_cpu_time().ok()?;
-    for _ in 0..ROUNDS {
-        encoded(set, stripe.as_slice(), parity.as_mut_slice())?;
-    }
-    report(rt, "encode", 1, since(rt, from)?)?;
-    let from = rt.thread_cpu_time().ok()?;
-    for _ in 0..ROUNDS {
-        rebuild(set, &[0, 1], stripe.as_slice(), 0, rebuilt.as_mut_slice());
-        rebuild(set, &[0, 1], stripe.as_slice(), 1, rebuilt.as_mut_slice());
-    }
-    report(rt, "rebuild", 1, since(rt, from)?)?;
-    println!(rt; "check {} {} {}", digests[0][0], tag[0], parity.len()).ok()
+    report(rt, "md5", tag[0] / 255, STRIPE as u64, since(rt, from)?)
 }
 
 /// Makes the parity of a stripe, where the lengths are those of the set.
-fn encoded(set: SetPlan, stripe: &[u8], parity: &mut [u8]) -> Option<()> {
-    if stripe.len() != set.read_quorum() as usize * BLOCK || parity.len() != set.parity as usize * BLOCK {
+fn encoded(set: SetPlan, stripe: &[u8], parity: &mut [u8], block: usize) -> Option<()> {
+    if block > STRIPE {
+        return None;
+    }
+    if stripe.len() != set.read_quorum() as usize * block || parity.len() != set.parity as usize * block {
         return None;
     }
     encode(set, stripe, parity);
@@ -109,53 +331,55 @@ fn filled(alloc: Global, size: usize) -> Option<Vec<u8>> {
     Some(bytes)
 }
 
-/// The time since this moment of the thread's clock.
+/// The mean time of a round since this moment of the thread's clock.
 fn since(rt: &HostRuntime, from: Duration) -> Option<Duration> {
-    rt.thread_cpu_time().ok()?.checked_sub(from)
-}
-
-/// Prints the MB/s of so many stripes a round.
-fn report(rt: &HostRuntime, name: &str, stripes: u64, time: Duration) -> Option<()> {
-    let nanoseconds = time.as_nanos() / ROUNDS as u128;
-    let rate = (STRIPE as u128 * stripes as u128 * 1000).checked_div(nanoseconds)?;
-    println!(rt; "{name} {rate}").ok()
+    rt.thread_cpu_time().ok()?.checked_sub(from)?.checked_div(ROUNDS)
 }
 END
 
+# The proofs that the loops keep what the calls ask for.
+proofs="$work/crates/whole_bench/proofs"
+mkdir -p "$proofs/bodies/finish" "$proofs/bodies/fresh" "$proofs/bodies/read_on"
+echo >"$proofs/Lib.antt"
+cat >"$proofs/bodies/finish/Invariants.antt" <<'END'
+use Rattle.std.proofs.Common.{◌≡◌, ◌+◌, length}
+use Rattle.whole_bench.proofs.bodies.finish.Given as goal
+
+abbrev pub invariant-loop-round : goal.invariant-loop-round
+invariant-loop-round l = record {
+  drives : length l.drives ≡ l.stage.load.set.drives;
+  feed : l.feed.given + l.stage.load.left ≡ l.feed.stated;
+}
+END
+cat >"$proofs/bodies/fresh/Invariants.antt" <<'END'
+use Rattle.std.proofs.Common.{◌≡◌, length}
+use Rattle.whole_bench.proofs.bodies.fresh.Given as goal
+
+abbrev pub invariant-loop : goal.invariant-loop
+invariant-loop l = length l.drives.items ≡ l.counter
+END
+cat >"$proofs/bodies/read_on/Invariants.antt" <<'END'
+use Rattle.std.proofs.Common.{◌≡◌, length}
+use Rattle.whole_bench.proofs.bodies.read_on.Given as goal
+
+abbrev pub invariant-loop-round : goal.invariant-loop-round
+invariant-loop-round l = length l.drives ≡ l.reader.asked.wanted.set.drives
+END
 run_program whole_bench
-
-requests() {
-    for ((i = 0; i < count; i++)); do
-        if [[ $1 == put ]]; then
-            printf 'PUT /pic/k%d HTTP/1.1\r\nContent-Length: %d\r\n\r\n' "$i" "$size"
-            cat "$work/body"
-        else
-            printf 'GET /pic/k%d HTTP/1.1\r\n\r\n' "$i"
-        fi
-    done
-}
-
-# The processor seconds of `pipe` over a file of requests, the best of three.
-seconds() {
-    for _ in 1 2 3; do
-        (TIMEFORMAT='%U %S'; time "$top/ostore" pipe <"$1" >"$work/replies") 2>&1 | awk '{ print $1 + $2 }'
-    done | sort -n | head -1
-}
-
-"$top/ostore" pipe </dev/null
-head -c "$size" /dev/urandom >"$work/body"
-requests put >"$work/puts"
-{ cat "$work/puts"; requests get; } >"$work/both"
-puts="$(seconds "$work/puts")"
-both="$(seconds "$work/both")"
-[[ "$(grep -ao 'HTTP/1.1 200 OK' "$work/replies" | wc -l)" == "$((2 * count))" ]] || fail 1 "a request was refused"
-"$work/crates/whole_bench/out/whole_bench" >"$work/parts"
-awk -v puts="$puts" -v both="$both" -v megabytes="$(awk -v n="$count" -v size="$size" 'BEGIN { print n * size / 1e6 }')" '
-    { rate[$1] = $2 }
-    function part(name, work) { printf "  %-28s %8.0f MB/s %6.1f %%\n", name, rate[name], 100 * work * megabytes / rate[name] / time }
-    END {
-        time = puts; printf "PUT of 16 MiB %20.1f MB/s\n", megabytes / time
-        part("lanes", 2); part("md5", 1); part("encode", 1)
-        time = both - puts; printf "GET of 16 MiB %20.1f MB/s\n", megabytes / time
-        part("sha2", 1); part("rebuild", 1)
-    }' "$work/parts"
+awk '
+    function share(name, work, rate) { return sprintf("  %s %.0f %%", name, 100 * work / alone[name] * rate) }
+    $1 == "lanes" || $1 == "md5" || $1 == "rebuild" { alone[$1] = $4 }
+    $1 == "encode" { alone[$1, $2] = $4 }
+    $1 == "put" || $1 == "get" {
+        drives = $2; data = drives - 2; blocks = $1 == "put" ? drives / data : 1
+        time = blocks / alone["lanes"]
+        if ($1 == "put") time += 1 / alone["md5"] + 1 / alone["encode", drives]
+        else time += 1 / alone["rebuild"]
+        line = sprintf("%s of %3d MiB on %d+2 %8d MB/s, the parts alone %4.0f, %.2f of it:", toupper($1), $3 / 1048576, data, $4, 1 / time, $4 * time)
+        line = line share("lanes", blocks, $4)
+        if ($1 == "put") { alone["encode"] = alone["encode", drives]; line = line share("md5", 1, $4) share("encode", 1, $4) }
+        else line = line share("rebuild", 1, $4)
+        print line
+    }
+    END { printf "alone: SHA-256 in lanes %d MB/s of blocks, MD5 %d, encode %d on 4+2 and %d on 2+2, rebuild of blocks at hand %d\n", \
+        alone["lanes"], alone["md5"], alone["encode", 6], alone["encode", 4], alone["rebuild"] }' "$work/out"

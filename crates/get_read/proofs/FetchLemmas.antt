@@ -20,12 +20,12 @@ use Rattle.drive_base.specs.Plan.{data_drives}
 use Rattle.drive_base.specs.declared.plan.SetPlan.{SetPlan}
 use Rattle.manifest_file.specs.declared.manifest.ManifestPart.{ManifestPart}
 use Rattle.shard_file.specs.Shards.{block_place, table_place}
-use Rattle.shard_file.specs.Stripes.{piece, stripe_count, stripe_length, block_size}
+use Rattle.shard_file.specs.Stripes.{piece, stripe_count, stripe_length, stripe_size, block_size}
 use Rattle.body_print.specs.Names.{shard_name}
 use Rattle.get_read.specs.declared.blocks.Blocks.{Blocks}
 use Rattle.get_read.specs.Account.{Account, Call, Seen, Showed, WasSeen}
 use Rattle.get_read.specs.Calling.{WasSeenSo}
-use Rattle.get_read.specs.Advancing.{IsStripeBy, StripeAnswers}
+use Rattle.get_read.specs.Advancing.{GivesRun, IsStripeBy, StripeAnswers}
 use Rattle.get_read.specs.Causes.{digest_in}
 use Rattle.get_read.specs.Judging.{IsRebuilt, JudgesStripe}
 use Rattle.get_read.specs.Letters.{BlockLetter, GaveBlockIn, IsBlockIn, IsTableIn, NoBlockOf, TellsNoBytes, TellsNoTable}
@@ -342,7 +342,7 @@ module _ {Z : Type 0} (set : SetPlan) (part : ManifestPart) where
       (λ j low. gave_late (data_drives set.drives set.parity) part old.stripe (slice_index_or part.roots (row_at found j) []) told.before told.since (row_at found j) _
       (gave_row set part old.stripe old.size found old.tried new.whys (all_calls told) told.since next j low (sifted.verified j (omega arith) low)))
       rebuilt in
-      subst (λ (i : ℕ). IsStripeBy set part i bytes.items (all_calls told)) (sym stripe) by
+      subst (λ (i : ℕ). GivesRun set part i bytes.items (all_calls told)) (sym stripe) (stripe_size, omega arith, by)
   judged_so long told (Err (InvalidRange end)) old new long_is within size_is hand counted is judges tried stripe size = judges
   judged_so long told (Err (ShardQuorum whys)) old new long_is within size_is hand counted is judges tried stripe size =
       subst (λ (i : ℕ). FewGiveIn set part i whys (all_calls told) told.since) (sym stripe)

@@ -11,14 +11,14 @@ use Rattle.manifest_file.specs.Print.{cut_of, text_under}
 use Rattle.manifest_file.specs.declared.manifest.Manifest.{Manifest}
 use Rattle.manifest_file.specs.declared.manifest.ManifestPart.{ManifestPart}
 use Rattle.shard_file.proofs.ShardLemmas.{concat-take_more}
-use Rattle.shard_file.specs.Stripes.{piece, stripe_length, stripe_size}
+use Rattle.shard_file.specs.Stripes.{stripe_length, stripe_size}
 use Rattle.body_print.proofs.ByteLemmas.{text_is_bytes}
 use Rattle.body_print.proofs.ClashLemmas.{one_or_two}
 use Rattle.body_print.proofs.CutLemmas.{text_tells_cuts}
 use Rattle.body_print.specs.Names.{manifest_name}
 use Rattle.body_print.specs.Prints.{IsCutAs, IsCutOf}
 use Rattle.get_read.specs.Account.{Account}
-use Rattle.get_read.specs.Advancing.{IsStripeBy}
+use Rattle.get_read.specs.Advancing.{IsRunBy}
 use Rattle.get_read.specs.Causes.{body_length}
 use Rattle.get_read.specs.Given.{AreOfSpanIn, IsFoundIn}
 use Rattle.get_read.specs.Outcomes.{wanted_of}
@@ -40,15 +40,15 @@ cut_begins n p parts d cut is (suc i) low =
     ∙ omega (arith, before, long, sum) ∙ ap (λ (m : ℕ). body_length (take m parts)) (sym next)
 
 -- a stripe goes on with the span of every body with the print, or there is a clash
-pub given_on : (set : SetPlan) (print : List ℕ) (id : VersionId) (from reach : ℕ) (m : Manifest) (part : ManifestPart) (place i at : ℕ) (given stripe next : List ℕ)
+pub given_on : (set : SetPlan) (print : List ℕ) (id : VersionId) (from reach : ℕ) (m : Manifest) (part : ManifestPart) (place i size at : ℕ) (given stripe next : List ℕ)
     (account : Account) → IsFoundIn (wanted_of set print reach) id m account → place < length m.parts
     → ((d : ManifestPart) → slice_index_or m.parts place d ≡ part)
     → at ≡ from + length given → at < reach → body_length (take place m.parts) + i * stripe_size ≤ at
-    → at < body_length (take place m.parts) + i * stripe_size + stripe_size → at < body_length (take place m.parts) + part.length
+    → at < body_length (take place m.parts) + i * stripe_size + size → at < body_length (take place m.parts) + part.length
     → next ≡ take (reach - at) (drop (at - body_length (take place m.parts) - i * stripe_size) stripe)
-    → IsStripeBy set part i stripe account → AreOfSpanIn set.drives set.parity print from reach given account
+    → IsRunBy set part i size stripe account → AreOfSpanIn set.drives set.parity print from reach given account
     → AreOfSpanIn set.drives set.parity print from reach (given ++ next) account
-given_on set print id from reach m part place i at given stripe next account found inside part_is at_is before begun ends within is by are = λ body has.
+given_on set print id from reach m part place i size at given stripe next account found inside part_is at_is before begun ends within is by are = λ body has.
     elim (are body has) [
       | inr clash ↦ inr clash
       | inl same ↦ elim (one_or_two (text_under m) has.text) [
@@ -64,10 +64,10 @@ given_on set print id from reach m part place i at given stripe next account fou
             elim (by.exact bytes (sym so.0) so.1) [
               | inl is_stripe ↦
                   let begin : length (concat (take place cut)) ≡ body_length (take place m.parts) = cut_begins n p m.parts part cut told place (omega arith) in
-                  let of_so = of_body cut place i at reach low (omega (arith, begin, begun)) (omega (arith, begin, ends)) (omega (arith, begin, within, so.0)) (omega arith) in
-                  let next_is : next ≡ take (reach - at) (drop (at - length (concat (take place cut)) - i * stripe_size) (piece stripe_size bytes i)) =
+                  let of_so = of_body cut place i size at reach low (omega (arith, begin, begun)) (omega (arith, begin, ends)) (omega (arith, begin, within, so.0)) (omega arith) in
+                  let next_is : next ≡ take (reach - at) (drop (at - length (concat (take place cut)) - i * stripe_size) (take size (drop (stripe_size * i) bytes))) =
                   is ∙ ap (λ (s : List ℕ). take (reach - at) (drop (at - body_length (take place m.parts) - i * stripe_size) s)) is_stripe
-                  ∙ ap (λ (b : ℕ). take (reach - at) (drop (at - b - i * stripe_size) (piece stripe_size bytes i))) (sym begin) in
+                  ∙ ap (λ (b : ℕ). take (reach - at) (drop (at - b - i * stripe_size) (take size (drop (stripe_size * i) bytes)))) (sym begin) in
                   let next_of : next ≡ take (length next) (drop at (take reach (concat cut))) =
                   subst (λ (s : List ℕ). s ≡ take (length s) (drop at (take reach (concat cut)))) (sym next_is) of_so in
                   let all : take reach body ≡ take reach (concat cut) = ap (take reach) has.joins in
@@ -101,27 +101,26 @@ given_on set print id from reach m part place i at given stripe next account fou
       ]
     ]
 
--- the first bytes of a list, at most as many as it may have
-take_few : (n m : ℕ) (xs : List ℕ) → length xs ≤ m → take (min n m) xs ≡ take n xs
-take_few n m xs few = elim (cases_lt n m) [
+-- the first bytes of a list, at most as many as it has
+take_few : (n : ℕ) (xs : List ℕ) → take (min n (length xs)) xs ≡ take n xs
+take_few n xs = elim (cases_lt n (length xs)) [
   | inl low ↦ ap (λ (k : ℕ). take k xs) (omega (arith, low))
-  | inr past ↦ take_all (min n m) xs (omega (arith, past, few)) ∙ sym (take_all n xs (omega (arith, past, few)))
+  | inr past ↦ take_all (min n (length xs)) xs (omega (arith, past)) ∙ sym (take_all n xs (omega (arith, past)))
 ]
 
--- what is given of a stripe is what is wanted of it, and not empty
-pub piece_wanted : (f : FetchingRecord) (reach : ℕ) (stripe piece : List ℕ) → reach ≡ f.asked.wanted.reach → length stripe ≡ stripe_length f.part.long f.work.stripe
-    → piece ≡ take (min (reach - f.at) stripe_size) (drop (f.at - f.part.begin - f.work.stripe * stripe_size) stripe)
+-- what is given of a stripe, and of what comes with it, is what is wanted of it, and not empty
+pub piece_wanted : (f : FetchingRecord) (reach : ℕ) (stripe piece : List ℕ) → reach ≡ f.asked.wanted.reach → stripe_length f.part.long f.work.stripe ≤ length stripe
+    → piece ≡ take (min (reach - f.at) (length stripe - (f.at - f.part.begin - f.work.stripe * stripe_size))) (drop (f.at - f.part.begin - f.work.stripe * stripe_size) stripe)
     → (piece ≡ wanted_of_stripe f stripe) × (0 < length piece)
 piece_wanted f reach stripe piece reach_is long is =
     let k = f.at - f.part.begin - f.work.stripe * stripe_size in
     let rest = drop k stripe in
     let left : length rest ≡ length stripe - k = length-drop k stripe in
-    let few : length rest ≤ stripe_size = omega (arith, left, long) in
     let begun = f.begun in
     let in_part = f.in_part in
     let in_stripe = f.in_stripe in
     let before_end = f.before_end in
-    let count : length piece ≡ min (min (reach - f.at) stripe_size) (length rest) = ap (length {A = ℕ}) is ∙ length-take (min (reach - f.at) stripe_size) rest in (
-      is ∙ take_few (reach - f.at) stripe_size rest few ∙ ap (λ (r : ℕ). take (r - f.at) rest) reach_is,
+    let count : length piece ≡ min (min (reach - f.at) (length stripe - k)) (length rest) = ap (length {A = ℕ}) is ∙ length-take (min (reach - f.at) (length stripe - k)) rest in (
+      is ∙ ap (λ (n : ℕ). take (min (reach - f.at) n) rest) (sym left) ∙ take_few (reach - f.at) rest ∙ ap (λ (r : ℕ). take (r - f.at) rest) reach_is,
       omega (arith, count, left, long, reach_is, begun, in_part, in_stripe, before_end),
     )

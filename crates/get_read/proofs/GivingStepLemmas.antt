@@ -9,7 +9,7 @@ use Rattle.drive_base.specs.declared.drive.Drive.{Ghosts}
 use Rattle.manifest_file.specs.declared.manifest.ManifestPart.{ManifestPart}
 use Rattle.shard_file.specs.Stripes.{stripe_size}
 use Rattle.get_read.specs.Account.{Account, AreInUse}
-use Rattle.get_read.specs.Advancing.{FetchAnswers, FetchSteps, IsStripeBy}
+use Rattle.get_read.specs.Advancing.{FetchAnswers, FetchSteps, IsRunBy}
 use Rattle.get_read.specs.Causes.{body_length}
 use Rattle.get_read.specs.Given.{AreOfSpanIn, IsFoundIn}
 use Rattle.get_read.specs.Held.{all_bytes}
@@ -105,7 +105,7 @@ module _ {D : Type 0} (ghosts : Ghosts D) where
         goes_on = λ told given so.
             let answers = steps.goes_on told so.is.2 in (
               stands_after ghosts false asked (Fetching fetching) (Fetching next) told steps.calls before after given so are
-                  (steps.asked ∙ same, steps.at ∙ so.is.1, record { is_part = answers.is_part; stripe = answers.stripe }),
+                  (steps.asked ∙ same, steps.at ∙ so.is.1, record { is_part = answers.is_part; stripe = answers.stripe; ahead = answers.ahead }),
               tt,
             );
       }
@@ -147,10 +147,10 @@ module _ {D : Type 0} (ghosts : Ghosts D) where
       let piece_is : piece ≡ take (a.wanted.reach - next.at) (drop (next.at - body_length (take next.part.place next.manifest.parts) - next.work.stripe * stripe_size) stripe.items) =
       is ∙ ap (λ (b : ℕ). take (a.wanted.reach - next.at) (drop (next.at - b - next.work.stripe * stripe_size) stripe.items)) place.begins in
       subst (λ (b : Asked). AreOfSpanIn (set_of b).drives (set_of b).parity b.wanted.print b.span.at b.wanted.reach (given ++ piece) calls) back
-      (given_on (set_of a) a.wanted.print a.id a.span.at a.wanted.reach next.manifest part.part next.part.place next.work.stripe next.at given stripe.items piece calls
+      (given_on (set_of a) a.wanted.print a.id a.span.at a.wanted.reach next.manifest part.part next.part.place next.work.stripe answers.stripe.0 next.at given stripe.items piece calls
       (subst (IsFoundIn (wants a) a.id next.manifest) whole part.found) place.inside part.part_is at place.before_end
-      (omega (arith, place.begins, place.begun)) (omega (arith, place.begins, place.in_stripe)) (omega (arith, place.begins, place.in_part, long))
-      piece_is (subst (IsStripeBy (set_of a) part.part next.work.stripe stripe.items) whole answers.stripe) exact)
+      (omega (arith, place.begins, place.begun)) (omega (arith, place.begins, place.in_stripe, answers.stripe.1)) (omega (arith, place.begins, place.in_part, long))
+      piece_is (subst (IsRunBy (set_of a) part.part next.work.stripe answers.stripe.0 stripe.items) whole answers.stripe.2) exact)
 
   -- a piece of a stripe is given
   pub fetch_given : (asked : Asked) (fetching next : FetchingRecord) (stripe : Vec ℕ Global) (new : State) (piece : List ℕ) (result : Result ReadStep ReadFaultKind)

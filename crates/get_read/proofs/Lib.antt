@@ -11,6 +11,7 @@ pub mod GivingStepLemmas
 pub mod HeldLemmas
 pub mod KeepingLemmas
 pub mod ManifestLemmas
+pub mod MeasureLemmas
 pub mod OneCallLemmas
 pub mod PartLemmas
 pub mod PieceLemmas
@@ -24,3 +25,5 @@ pub mod StripeByLemmas
 pub mod TableLemmas
 pub mod WholeLemmas
 pub mod Widening
+pub mod WindowLemmas
+pub mod WindowStepLemmas

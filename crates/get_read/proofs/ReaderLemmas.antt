@@ -1,6 +1,6 @@
 -- A reader before and after one step.
 use Rattle.std.proofs.Common.{◌≡◌, ◌∙◌, ℕ, ◌+◌, ◌<◌, List, [], ◌∷◌, ◌++◌, length, replicate, slice_index_or, ap, refl, subst, sym, inl, arith, append-nil, append_assoc}
-use Rattle.std.specs.Prelude.{Bool, Err, None, Ok, Result, Some, false, true}
+use Rattle.std.specs.Prelude.{Bool, Err, None, Ok, Option, Result, Some, false, true}
 use Rattle.std.specs.Int.{IsBitSet}
 use Rattle.std.proofs.lemmas.List.{get_or-replicate, get_or_default, length-replicate}
 use Rattle.std.proofs.lemmas.List.Elements.{All-append}
@@ -9,6 +9,7 @@ use Rattle.stamp_id.specs.declared.version.VersionId.{VersionId}
 use Rattle.call_types.specs.declared.names.Span.{Span}
 use Rattle.drive_base.specs.Plan.{data_drives}
 use Rattle.drive_base.specs.declared.drive.Drive.{Ghosts}
+use Rattle.drive_base.specs.declared.plan.SetPlan.{SetPlan}
 use Rattle.manifest_file.specs.declared.manifest.Manifest.{Manifest}
 use Rattle.manifest_file.specs.declared.manifest.ManifestPart.{ManifestPart}
 use Rattle.get_read.specs.Account.{Account, AreInUse, Call}
@@ -18,7 +19,8 @@ use Rattle.get_read.specs.Held.{all_bytes}
 use Rattle.get_read.specs.Readers.{AreCalls, AreOfState, AreTablesOf, IsFetchOf, IsRefusedIn, IsSearchOf, IsStateOf, StepsFrom, TellsFound, Told, all_calls, set_of, told_after, wants}
 use Rattle.get_read.specs.Refusing.{NoneServesIn}
 use Rattle.get_read.specs.States.{manifest_in}
-use Rattle.get_read.specs.Turning.{BeginsAt, BeginsSpan}
+use Rattle.get_read.specs.Turning.{BeginsAt, BeginsSpan, HasNoRuns}
+use Rattle.get_read.specs.Windows.{AreAhead}
 use Rattle.get_read.specs.declared.faults.ReadFaultKind.{ReadFaultKind}
 use Rattle.get_read.specs.declared.faults.ReadFaultKind.TheVariants.{InvalidRange, ShardQuorum, NoMemory}
 use Rattle.get_read.specs.declared.manifests.Wanted.{Wanted}
@@ -30,6 +32,7 @@ use Rattle.get_read.specs.declared.state.Search.{Search}
 use Rattle.get_read.specs.declared.state.Fetching.{Fetching as FetchingRecord}
 use Rattle.get_read.specs.declared.state.State.{State}
 use Rattle.get_read.specs.declared.state.State.TheVariants.{Searching, Fetching, Ended, Refused}
+use Rattle.get_read.specs.declared.window.Window.{Window}
 use Rattle.get_read.proofs.AccountLemmas.{span_on}
 use Rattle.get_read.proofs.FetchLemmas.{fresh_stripe}
 
@@ -136,6 +139,11 @@ some_part : (parts : List ManifestPart) (k : ℕ) → k < length parts → Manif
 some_part [] k low = absurd (omega arith)
 some_part (x ∷ parts) k low = x
 
+-- of a window of which no block is read each block was shown
+no_runs : (set : SetPlan) (part : ManifestPart) (ahead : Option Window) (calls : Account) → HasNoRuns ahead → AreAhead set part ahead calls
+no_runs set part None calls none = tt
+no_runs set part (Some window) calls none = λ j s low inside. absurd (omega (arith, low, ap (length {A = ℕ}) none))
+
 -- the reading of a stripe of which no block is read, where the tables that are held were shown
 pub fetch_begins : (asked : Asked) (m : Manifest) (at : ℕ) (fetching : FetchingRecord) (calls : Account) → BeginsAt asked m at fetching
     → IsFoundIn (wants asked) asked.id m calls
@@ -156,6 +164,7 @@ fetch_begins asked m at fetching calls begins found tables told is =
       };
       stripe = rw begins.asked_is (fresh_stripe (set_of asked) part fetching.work.stripe fetching.work.size fetching.work.found fetching.work.tried fetching.work.whys
           (all_calls told) told.since begins.fresh.letters begins.fresh.none);
+      ahead = no_runs (set_of fetching.asked) part fetching.ahead (all_calls told) begins.ahead;
     }
 
 -- no table is held

@@ -40,7 +40,7 @@ behind : (told : Told) (calls : Account) → all_calls told ++ calls ≡ all_cal
 behind told calls = append_assoc told.before told.since calls
 
 -- a stripe that begins before the end of a part is one of it
-stripe_within : (n i : ℕ) → stripe_size * i < n → i < stripe_count n
+pub stripe_within : (n i : ℕ) → stripe_size * i < n → i < stripe_count n
 stripe_within n i low = omega (arith, stripes_reach n)
 
 -- some part of a list that has one
@@ -54,9 +54,9 @@ module _ (old new : FetchingRecord) where
       → ((d : ManifestPart) → slice_index_or new.manifest.parts new.part.place d ≡ part)
       → IsFoundIn (wants new.asked) new.asked.id new.manifest (all_calls told ++ calls)
       → AreTablesOf (data_of new) part (all_bytes new.part.tables.items) (all_calls told ++ calls)
-      → StripeAnswers (set_of new.asked) part result new.work (told_after false told calls)
+      → StripeAnswers (set_of new.asked) part result new.work (told_after false told calls) → new.ahead ≡ None
       → FetchAnswers result new (told_after false told calls)
-  fetch_answers result told calls part part_is found held stripe = record {
+  fetch_answers result told calls part part_is found held stripe none = record {
     is_part = record {
       part = part;
       part_is = part_is;
@@ -64,16 +64,17 @@ module _ (old new : FetchingRecord) where
       held = subst (AreTablesOf (data_of new) part (all_bytes new.part.tables.items)) (behind told calls) held;
     };
     stripe = stripe;
+    ahead = rw none tt;
   }
 
 module _ {D : Type 0} (ghosts : Ghosts D) (old new : FetchingRecord) where
   -- a table was shown, and is held from then on
   pub fetch_holds : (table : Vec ℕ Global) (drives : List D) (was now : D) → old.work.tried < length drives → slice_index_or drives old.work.tried was ≡ was
       → old.work.tried < (set_of old.asked).drives → new.asked ≡ old.asked → new.manifest ≡ old.manifest → new.at ≡ old.at → new.part.place ≡ old.part.place
-      → new.work ≡ old.work → new.part.tables.items ≡ slice_set old.part.tables.items old.work.tried table
+      → new.ahead ≡ None → new.work ≡ old.work → new.part.tables.items ≡ slice_set old.part.tables.items old.work.tried table
       → FetchCall old (Ok (Table table)) (view ghosts was) (view ghosts now)
       → FetchSteps {Z = Global} ghosts old new (Ok None) drives (slice_set drives old.work.tried now)
-  fetch_holds table drives was now low is inside asked manifest at place work tables call =
+  fetch_holds table drives was now low is inside asked manifest at place none work tables call =
       let d0 = any_part old.manifest.parts old.part.place old.in_manifest in
       let shows = call d0 in
       let part = part_of old d0 in
@@ -106,7 +107,7 @@ module _ {D : Type 0} (ghosts : Ghosts D) (old new : FetchingRecord) where
             (rw (asked, manifest) (found_on (wants old.asked) old.asked.id old.manifest calls (call_is ∷ []) whole.found))
             (subst (λ (a : Asked). AreTablesOf (data_drives (set_of a).drives (set_of a).parity) p (all_bytes new.part.tables.items) (calls ++ call_is ∷ [])) (sym asked) held)
             (rw (asked, work) (subst (λ (all : Account). IsStripe (set_of old.asked) p old.work.stripe old.work.size old.work.found k old.work.whys all (told.since ++ call_is ∷ []))
-            (behind told (call_is ∷ [])) stripe));
+            (behind told (call_is ∷ [])) stripe)) none;
       }
 
   -- what stays where a stripe is judged
@@ -115,6 +116,7 @@ module _ {D : Type 0} (ghosts : Ghosts D) (old new : FetchingRecord) where
     pub manifest : new.manifest ≡ old.manifest
     pub at : new.at ≡ old.at
     pub part : new.part ≡ old.part
+    pub ahead : new.ahead ≡ None
 
   -- a stripe is judged, with calls before
   fetch_judged : (mid : StripeWork) (result : Result (Option (Vec ℕ Global)) ReadFaultKind) (told : Told) (more : Account) → StaysFor
@@ -146,6 +148,7 @@ module _ {D : Type 0} (ghosts : Ghosts D) (old new : FetchingRecord) where
       (rw (stays.asked, stays.manifest) (found_on (wants old.asked) old.asked.id old.manifest calls more whole.found))
       (rw (stays.asked, stays.part) (tables_on d p (all_bytes old.part.tables.items) calls more whole.held))
       (subst (λ (a : Asked). StripeAnswers (set_of a) p result new.work (told_after false told more)) (sym stays.asked) answer)
+      stays.ahead
 
   -- one call was made where a stripe is judged with a drive that was called
   made_one : (result : Result (Option (Vec ℕ Global)) ReadFaultKind) (call : Call) → MakesOne result (call ∷ [])
@@ -254,9 +257,9 @@ module _ {D : Type 0} (ghosts : Ghosts D) (old new : FetchingRecord) where
 
   -- there was not enough memory, before a call
   pub fetch_idle : (drives : List D) (was now : D) → slice_index_or drives old.work.tried was ≡ was → now ≡ was → new.asked ≡ old.asked → new.at ≡ old.at
-      → new.manifest ≡ old.manifest → new.part ≡ old.part
+      → new.manifest ≡ old.manifest → new.part ≡ old.part → new.ahead ≡ None
       → FetchSteps {Z = Global} ghosts old new (Err NoMemory) drives (slice_set drives old.work.tried now)
-  fetch_idle drives was now is same asked at manifest part = record {
+  fetch_idle drives was now is same asked at manifest part none = record {
     calls = [];
     are = ap (slice_set drives old.work.tried) (same ∙ sym is) ∙ set-get_or drives old.work.tried was;
     made = omega arith;
@@ -268,7 +271,7 @@ module _ {D : Type 0} (ghosts : Ghosts D) (old new : FetchingRecord) where
         fetch_answers old new (Err NoMemory) told [] p
         (λ e. ap (λ (m : Manifest). slice_index_or m.parts new.part.place e) manifest ∙ ap (λ (w : PartWork). slice_index_or old.manifest.parts w.place e) part ∙ whole.part_is e)
         (rw (asked, manifest) (found_on (wants old.asked) old.asked.id old.manifest (all_calls told) [] whole.found))
-        (rw (asked, part) (tables_on (data_of old) p (all_bytes old.part.tables.items) (all_calls told) [] whole.held)) tt;
+        (rw (asked, part) (tables_on (data_of old) p (all_bytes old.part.tables.items) (all_calls told) [] whole.held)) tt none;
   }
 
   -- there was not enough memory, after a block was shown
@@ -294,5 +297,5 @@ module _ {D : Type 0} (ghosts : Ghosts D) (old new : FetchingRecord) where
             fetch_answers old new (Err NoMemory) told (call_is ∷ []) p
             (λ e. ap (λ (m : Manifest). slice_index_or m.parts new.part.place e) stays.manifest ∙ ap (λ (w : PartWork). slice_index_or old.manifest.parts w.place e) stays.part ∙ whole.part_is e)
             (rw (stays.asked, stays.manifest) (found_on (wants old.asked) old.asked.id old.manifest (all_calls told) (call_is ∷ []) whole.found))
-            (rw (stays.asked, stays.part) (tables_on (data_of old) p (all_bytes old.part.tables.items) (all_calls told) (call_is ∷ []) whole.held)) tt;
+            (rw (stays.asked, stays.part) (tables_on (data_of old) p (all_bytes old.part.tables.items) (all_calls told) (call_is ∷ []) whole.held)) tt stays.ahead;
       }

@@ -88,14 +88,17 @@ inside_of : {k n m : ℕ} → k < n → m ≡ n → k < m
 inside_of low same = omega (arith, low, same)
 
 -- a stripe that is rebuilt from verified blocks of as many drives as it has data blocks
-pub rebuilt_by : (set : SetPlan) (part : ManifestPart) (i size : ℕ) (found : Blocks) (stripe : List ℕ) (calls : Account)
-    → i < stripe_count part.length → size ≡ block_size (data_drives set.drives set.parity) (stripe_length part.length i)
-    → All (λ row. row < set.drives) found.rows.items
-    → ((j : ℕ) → j < length found.rows.items → GaveBlockIn (data_drives set.drives set.parity) part i (slice_index_or part.roots (row_at found j) []) calls calls
-    (row_at found j) (piece size found.bytes.items j))
-    → IsRebuilt set size (stripe_length part.length i) found stripe → IsStripeBy set part i stripe calls
-rebuilt_by set part i size found stripe calls within size_is below each rebuilt = record {
-  long = rebuilt.0;
+pub rebuilt_from : (set : SetPlan) (part : ManifestPart) (i : ℕ) (rows : List ℕ) (block : ℕ → List ℕ) (stripe : List ℕ) (calls : Account)
+    → i < stripe_count part.length → All (λ row. row < set.drives) rows
+    → ((j : ℕ) → j < length rows → GaveBlockIn (data_drives set.drives set.parity) part i (slice_index_or part.roots (slice_index rows j) []) calls calls
+    (slice_index rows j) (block j))
+    → length stripe ≡ stripe_length part.length i
+    → ((other : List ℕ) (shards : List (List ℕ)) → length other ≡ stripe_length part.length i
+    → AreStripeBlocks set.drives (data_drives set.drives set.parity) other shards
+    → ((j : ℕ) → j < length rows → block j ≡ slice_index_or shards (slice_index rows j) []) → stripe ≡ other)
+    → IsStripeBy set part i stripe calls
+rebuilt_from set part i rows block stripe calls within below each long rebuilt = record {
+  long = long;
   exact = λ bytes is roots.
       let dd = data_drives set.drives set.parity in
       let are : AreShards set.drives dd bytes roots.0 = roots.1 in
@@ -103,16 +106,25 @@ rebuilt_by set part i size found stripe calls within size_is below each rebuilt 
       let blocks_are : AreStripeBlocks set.drives dd (piece stripe_size bytes i) column = are.stripes i (omega (arith, within, ap stripe_count is)) in
       let long_so : length (piece stripe_size bytes i) ≡ stripe_length part.length i =
       length-piece stripe_size bytes i ∙ ap (λ (n : ℕ). stripe_length n i) is in
-      elim (each_or (λ j. piece size found.bytes.items j ≡ slice_index_or column (slice_index found.rows.items j) [])
-      (PartClashIn set.drives dd bytes calls) (length found.rows.items)
+      elim (each_or (λ j. block j ≡ slice_index_or column (slice_index rows j) [])
+      (PartClashIn set.drives dd bytes calls) (length rows)
       (λ j low.
-      let row = slice_index found.rows.items j in
+      let row = slice_index rows j in
       let inside : row < set.drives = below j 0 low in
-      elim (given_or_clash set part i row calls (piece size found.bytes.items j) bytes inside is within roots (each j low)) [
+      elim (given_or_clash set part i row calls (block j) bytes inside is within roots (each j low)) [
         | inl same ↦ inl (same ∙ sym (get_or-map (λ (shard : List (List ℕ)). slice_index_or shard i []) roots.0 row [] [] (inside_of inside are.count)))
         | inr clash ↦ inr clash
       ])) [
-        | inl same ↦ inl (rebuilt.1 (piece stripe_size bytes i) column long_so blocks_are same)
+        | inl same ↦ inl (rebuilt (piece stripe_size bytes i) column long_so blocks_are same)
         | inr clash ↦ inr clash
       ];
 }
+
+pub rebuilt_by : (set : SetPlan) (part : ManifestPart) (i size : ℕ) (found : Blocks) (stripe : List ℕ) (calls : Account)
+    → i < stripe_count part.length → size ≡ block_size (data_drives set.drives set.parity) (stripe_length part.length i)
+    → All (λ row. row < set.drives) found.rows.items
+    → ((j : ℕ) → j < length found.rows.items → GaveBlockIn (data_drives set.drives set.parity) part i (slice_index_or part.roots (row_at found j) []) calls calls
+    (row_at found j) (piece size found.bytes.items j))
+    → IsRebuilt set size (stripe_length part.length i) found stripe → IsStripeBy set part i stripe calls
+rebuilt_by set part i size found stripe calls within size_is below each rebuilt =
+    rebuilt_from set part i found.rows.items (piece size found.bytes.items) stripe calls within below each rebuilt.0 rebuilt.1

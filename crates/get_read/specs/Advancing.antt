@@ -1,5 +1,5 @@
 -- What one call adds to the search for a manifest and to a stripe.
-use Rattle.std.specs.Prelude.{◌≡◌, ◌⊎◌, ◌<◌, ◌≤◌, ◌*◌, ℕ, false, List, [], ◌++◌, Option, Some, None, Vec, Result, Ok, Err, length, slice_index_or}
+use Rattle.std.specs.Prelude.{◌≡◌, ◌⊎◌, ◌<◌, ◌≤◌, ◌-◌, ◌*◌, ℕ, false, List, [], ◌++◌, Option, Some, None, Vec, Result, Ok, Err, length, slice_index_or, min, take, drop}
 use Rattle.sha2.specs.Sha256.{sha256}
 use Rattle.call_types.specs.Good.{is_good}
 use Rattle.call_types.specs.declared.why.Why.{Why}
@@ -14,7 +14,7 @@ use Rattle.manifest_file.specs.Spelling.{file_of}
 use Rattle.manifest_file.specs.declared.manifest.TheConstants.{LONGEST_FILE}
 use Rattle.manifest_file.specs.declared.manifest.Manifest.{Manifest}
 use Rattle.manifest_file.specs.declared.manifest.ManifestPart.{ManifestPart}
-use Rattle.shard_file.specs.Stripes.{piece, stripe_count, stripe_length, stripe_size}
+use Rattle.shard_file.specs.Stripes.{stripe_count, stripe_size}
 use Rattle.shard_file.specs.Shards.{block_place, table_place}
 use Rattle.body_print.specs.Clashes.{IsClash, IsTableOrBlock}
 use Rattle.body_print.specs.Names.{manifest_name, shard_name}
@@ -27,6 +27,7 @@ use Rattle.get_read.specs.Letters.{TellsNoBytes, TellsNoManifest, TellsNoTable}
 use Rattle.get_read.specs.Held.{all_bytes}
 use Rattle.get_read.specs.Readers.{AreCalls, IsFetchOf, IsPartOf, IsSearchOf, IsStripeOf, Told, all_calls, set_of, told_after, wants}
 use Rattle.get_read.specs.Refusing.{FewGiveIn, NoneServesIn}
+use Rattle.get_read.specs.Windows.{AreAhead}
 use Rattle.get_read.specs.declared.faults.ReadFaultKind.{ReadFaultKind}
 use Rattle.get_read.specs.declared.faults.ReadFaultKind.TheVariants.{InvalidRange, ShardQuorum, NoMemory as NoRoom}
 use Rattle.get_read.specs.declared.tables.Fetched.{Fetched}
@@ -41,7 +42,7 @@ use Rattle.get_read.specs.declared.state.StripeWork.{StripeWork}
 
 -- a call of the next drive of a search gives the length of its file, or the manifest, which serves, or why there is none
 abbrev pub LookCall : Search → Result Looked NotGiven → DriveView → DriveView → Type 0
-LookCall old (Ok (Size n)) before after = (n ≤ LONGEST_FILE) × WasSeen (Sized (manifest_name old.asked.id) n) before after
+LookCall old (Ok (Size n)) before after = (n ≤ LONGEST_FILE) × WasSeen (Sized (manifest_name old.asked.id) n) before after × (old.size ≡ None)
 LookCall old (Ok (File m)) before after = (old.size ≡ Some (length (file_of m))) × IsCanonical m × Serves (wants old.asked) m
     × WasSeen (Showed (manifest_name old.asked.id) 0 (file_of m)) before after
 LookCall old (Err (Because why)) before after = (is_good why ≡ false)
@@ -67,10 +68,10 @@ FindsSuiting asked (Ok None) = Unit {0}
 FindsSuiting asked (Ok (Some m)) = Suits asked m
 FindsSuiting asked (Err fault) = Unit {0}
 
--- a stripe that is given has so many bytes
+-- what is given has so many bytes, or more
 abbrev pub GivesSoLong : {Z : Type 0} → ℕ → Result (Option (Vec ℕ Z)) ReadFaultKind → Type 0
 GivesSoLong n (Ok None) = Unit {0}
-GivesSoLong n (Ok (Some stripe)) = length stripe.items ≡ n
+GivesSoLong n (Ok (Some run)) = n ≤ length run.items
 GivesSoLong n (Err fault) = Unit {0}
 
 -- a stripe, or an answer in place of it, came with one call
@@ -86,11 +87,19 @@ pub record PartClashIn (n d : ℕ) (bytes : List ℕ) (calls : Account) : Type 0
   pub clash : IsClash read other
   pub is : IsTableOrBlock n d bytes other
 
--- bytes are a stripe of each byte string of a part's length that has the part's roots, or there is a clash
-pub record IsStripeBy (set : SetPlan) (part : ManifestPart) (i : ℕ) (stripe : List ℕ) (calls : Account) : Type 0 where
-  pub long : length stripe ≡ stripe_length part.length i
+-- bytes are those of each byte string of a part's length that has the part's roots, from a stripe on, at most so many, or there is a clash
+pub record IsRunBy (set : SetPlan) (part : ManifestPart) (i size : ℕ) (run : List ℕ) (calls : Account) : Type 0 where
+  pub long : length run ≡ min size (part.length - stripe_size * i)
   pub exact : (bytes : List ℕ) → length bytes ≡ part.length → HasRoots set.drives (data_drives set.drives set.parity) bytes part.roots
-      → (stripe ≡ piece stripe_size bytes i) ⊎ PartClashIn set.drives (data_drives set.drives set.parity) bytes calls
+      → (run ≡ take size (drop (stripe_size * i) bytes)) ⊎ PartClashIn set.drives (data_drives set.drives set.parity) bytes calls
+
+-- they are one stripe
+abbrev pub IsStripeBy : SetPlan → ManifestPart → ℕ → List ℕ → Account → Type 0
+IsStripeBy set part i stripe calls = IsRunBy set part i stripe_size stripe calls
+
+-- or that stripe and more
+abbrev pub GivesRun : SetPlan → ManifestPart → ℕ → List ℕ → Account → Type 0
+GivesRun set part i run calls = (size : ℕ) × (stripe_size ≤ size) × IsRunBy set part i size run calls
 
 -- the part that a stripe is of
 abbrev pub part_of : Fetching → ManifestPart → ManifestPart
@@ -136,7 +145,7 @@ FetchCall old (Err NoMemory) before after = Unit {0}
 -- what a stripe answers after one call more, which these are all calls: it goes on, or its bytes are there, or too few drives gave a block
 abbrev pub StripeAnswers : {Z : Type 0} → SetPlan → ManifestPart → Result (Option (Vec ℕ Z)) ReadFaultKind → StripeWork → Told → Type 0
 StripeAnswers set part (Ok None) new told = IsStripeOf set part new (all_calls told) told.since
-StripeAnswers set part (Ok (Some stripe)) new told = IsStripeBy set part new.stripe stripe.items (all_calls told)
+StripeAnswers set part (Ok (Some run)) new told = GivesRun set part new.stripe run.items (all_calls told)
 StripeAnswers set part (Err (InvalidRange _)) new told = ⊥
 StripeAnswers set part (Err (ShardQuorum whys)) new told = FewGiveIn set part new.stripe whys (all_calls told) told.since
 StripeAnswers set part (Err NoRoom) new told = Unit {0}
@@ -145,6 +154,7 @@ StripeAnswers set part (Err NoRoom) new told = Unit {0}
 pub record FetchAnswers {Z : Type 0} (result : Result (Option (Vec ℕ Z)) ReadFaultKind) (new : Fetching) (told : Told) : Type 0 where
   pub is_part : IsPartOf new.asked new.manifest new.part (all_calls told)
   pub stripe : StripeAnswers (set_of new.asked) is_part.part result new.work told
+  pub ahead : AreAhead (set_of new.asked) is_part.part new.ahead (all_calls told)
 
 module _ {D : Type 0} (ghosts : Ghosts D) where
   -- one call of a search

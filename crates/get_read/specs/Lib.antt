@@ -4,11 +4,13 @@ pub mod Blocks
 pub mod Calling
 pub mod Causes
 pub mod Given
+pub mod Going
 pub mod Held
 pub mod Judging
 pub mod Keeping
 pub mod Letters
 pub mod Manifests
+pub mod Measure
 pub mod Outcomes
 pub mod Parts
 pub mod Passing
@@ -18,3 +20,4 @@ pub mod Sifting
 pub mod States
 pub mod Steps
 pub mod Turning
+pub mod Windows

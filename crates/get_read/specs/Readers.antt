@@ -24,6 +24,7 @@ use Rattle.get_read.specs.Refusing.{FewBlocksIn, NoneServesIn}
 use Rattle.get_read.specs.Sifting.{IsRow, block_at, row_at, stored_at}
 use Rattle.get_read.specs.declared.blocks.Blocks.{Blocks}
 use Rattle.get_read.specs.States.{manifest_in}
+use Rattle.get_read.specs.Windows.{AreAhead}
 use Rattle.get_read.specs.declared.faults.ReadFaultKind.{ReadFaultKind}
 use Rattle.get_read.specs.declared.faults.ReadFaultKind.TheVariants.{InvalidRange, ShardQuorum, NoMemory}
 use Rattle.get_read.specs.declared.reader.Reader.{Reader}
@@ -98,6 +99,7 @@ pub record IsPartOf (asked : Asked) (manifest : Manifest) (work : PartWork) (cal
 pub record IsFetchOf (fetching : FetchingRecord) (told : Told) : Type 0 where
   pub is_part : IsPartOf fetching.asked fetching.manifest fetching.part (all_calls told)
   pub stripe : IsStripeOf (set_of fetching.asked) is_part.part fetching.work (all_calls told) told.since
+  pub ahead : AreAhead (set_of fetching.asked) is_part.part fetching.ahead (all_calls told)
 
 -- why a reader refuses, after so many bytes were given: no drive gave a manifest that serves, or too few gave a block of the stripe that has the next byte
 abbrev pub IsRefusedIn : Asked → ReadFaultKind → Told → ℕ → Type 0

@@ -1,5 +1,5 @@
 -- How a reader turns to a stripe, and what it gives of one.
-use Rattle.std.specs.Prelude.{◌≡◌, ◌⊎◌, ◌<◌, ◌≤◌, ◌+◌, ◌-◌, ◌*◌, ◌/◌, ℕ, List, [], Result, Ok, Err, length, take, drop, replicate, slice_index_or, string_bytes}
+use Rattle.std.specs.Prelude.{◌≡◌, ◌⊎◌, ◌<◌, ◌≤◌, ◌+◌, ◌-◌, ◌*◌, ◌/◌, ℕ, List, [], Option, Some, None, Result, Ok, Err, length, take, drop, replicate, slice_index_or, string_bytes}
 use Rattle.call_types.specs.declared.why.Why.TheVariants.{Good}
 use Rattle.drive_base.specs.Plan.{data_drives}
 use Rattle.drive_base.specs.declared.plan.SetPlan.{SetPlan}
@@ -21,6 +21,7 @@ use Rattle.get_read.specs.declared.state.StripeWork.{StripeWork}
 use Rattle.get_read.specs.declared.state.Fetching.{Fetching as FetchingRecord}
 use Rattle.get_read.specs.declared.state.State.{State}
 use Rattle.get_read.specs.declared.state.State.TheVariants.{Fetching, Ended}
+use Rattle.get_read.specs.declared.window.Window.{Window}
 
 -- a part of a manifest has the byte at a place
 pub record IsPartAt (parts : List ManifestPart) (at : ℕ) (part : PartWork) : Type 0 where
@@ -42,6 +43,11 @@ pub record IsFreshAt (set : SetPlan) (part : PartWork) (at : ℕ) (work : Stripe
   pub none : work.found.rows.items ≡ []
   pub letters : PassesOver set 0 work.tried (replicate set.drives Good) work.whys
 
+-- no block of a window is read
+abbrev pub HasNoRuns : Option Window → Type 0
+HasNoRuns None = Unit {0}
+HasNoRuns (Some window) = window.rows.items ≡ []
+
 -- a reader turns to the stripe of a manifest that has the byte at a place
 pub record BeginsAt (asked : Asked) (manifest : Manifest) (at : ℕ) (fetching : FetchingRecord) : Type 0 where
   pub asked_is : fetching.asked ≡ asked
@@ -49,6 +55,7 @@ pub record BeginsAt (asked : Asked) (manifest : Manifest) (at : ℕ) (fetching :
   pub at_is : fetching.at ≡ at
   pub is_part : IsPartAt manifest.parts at fetching.part
   pub fresh : IsFreshAt (set_of asked) fetching.part at fetching.work
+  pub ahead : HasNoRuns fetching.ahead
 
 -- no table is held
 abbrev pub HoldsNone : FetchingRecord → Type 0

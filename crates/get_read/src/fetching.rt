@@ -1,6 +1,6 @@
 //! The blocks of a stripe, by one drive call a step.
 
-ghost use Rattle.std.specs.Prelude.{◌≡◌, ◌<◌, ◌≤◌, ◌*◌, ◌++◌, ◌∷◌, [], OnErr, OnOk, length, replicate, slice_index_or, slice_set};
+ghost use Rattle.std.specs.Prelude.{◌≡◌, ◌<◌, ◌≤◌, ◌*◌, ◌++◌, ◌∷◌, [], None, OnErr, OnOk, length, replicate, slice_index_or, slice_set};
 ghost use Rattle.call_types.specs.declared.why.Why.TheVariants.{Good};
 ghost use Rattle.drive_base.specs.Plan.{data_drives};
 ghost use Rattle.drive_base.specs.View.{AllOnlyRead, OnlyRead, view, views};
@@ -9,6 +9,7 @@ ghost use Rattle.get_read.specs.Advancing.{FetchCall, FetchSteps, GivesSoLong};
 ghost use Rattle.get_read.specs.Calling.{IdleWithout};
 ghost use Rattle.get_read.specs.Held.{all_bytes};
 ghost use Rattle.get_read.specs.Judging.{JudgesStripe};
+ghost use Rattle.get_read.specs.Measure.{FallsOn, stripe_left};
 ghost use Rattle.get_read.specs.Passing.{PassesDrive, PassesOver};
 
 use crate::blocks::{Blocks, add_block, are_enough, sift};
@@ -26,8 +27,8 @@ use std::alloc::{AllocError, Global};
 use std::mem;
 
 impl Fetching {
-    /// Does one call of the next drive, and answers the bytes of the stripe once enough blocks verify. `ShardQuorum` where
-    /// no drive is left.
+    /// Does one call of the next drive, and answers the bytes of the stripe, or of a window that begins with it, once enough
+    /// blocks verify. `ShardQuorum` where no drive is left.
     pub fn step<D: Drive>(
         &mut self,
         alloc: Global,
@@ -36,6 +37,26 @@ impl Fetching {
         requires { length drives.old ≡ self.old.asked.wanted.set.drives }
         ensures steps { FetchSteps D.Drive self.old self.new result drives.old drives.new }
         ensures long { GivesSoLong (stripe_length self.new.part.long self.new.work.stripe) result }
+        ensures fewer { FallsOn result (stripe_left self.old) (stripe_left self.new) }
+        ensures read { AllOnlyRead (views D.Drive drives.old) (views D.Drive drives.new) }
+    {
+        match mem::replace(&mut self.ahead, None) {
+            Some(window) => self.step_window(alloc, window, drives),
+            None => self.step_alone(alloc, drives),
+        }
+    }
+
+    /// One call for the stripe alone.
+    fn step_alone<D: Drive>(
+        &mut self,
+        alloc: Global,
+        drives: &mut [D],
+    ) -> Result<Option<Vec<u8>>, ReadFaultKind>
+        requires drives { length drives.old ≡ self.old.asked.wanted.set.drives }
+        requires none { self.old.ahead ≡ None }
+        ensures steps { FetchSteps D.Drive self.old self.new result drives.old drives.new }
+        ensures long { GivesSoLong (stripe_length self.new.part.long self.new.work.stripe) result }
+        ensures fewer { FallsOn result (stripe_left self.old) (stripe_left self.new) }
         ensures read { AllOnlyRead (views D.Drive drives.old) (views D.Drive drives.new) }
     {
         let set = self.asked.wanted.set;
@@ -84,7 +105,7 @@ impl Fetching {
 
 impl PartWork {
     /// The digest table that is held of a drive, or nothing.
-    fn table(&self, index: usize) -> &[u8]
+    pub fn table(&self, index: usize) -> &[u8]
         requires { index < length self.now.tables.items }
         ensures { result.now ≡ slice_index_or (all_bytes self.now.tables.items) index [] }
     {
@@ -92,7 +113,7 @@ impl PartWork {
     }
 
     /// Holds the digest table of a drive.
-    fn hold(&mut self, index: usize, table: Vec<u8>)
+    pub fn hold(&mut self, index: usize, table: Vec<u8>)
         requires index { index < length self.old.tables.items }
         requires long { length table.items ≡ 32 * stripe_count self.old.long }
         ensures tables { self.new.tables.items ≡ slice_set self.old.tables.items index table }

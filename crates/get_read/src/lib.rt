@@ -23,12 +23,15 @@ mod manifests;
 mod parts;
 mod places;
 mod reader;
+mod rows;
 mod searching;
 mod state;
 mod stepping;
 mod stripes;
 mod tables;
 mod whole;
+mod window;
+mod windows;
 
 pub use faults::ReadFaultKind;
 pub use manifests::read_manifest;

@@ -4,6 +4,7 @@ ghost use Rattle.std.specs.Prelude.{◌≡◌, ◌<◌, ◌≤◌, ℕ, [], None
 ghost use Rattle.drive_base.specs.View.{AllOnlyRead, OnlyRead, view, views};
 ghost use Rattle.get_read.specs.Advancing.{FindsSuiting, LookCall, SearchSteps};
 ghost use Rattle.get_read.specs.Calling.{IdleOrCalled};
+ghost use Rattle.get_read.specs.Measure.{FallsOn, search_left};
 ghost use Rattle.get_read.specs.Passing.{PassesDrive};
 ghost use Rattle.get_read.specs.Readers.{IsSearchOf};
 
@@ -48,6 +49,7 @@ impl Search {
         requires { length drives.old ≡ self.old.asked.wanted.set.drives }
         ensures steps { SearchSteps D.Drive self.old self.new result drives.old drives.new }
         ensures suits { FindsSuiting self.old.asked result }
+        ensures fewer { FallsOn result (search_left self.old) (search_left self.new) }
         ensures read { AllOnlyRead (views D.Drive drives.old) (views D.Drive drives.new) }
     {
         if self.tried == self.asked.wanted.set.drives {

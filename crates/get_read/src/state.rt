@@ -10,11 +10,13 @@ ghost use Rattle.shard_file.specs.Stripes.{block_size, stripe_count, stripe_leng
 ghost use Rattle.get_read.specs.Causes.{body_length};
 ghost use Rattle.get_read.specs.Held.{all_bytes};
 ghost use Rattle.get_read.specs.Sifting.{AreAtHand};
+ghost use Rattle.get_read.specs.Windows.{FitsAhead};
 
 use crate::blocks::Blocks;
 use crate::faults::ReadFaultKind;
 use crate::manifests::Wanted;
 use crate::tables::Fetched;
+use crate::window::Window;
 use call_types::{Span, Whys};
 use manifest_file::Manifest;
 use stamp_id::VersionId;
@@ -107,6 +109,8 @@ pub struct Fetching {
     pub part: PartWork,
     /// The stripe.
     pub work: StripeWork,
+    /// The window that begins at it, of whose stripes no call was made alone.
+    pub ahead: Option<Window>,
     pub ghost roots: { All (λ part. length part.roots ≡ asked.wanted.set.drives) manifest.parts },
     pub ghost reaches: { asked.wanted.reach ≤ body_length manifest.parts },
     pub ghost in_manifest: { part.place < length manifest.parts },
@@ -124,6 +128,7 @@ pub struct Fetching {
     pub ghost next_in_use: { work.tried < asked.wanted.set.drives → IsBitSet asked.wanted.set.out work.tried → ⊥ },
     pub ghost letters: { length work.whys ≡ asked.wanted.set.drives },
     pub ghost fewer: { length work.found.rows.items < data_drives asked.wanted.set.drives asked.wanted.set.parity },
+    pub ghost ahead_fits: { FitsAhead asked.wanted.set part.long work.stripe ahead },
 }
 
 /// What a call for a stripe gave.

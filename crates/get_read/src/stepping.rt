@@ -6,6 +6,7 @@ ghost use Rattle.drive_base.specs.View.{AllOnlyRead, views};
 ghost use Rattle.shard_file.specs.Stripes.{stripe_length, stripe_size};
 ghost use Rattle.get_read.specs.Advancing.{Suits};
 ghost use Rattle.get_read.specs.Causes.{body_length};
+ghost use Rattle.get_read.specs.Measure.{Falls, state_left, steps_left};
 ghost use Rattle.get_read.specs.Readers.{Begins, Steps, StepsFrom, TellsFound};
 ghost use Rattle.get_read.specs.States.{manifest_in};
 ghost use Rattle.get_read.specs.Turning.{BeginsAt, BeginsSpan, GivesPiece, HasNoTables, HoldsNone, IsFreshAt, IsPartAt, IsPartOn};
@@ -18,6 +19,7 @@ use crate::manifests::Wanted;
 use crate::parts::no_tables;
 use crate::places::part_with;
 use crate::reader::{ReadStep, Reader};
+use crate::rows::window_at;
 use crate::state::{Asked, Fetching, PartWork, Search, State, StripeWork};
 use body_print::name_of_shard;
 use call_types::Span;
@@ -56,9 +58,10 @@ impl Reader {
     }
 
     /// Does one call of one drive that is not out, or none where none is due. Its letters are of that call alone. `Piece`
-    /// where the next bytes of the span are there, at most a stripe's; `Done` once all are given. `ShardQuorum` comes only
+    /// where the next bytes of the span are there, at most those of four stripes; `Done` once all are given. `ShardQuorum` comes only
     /// after all drives were tried for the manifest, or for a stripe, and tells the cause of each; a step that finds no
-    /// memory ends the reading too. Each step after a refusal answers the same.
+    /// memory ends the reading too. Each step after a refusal answers the same. The number of steps that are left at most
+    /// falls at each step that leaves more to do.
     pub fn step<D: Drive>(
         &mut self,
         alloc: Global,
@@ -66,6 +69,7 @@ impl Reader {
     ) -> Result<ReadStep, ReadFaultKind>
         requires { length drives.old ≡ self.old.asked.wanted.set.drives }
         ensures steps { Steps D.Drive self.old self.new result drives.old drives.new }
+        ensures fewer { Falls result (steps_left self.old) (steps_left self.new) }
         ensures read { AllOnlyRead (views D.Drive drives.old) (views D.Drive drives.new) }
     {
         let state = mem::replace(&mut self.state, State::Refused(ReadFaultKind::NoMemory));
@@ -109,6 +113,7 @@ impl Reader {
         requires drives { length drives.old ≡ search.asked.wanted.set.drives }
         ensures asked { self.new.asked ≡ self.old.asked }
         ensures steps { StepsFrom D.Drive self.old.asked (state.Searching search) self.new.state self.new.piece.items result drives.old drives.new }
+        ensures fewer { Falls result (state_left (state.Searching search)) (state_left self.new.state) }
         ensures read { AllOnlyRead (views D.Drive drives.old) (views D.Drive drives.new) }
     {
         match search.step(alloc, drives) {
@@ -187,6 +192,7 @@ impl Reader {
         requires drives { length drives.old ≡ fetching.asked.wanted.set.drives }
         ensures asked { self.new.asked ≡ self.old.asked }
         ensures steps { StepsFrom D.Drive self.old.asked (state.Fetching fetching) self.new.state self.new.piece.items result drives.old drives.new }
+        ensures fewer { Falls result (state_left (state.Fetching fetching)) (state_left self.new.state) }
         ensures read { AllOnlyRead (views D.Drive drives.old) (views D.Drive drives.new) }
     {
         match fetching.step(alloc, drives) {
@@ -196,7 +202,7 @@ impl Reader {
         }
     }
 
-    /// Gives what is wanted of a stripe, and turns to the next one.
+    /// Gives what is wanted of a stripe, and of those that came with it, and turns to the next one.
     fn give(
         &mut self,
         alloc: Global,
@@ -204,13 +210,13 @@ impl Reader {
         stripe: Vec<u8>,
     ) -> Result<ReadStep, ReadFaultKind>
         requires same { fetching.asked ≡ self.old.asked }
-        requires long { length stripe.items ≡ stripe_length fetching.part.long fetching.work.stripe }
+        requires long { stripe_length fetching.part.long fetching.work.stripe ≤ length stripe.items }
         ensures asked { self.new.asked ≡ self.old.asked }
         ensures gives { GivesPiece self.old.state self.new.state self.new.piece.items fetching stripe.items result }
     {
         let reach = self.asked.wanted.reach;
         let skipped = fetching.at - fetching.part.begin - fetching.work.stripe * STRIPE;
-        let most = (reach - fetching.at).min(STRIPE);
+        let most = (reach - fetching.at).min(stripe.len() as u64 - skipped);
         self.piece = piece_of(stripe, skipped as usize, most as usize);
         let at = fetching.at + self.piece.len() as u64;
         if at == reach {
@@ -223,8 +229,7 @@ impl Reader {
 
 /// The bytes from a place on, at most so many.
 fn piece_of(mut bytes: Vec<u8>, from: usize, most: usize) -> Vec<u8>
-    requires within { from ≤ length bytes.items }
-    requires few { most ≤ stripe_size }
+    requires within { from + most ≤ length bytes.items }
     ensures { result.items ≡ drop from (take (from + most) bytes.items) }
 {
     bytes.truncate(from + most);
@@ -241,12 +246,14 @@ fn first_stripe(alloc: Global, asked: Asked, manifest: Manifest) -> Result<Fetch
     let at = asked.span.at;
     let part = part_at(alloc, &asked.wanted.set, manifest.parts.as_slice(), at)?;
     let work = stripe_at(alloc, &asked.wanted.set, &part, at);
+    let ahead = window_at(alloc, &asked.wanted, &part, &work);
     Ok(Fetching {
         asked,
         manifest,
         at,
         part,
         work,
+        ahead,
     })
 }
 
@@ -262,6 +269,7 @@ fn next_stripe(alloc: Global, fetching: Fetching, at: u64) -> Result<Fetching, N
         at: _,
         part,
         work: _,
+        ahead: _,
     } = fetching;
     turned(alloc, asked, manifest, part, at)
 }
@@ -292,12 +300,14 @@ fn turned(
         at,
     )?;
     let work = stripe_at(alloc, &asked.wanted.set, &next, at);
+    let ahead = window_at(alloc, &asked.wanted, &next, &work);
     Ok(Fetching {
         asked,
         manifest,
         at,
         part: next,
         work,
+        ahead,
     })
 }
 

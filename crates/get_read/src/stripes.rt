@@ -1,6 +1,6 @@
 //! A stripe from verified blocks.
 
-ghost use Rattle.std.specs.Prelude.{◌≡◌, ◌≢◌, ◌<◌, ◌≤◌, ◌+◌, ◌*◌, ◌++◌, ℕ, List, [], All, IsTrue, IsOk, IsErr, IfOk, IfErr, OnOk, length, slice_index, slice_index_or};
+ghost use Rattle.std.specs.Prelude.{◌≡◌, ◌≢◌, ◌<◌, ◌≤◌, ◌+◌, ◌*◌, ◌++◌, ℕ, List, [], All, IsTrue, IsOk, IsErr, IfOk, IfErr, OnOk, length, slice_index, slice_index_or, take};
 ghost use Rattle.std.specs.Int.{IsBitSet};
 ghost use Rattle.drive_base.specs.Plan.{data_drives};
 ghost use Rattle.shard_file.specs.Stripes.{piece, stripe_count, stripe_length, block_size};
@@ -186,6 +186,7 @@ pub fn add_stripe(
     requires have { length blocks.now.bytes.items ≡ length blocks.now.rows.items * size }
     requires size { size ≡ block_size (data_drives set.now.drives set.now.parity) long }
     ensures long { IsOk result → length body.new.items ≡ length body.old.items + long }
+    ensures kept { IsOk result → take (length body.old.items) body.new.items ≡ body.old.items }
     ensures stripe { IsOk result → (stripe : List ℕ) (shards : List (List ℕ)) → length stripe ≡ long
         → AreStripeBlocks set.now.drives (data_drives set.now.drives set.now.parity) stripe shards
         → ((j : ℕ) → j < length blocks.now.rows.items → piece size blocks.now.bytes.items j ≡ slice_index_or shards (slice_index blocks.now.rows.items j) [])

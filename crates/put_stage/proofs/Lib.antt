@@ -5,6 +5,7 @@ pub mod FillLemmas
 pub mod FinishLemmas
 pub mod HolderLemmas
 pub mod LawProofs
+pub mod LeftLemmas
 pub mod ManifestLemmas
 pub mod NameLemmas
 pub mod ShardLemmas

@@ -86,12 +86,12 @@ works_on (Err why) k old new blocks first cells places due (letters, dues) load 
     }
 
 -- the letters and calls of the other drives
-other_why : (answer : Result (Unit {0}) Why) (k other : ℕ) (old new : Stage) → other ≢ k → IsAfter answer k old new → why_at new other ≡ why_at old other
+pub other_why : (answer : Result (Unit {0}) Why) (k other : ℕ) (old new : Stage) → other ≢ k → IsAfter answer k old new → why_at new other ≡ why_at old other
 other_why (Ok done) k other old new apart (letters, dues) = ap (λ (all : List Why). slice_index_or all other Good) letters
 other_why (Err why) k other old new apart (letters, dues) =
     ap (λ (all : List Why). slice_index_or all other Good) letters ∙ get_or-set_other old.whys k other why Good apart
 
-other_due : (answer : Result (Unit {0}) Why) (k other : ℕ) (old new : Stage) → other ≢ k → IsAfter answer k old new → due_at new other ≡ due_at old other
+pub other_due : (answer : Result (Unit {0}) Why) (k other : ℕ) (old new : Stage) → other ≢ k → IsAfter answer k old new → due_at new other ≡ due_at old other
 other_due (Ok done) k other old new apart (letters, dues) =
     ap (λ (all : List Due). slice_index_or all other Nothing) dues ∙ get_or-set_other old.dues k other (after old.load.alone (due_at old k)) Nothing apart
 other_due (Err why) k other old new apart (letters, dues) = ap (λ (all : List Due). slice_index_or all other Nothing) dues

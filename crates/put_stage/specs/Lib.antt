@@ -6,6 +6,7 @@ pub mod Filling
 pub mod Finishing
 pub mod Holding
 pub mod Laws
+pub mod Left
 pub mod Manifests
 pub mod OnDrives
 pub mod Outcomes

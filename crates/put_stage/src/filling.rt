@@ -4,6 +4,7 @@ ghost use Rattle.std.specs.Prelude.{◌≡◌, ◌+◌, ◌<◌, ◌≤◌, ◌+
 ghost use Rattle.call_types.specs.Feeds.{FeedView, Gave};
 ghost use Rattle.put_stage.specs.Coding.{all_bytes};
 ghost use Rattle.put_stage.specs.Filling.{AreDueAfter, LoadTakes, PieceTakes, ReadTakes};
+ghost use Rattle.put_stage.specs.Left.{calls_left};
 ghost use Rattle.put_stage.specs.Stepping.{MayFill};
 ghost use Rattle.put_stage.specs.Taking.{FillCause, FillTakes};
 
@@ -30,6 +31,7 @@ impl Stage {
         requires next { MayFill self.old }
         requires feed { (F.seen feed.old).given + self.old.load.left ≡ (F.seen feed.old).stated }
         ensures takes { FillTakes result self.old self.new (F.seen feed.old) (F.seen feed.new) }
+        ensures fewer { OnOk result (calls_left self.new < calls_left self.old) }
         ensures cause { FillCause result (F.seen feed.new) (F.faults feed.old) (F.faults feed.new) }
     {
         take_stripe(alloc, &mut self.load, feed)?;

@@ -4,6 +4,7 @@ ghost use Rattle.std.specs.Prelude.{◌≡◌, ◌⊎◌, ◌↔◌, ◌<◌, �
 ghost use Rattle.put_stage.specs.Cells.{DataCells, Spares, data_of};
 ghost use Rattle.put_stage.specs.Coding.{all_bytes, block_at};
 ghost use Rattle.put_stage.specs.Dues.{is_block, is_nothing};
+ghost use Rattle.put_stage.specs.Left.{calls_left};
 ghost use Rattle.put_stage.specs.Stepping.{HasAfter, HasAppended, HasDone, IsDue, IsFirst, IsNext, LetterOf, Serves, StepWorks, StepsOnce};
 ghost use Rattle.put_stage.specs.Working.{Blocks, Disagrees, IsBefore, IsOfDrive, due_at};
 
@@ -29,12 +30,14 @@ impl Stage {
     }
 
     /// Does one call of one drive that is not out, the next one in order, and takes no memory. Where none is due it does
-    /// nothing. A drive on which a call fails gets its letter from that call alone, and no more calls.
+    /// nothing. A drive on which a call fails gets its letter from that call alone, and no more calls. The number of fills
+    /// and steps that are left at most falls at each call.
     pub fn step<D: Drive>(&mut self, drives: &mut [D])
         requires { length drives.old ≡ self.old.load.set.drives }
         ensures once { StepsOnce D.tells D.files D.count self.old self.new drives.old drives.new }
         ensures works { StepWorks D.tells D.files self.old self.new drives.old drives.new }
         ensures load { self.new.load ≡ self.old.load }
+        ensures fewer { (k : ℕ) → IsDue self.old k → calls_left self.new < calls_left self.old }
         ensures tells { (k : ℕ) (d : D) → k < length drives.old → D.tells (slice_index_or drives.new k d) ≡ D.tells (slice_index_or drives.old k d) }
         ensures counts { (k : ℕ) (d : D) → k < length drives.old → D.count (slice_index_or drives.old k d) ≤ D.count (slice_index_or drives.new k d) }
     {

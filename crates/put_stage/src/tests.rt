@@ -12,7 +12,6 @@ use std::test::Fail;
 mod feeds;
 mod golden;
 mod manifests;
-mod sets;
 mod steps;
 mod whole;
 
@@ -78,9 +77,8 @@ fn lost(first: usize, second: usize) -> Whys
     whys
 }
 
-/// The bytes that a drive, which is back, shows under a name.
+/// The bytes that a drive shows under a name.
 fn shown(alloc: Global, drive: &mut MemDrive, name: &str) -> Result<Vec<u8>, Fail> {
-    drive.back();
     let size = drive.size(name)?;
     let mut found = vec![in alloc; 0; size as usize]?;
     let count = drive.read(name, 0, &mut found)?;

@@ -128,56 +128,34 @@ fn drives_that_are_out_are_not_read(rt: HostRuntime) -> Result<(), Fail> {
     Ok(())
 }
 
+/// Whether a read of so many bytes of `hello` is refused, and each drive tells this cause.
+fn is_refused(
+    alloc: Global,
+    set: SetPlan,
+    id: VersionId,
+    print: [u8; 32],
+    long: u64,
+    why: Why,
+) -> Result<bool, Fail>
+    requires { set.drives ≡ 4 }
+{
+    let mut drives = fresh_drives(alloc, 4)?;
+    stage_hello(alloc, &mut drives)?;
+    let answer = read_whole(alloc, set, print, id, long, &mut drives);
+    Ok(answer.err() == because(why, why, why, why))
+}
+
 #[test]
-fn another_id_has_no_manifest(rt: HostRuntime) -> Result<(), Fail> {
-    let mut drives = fresh_drives(rt.alloc(), 4)?;
-    stage_hello(rt.alloc(), &mut drives)?;
-    let other = VersionId::from_parts(ChangeId(Ballot { term: 1, seq: 7 }), 6);
-    let answer = read_whole(rt.alloc(), four(0), HELLO_PRINT, other, 5, &mut drives);
+fn manifests_that_do_not_suit_are_told(rt: HostRuntime) -> Result<(), Fail> {
+    let another = VersionId::from_parts(ChangeId(Ballot { term: 1, seq: 7 }), 6);
     let lacks = Why::Lacks(FileKind::Manifest);
-    assert_eq!(rt; answer.err(), because(lacks, lacks, lacks, lacks));
-    Ok(())
-}
-
-#[test]
-fn a_manifest_of_another_print_is_refused(rt: HostRuntime) -> Result<(), Fail> {
-    let mut drives = fresh_drives(rt.alloc(), 4)?;
-    stage_hello(rt.alloc(), &mut drives)?;
-    let answer = read_of(rt.alloc(), 0, TWICE_PRINT, 5, &mut drives);
-    let other = damaged(TWICE_PRINT, HELLO_PRINT);
-    assert_eq!(rt; answer.err(), because(other, other, other, other));
-    Ok(())
-}
-
-#[test]
-fn a_body_that_is_too_short_is_refused(rt: HostRuntime) -> Result<(), Fail> {
-    let mut drives = fresh_drives(rt.alloc(), 4)?;
-    stage_hello(rt.alloc(), &mut drives)?;
-    let answer = read_of(rt.alloc(), 0, HELLO_PRINT, 6, &mut drives);
-    let short = Why::Damaged(Damage::Spelling(166));
-    assert_eq!(rt; answer.err(), because(short, short, short, short));
-    let answer = read_of(rt.alloc(), 0, HELLO_PRINT, 3, &mut drives);
-    assert!(rt; gave(answer, b"hel"));
-    Ok(())
-}
-
-#[test]
-fn a_manifest_of_other_numbers_is_refused(rt: HostRuntime) -> Result<(), Fail> {
-    let mut drives = fresh_drives(rt.alloc(), 4)?;
-    stage_hello(rt.alloc(), &mut drives)?;
-    let answer = read_whole(rt.alloc(), plan(4, 1), HELLO_PRINT, id(), 5, &mut drives);
+    assert!(rt; is_refused(rt.alloc(), four(0), another, HELLO_PRINT, 5, lacks)?);
+    let print = damaged(TWICE_PRINT, HELLO_PRINT);
+    assert!(rt; is_refused(rt.alloc(), four(0), id(), TWICE_PRINT, 5, print)?);
+    // It is too short, or of other numbers.
     let other = Why::Damaged(Damage::Spelling(166));
-    assert_eq!(rt; answer.err(), because(other, other, other, other));
-    // A fifth drive joins the four.
-    drives.push(MemDrive::new(rt.alloc()))?;
-    let answer = read_manifest(rt.alloc(), plan(5, 2), HELLO_PRINT, id(), &mut drives);
-    let mut whys = Whys::all_good(5);
-    whys.set(0, other);
-    whys.set(1, other);
-    whys.set(2, other);
-    whys.set(3, other);
-    whys.set(4, Why::Lacks(FileKind::Manifest));
-    assert_eq!(rt; answer.err(), Some(ReadFaultKind::ShardQuorum(whys)));
+    assert!(rt; is_refused(rt.alloc(), four(0), id(), HELLO_PRINT, 6, other)?);
+    assert!(rt; is_refused(rt.alloc(), plan(4, 1), id(), HELLO_PRINT, 5, other)?);
     Ok(())
 }
 
@@ -189,9 +167,6 @@ fn the_manifest_is_read(rt: HostRuntime) -> Result<(), Fail> {
     let answer = read_manifest(rt.alloc(), four(0), HELLO_PRINT, id(), &mut drives);
     let manifest = answer.ok().ok_or("no manifest")?;
     assert_eq!(rt; manifest.name.as_slice(), b"k/pic/a".as_slice());
-    assert_eq!(rt; manifest.drives, 4);
-    assert_eq!(rt; manifest.parity, 2);
-    assert_eq!(rt; manifest.parts.len(), 1);
     assert_eq!(rt; print_of(&manifest), HELLO_PRINT);
     Ok(())
 }
@@ -208,7 +183,5 @@ fn two_parts_are_joined(rt: HostRuntime) -> Result<(), Fail> {
     assert!(rt; gave(answer, b"hellohello"));
     let answer = read_of(rt.alloc(), 0, TWICE_PRINT, 7, &mut drives);
     assert!(rt; gave(answer, b"hellohe"));
-    let answer = read_of(rt.alloc(), 0, TWICE_PRINT, 5, &mut drives);
-    assert!(rt; gave(answer, b"hello"));
     Ok(())
 }

@@ -1,10 +1,12 @@
 //! The drives of the tests, and what befalls them.
 
-ghost use Rattle.std.specs.Prelude.{◌≡◌, ◌+◌, ◌≤◌, IfOk, length};
+ghost use Rattle.std.specs.Prelude.{◌≡◌, ◌+◌, ◌<◌, ◌≤◌, ◌^◌, IfOk, length};
 
-use crate::ReadFaultKind;
+use crate::{ReadFaultKind, ReadStep, Reader};
+use call_types::Span;
 use drive_base::{Drive, LONGEST_NAME, SetPlan};
 use drive_memory::MemDrive;
+use put_stage::stage_whole;
 use stamp_id::{Ballot, ChangeId, VersionId};
 use std::alloc::{AllocError, Global};
 use std::test::Fail;
@@ -59,6 +61,107 @@ pub fn some_body(alloc: Global, long: usize) -> Result<Vec<u8>, AllocError> {
         body.push((i % 251) as u8)?;
     }
     Ok(body)
+}
+
+/// Stages a body over the drives of a set, and tells its print.
+pub fn stage(
+    alloc: Global,
+    set: SetPlan,
+    body: &[u8],
+    drives: &mut [MemDrive],
+) -> Result<[u8; 32], Fail>
+    requires { length drives.old ≡ set.drives }
+    ensures { length drives.new ≡ length drives.old }
+{
+    if body.len() > 5_368_709_120 {
+        return Err("too long".into());
+    }
+    match stage_whole(alloc, set, id(), "k/pic/a", body, None, drives) {
+        Ok(staged) => Ok(staged.print),
+        Err(_) => Err("not staged".into()),
+    }
+}
+
+/// What the steps of a reader gave: their number, that of their pieces, and the bytes of these, joined.
+#[derive(Debug, Drop)]
+pub struct Run {
+    pub steps: u32,
+    pub pieces: u32,
+    pub bytes: Vec<u8>,
+}
+
+/// A step, where there are as many drives as the reader's set has.
+pub fn step_on(
+    alloc: Global,
+    reader: &mut Reader,
+    drives: &mut [MemDrive],
+) -> Result<ReadStep, ReadFaultKind>
+    ensures { length drives.new ≡ length drives.old }
+{
+    if drives.len() != usize::from(reader.asked.wanted.set.drives) {
+        return Err(ReadFaultKind::InvalidRange(0));
+    }
+    reader.step(alloc, drives)
+}
+
+/// Steps up to so many pieces, or to the end.
+pub fn run_to(
+    alloc: Global,
+    reader: &mut Reader,
+    pieces: u32,
+    drives: &mut [MemDrive],
+) -> Result<Run, ReadFaultKind> {
+    let mut run = Run {
+        steps: 0,
+        pieces: 0,
+        bytes: Vec::new(alloc),
+    };
+    for _ in 0..1000u64 {
+        match step_on(alloc, reader, drives)? {
+            ReadStep::More => run.steps = run.steps.wrapping_add(1),
+            ReadStep::Piece => {
+                run.steps = run.steps.wrapping_add(1);
+                run.pieces = run.pieces.wrapping_add(1);
+                run.bytes.extend_from_slice(reader.piece())?;
+            }
+            ReadStep::Done => return Ok(run),
+        }
+        if run.pieces == pieces {
+            return Ok(run);
+        }
+    }
+    Ok(run)
+}
+
+/// What all steps of a reader of a span of the body with this print give.
+pub fn read_by_steps(
+    alloc: Global,
+    set: SetPlan,
+    print: [u8; 32],
+    (at, length): (u32, u32),
+    drives: &mut [MemDrive],
+) -> Result<Run, ReadFaultKind> {
+    let span = Span {
+        at: at as u64,
+        length: length as u64,
+    };
+    let mut reader = Reader::new(alloc, &set, print, id(), span)?;
+    run_to(alloc, &mut reader, u32::MAX, drives)
+}
+
+/// Whether the steps of a reader of the first bytes of the body with this print, so many, give these.
+pub fn steps_give(
+    alloc: Global,
+    set: SetPlan,
+    print: [u8; 32],
+    due: &[u8],
+    drives: &mut [MemDrive],
+) -> bool {
+    let long = due.len().min(u32::MAX as usize) as u32;
+    match read_by_steps(alloc, set, print, (0, long), drives) {
+        Ok(run) => run.bytes.as_slice() == due,
+        Err(_) => false,
+    }
 }
 
 /// Puts the shard file of a drive in place anew, with the lowest bit of its first byte changed.

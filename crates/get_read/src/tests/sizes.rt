@@ -2,20 +2,19 @@
 
 ghost use Rattle.std.specs.Prelude.{◌+◌, ◌≤◌};
 
-use super::made::{damage, fresh_drives, gave, id, plan, some_body};
-use crate::read_whole;
-use put_stage::stage_whole;
+use super::made::{damage, fresh_drives, plan, some_body, stage, steps_give};
 use std::alloc::Global;
 use std::test::Fail;
 
-/// The drives and the parity of a set, and the length of a body: around a stripe and two on each set, and sixteen.
-const SIZES: [(u8, u8, usize); 10] = [
+/// The drives and the parity of a set, and the length of a body: around a stripe and two on each set, five with windows of four, and sixteen.
+const SIZES: [(u8, u8, usize); 11] = [
     (4, 1, 1_048_577),
     (4, 2, 0),
     (4, 2, 1_048_575),
     (4, 2, 2_097_152),
     (5, 2, 1),
     (5, 2, 1_048_577),
+    (5, 2, 5_242_881),
     (8, 4, 1_048_576),
     (16, 1, 1_048_577),
     (16, 8, 2_097_152),
@@ -31,20 +30,11 @@ fn comes_back(alloc: Global, drives: u8, parity: u8, long: usize) -> Result<bool
 {
     let body = some_body(alloc, long)?;
     let mut made = fresh_drives(alloc, drives)?;
-    let made = made.as_mut_slice();
-    if body.len() > 5_368_709_120 {
-        return Ok(false);
-    }
-    let set = plan(drives, parity);
-    let Ok(staged) = stage_whole(alloc, set, id(), "k/pic/a", &body, None, made) else {
-        return Ok(false);
-    };
+    let print = stage(alloc, plan(drives, parity), &body, &mut made)?;
     for at in 0..parity {
-        damage(alloc, made, at as usize)?;
+        damage(alloc, &mut made, at as usize)?;
     }
-    let set = plan(drives, parity);
-    let answer = read_whole(alloc, set, staged.print, id(), staged.length, made);
-    Ok(gave(answer, &body))
+    Ok(steps_give(alloc, plan(drives, parity), print, &body, &mut made))
 }
 
 #[test]

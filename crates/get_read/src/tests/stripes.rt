@@ -2,12 +2,13 @@
 
 ghost use Rattle.std.specs.Prelude.{◌≡◌, length};
 
-use super::made::{SHARD, damage_byte, fresh_drives, gave, id, plan, some_body};
-use crate::{ReadFaultKind, read_whole};
+use super::made::{
+    SHARD, damage_byte, fresh_drives, plan, read_by_steps, some_body, stage, steps_give,
+};
+use crate::ReadFaultKind;
 use call_types::{Why, Whys};
 use drive_base::Drive;
 use drive_memory::MemDrive;
-use put_stage::stage_whole;
 use seal_file::Damage;
 use sha2::{Digest, Sha256};
 use std::alloc::Global;
@@ -52,76 +53,67 @@ fn digest_of(
     Ok(Sha256::digest(&bytes))
 }
 
-/// What a read of so many bytes of a body answers after these blocks of the drives were damaged. Each becomes its
-/// drive's cause.
-fn answer_after(
+/// No drive of four.
+const NONE: usize = 4;
+
+/// The blocks of drives that are damaged, how many bytes are read, and whether they come.
+const DAMAGES: [([(usize, Block); 3], usize, bool); 8] = [
+    // A drive with a bad block of one stripe gives that of the other.
+    ([(0, FIRST), (1, SECOND), (2, SECOND)], LONG, true),
+    ([(0, SECOND), (1, FIRST), (2, FIRST)], LONG, true),
+    // Two bad blocks of a stripe leave it, and three are told.
+    ([(0, FIRST), (2, FIRST), (NONE, FIRST)], LONG, true),
+    ([(0, FIRST), (2, FIRST), (3, FIRST)], LONG, false),
+    ([(0, SECOND), (2, SECOND), (NONE, SECOND)], LONG, true),
+    ([(0, SECOND), (2, SECOND), (3, SECOND)], LONG, false),
+    // A stripe beyond the length is not read.
+    ([(0, SECOND), (1, SECOND), (2, SECOND)], LONG - 1, true),
+    ([(0, SECOND), (1, SECOND), (2, SECOND)], 1, true),
+];
+
+/// Damages blocks of drives, and tells the cause that each drive has then.
+fn damage_blocks(
     alloc: Global,
-    body: &[u8],
-    long: u64,
     damages: &[(usize, Block)],
-    causes: &mut Whys,
-) -> Result<Result<Vec<u8>, ReadFaultKind>, Fail> {
-    if body.len() > 5_368_709_120 {
-        return Err("too long".into());
-    }
-    let mut drives = fresh_drives(alloc, 4)?;
-    let drives = drives.as_mut_slice();
-    let Ok(staged) = stage_whole(alloc, plan(4, 2), id(), "k/pic/a", body, None, drives) else {
-        return Err("not staged".into());
-    };
+    drives: &mut [MemDrive],
+) -> Result<Whys, Fail>
+    ensures { length drives.new ≡ length drives.old }
+{
+    let mut causes = Whys::all_good(4);
     for (at, block) in damages {
-        let stored = digest_of(alloc, drives, *at, *block)?;
-        damage_byte(alloc, drives, *at, block.at)?;
-        let computed = digest_of(alloc, drives, *at, *block)?;
         if *at < causes.len() {
+            let stored = digest_of(alloc, drives, *at, *block)?;
+            damage_byte(alloc, drives, *at, block.at)?;
+            let computed = digest_of(alloc, drives, *at, *block)?;
             causes.set(*at, Why::Damaged(Damage::Digest { stored, computed }));
         }
     }
-    Ok(read_whole(alloc, plan(4, 2), staged.print, id(), long, drives))
+    Ok(causes)
 }
 
-#[test]
-fn a_drive_with_a_bad_block_of_one_stripe_gives_that_of_the_next(
-    rt: HostRuntime,
-) -> Result<(), Fail> {
-    let body = some_body(rt.alloc(), LONG)?;
-    let mut causes = Whys::all_good(4);
-    let damages = [(0, FIRST), (1, SECOND), (2, SECOND)];
-    let answer = answer_after(rt.alloc(), &body, LONG as u64, &damages, &mut causes)?;
-    assert!(rt; gave(answer, &body));
-    let damages = [(0, SECOND), (1, FIRST), (2, FIRST)];
-    let answer = answer_after(rt.alloc(), &body, LONG as u64, &damages, &mut causes)?;
-    assert!(rt; gave(answer, &body));
-    Ok(())
-}
-
-#[test]
-fn two_bad_blocks_of_a_stripe_leave_it_and_three_are_told(rt: HostRuntime) -> Result<(), Fail> {
-    let body = some_body(rt.alloc(), LONG)?;
-    for block in [FIRST, SECOND] {
-        let mut causes = Whys::all_good(4);
-        let damages = [(0, block), (2, block)];
-        let answer = answer_after(rt.alloc(), &body, LONG as u64, &damages, &mut causes)?;
-        assert!(rt; gave(answer, &body));
-        let mut causes = Whys::all_good(4);
-        let damages = [(0, block), (2, block), (3, block)];
-        let answer = answer_after(rt.alloc(), &body, LONG as u64, &damages, &mut causes)?;
-        assert_eq!(rt; answer.err(), Some(ReadFaultKind::ShardQuorum(causes)));
+/// Whether a body of which blocks are damaged comes, or else is refused with the causes of its drives.
+fn answers(
+    alloc: Global,
+    damages: &[(usize, Block)],
+    long: usize,
+    comes: bool,
+) -> Result<bool, Fail> {
+    let body = some_body(alloc, LONG)?;
+    let due = some_body(alloc, long)?;
+    let mut drives = fresh_drives(alloc, 4)?;
+    let print = stage(alloc, plan(4, 2), &body, &mut drives)?;
+    let causes = damage_blocks(alloc, damages, &mut drives)?;
+    if comes {
+        return Ok(steps_give(alloc, plan(4, 2), print, &due, &mut drives));
     }
-    Ok(())
+    let answer = read_by_steps(alloc, plan(4, 2), print, (0, LONG as u32), &mut drives);
+    Ok(answer.err() == Some(ReadFaultKind::ShardQuorum(causes)))
 }
 
 #[test]
-fn a_stripe_beyond_the_length_is_not_read(rt: HostRuntime) -> Result<(), Fail> {
-    let body = some_body(rt.alloc(), LONG)?;
-    let mut causes = Whys::all_good(4);
-    let damages = [(0, SECOND), (1, SECOND), (2, SECOND)];
-    for long in [1, LONG - 1] {
-        let front = some_body(rt.alloc(), long)?;
-        let answer = answer_after(rt.alloc(), &body, long as u64, &damages, &mut causes)?;
-        assert!(rt; gave(answer, &front));
+fn each_stripe_is_read_from_the_drives_whose_block_is_whole(rt: HostRuntime) -> Result<(), Fail> {
+    for (damages, long, comes) in DAMAGES {
+        assert!(rt; answers(rt.alloc(), &damages, long, comes)?);
     }
-    let answer = answer_after(rt.alloc(), &body, LONG as u64, &damages, &mut causes)?;
-    assert_eq!(rt; answer.err(), Some(ReadFaultKind::ShardQuorum(causes)));
     Ok(())
 }

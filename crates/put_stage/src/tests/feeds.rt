@@ -5,11 +5,15 @@ ghost use Rattle.std.specs.Prelude.{◌≡◌, ◌+◌, ◌≤◌, None, length}
 use crate::{Stage, StageFault, StageNext, Staged};
 use call_types::{Cut, Feed};
 use drive_base::Drive;
+use drive_memory::ScriptedDrive;
 use std::alloc::Global;
 use std::test::Fail;
 
 /// The most steps that a stage of these tests takes.
 const MOST_STEPS: u32 = 1000;
+
+/// The number of no step: nobody else is at work.
+pub const NEVER: u32 = u32::MAX;
 
 /// A feed that has some bytes of a body, and then ends or fails.
 #[derive(Drop)]
@@ -65,23 +69,28 @@ impl Feed for TestFeed {
     }
 }
 
-/// What another writer does on each drive: a file of another name is made and put in place.
-fn disturb<D: Drive>(drives: &mut [D]) -> Result<(), Fail> {
+/// What others do on drives between two calls: a file of another name is made, put in place and hurt, and the drive is lost
+/// and back.
+fn disturb(drives: &mut [ScriptedDrive]) -> Result<(), Fail> {
     for drive in drives.iter_mut() {
-        drive.append("other", b"+")?;
-        drive.sync("other")?;
-        drive.rename("other", "m/other")?;
+        let behind = drive.behind();
+        behind.append("other", b"+")?;
+        behind.sync("other")?;
+        behind.rename("other", "m/other")?;
+        let _ = behind.hurt("m/other", 0);
+        behind.lose();
+        behind.back();
     }
     Ok(())
 }
 
-/// Runs a stage to its end, alone or with another writer between every two steps.
-pub fn run<D: Drive>(
+/// Runs a stage to its end, with others at work before the step of this number.
+pub fn run(
     alloc: Global,
     stage: Stage,
     feed: TestFeed,
-    drives: &mut [D],
-    alone: bool,
+    drives: &mut [ScriptedDrive],
+    place: u32,
 ) -> Result<Result<Staged, StageFault>, Fail>
     requires drives { length drives.old ≡ stage.load.set.drives }
     requires feed { (⟦<TestFeed as Feed>⟧.seen feed).given + stage.load.left ≡ (⟦<TestFeed as Feed>⟧.seen feed).stated }
@@ -89,6 +98,9 @@ pub fn run<D: Drive>(
     let mut stage = stage;
     let mut feed = feed;
     for round in 0..MOST_STEPS {
+        if round == place {
+            disturb(drives)?;
+        }
         match stage.next() {
             StageNext::Fill => {
                 if let Err(fault) = stage.fill(alloc, &mut feed) {
@@ -97,9 +109,6 @@ pub fn run<D: Drive>(
             }
             StageNext::Step => stage.step(drives),
             StageNext::Finish => return Ok(stage.finish()),
-        }
-        if !alone {
-            disturb(drives)?;
         }
     }
     Err(Fail::new("it does not end"))

@@ -4,7 +4,7 @@ ghost use Rattle.std.specs.Prelude.{◌≡◌, IfOk, length};
 ghost use Rattle.manifest_file.specs.Canonical.{IsCanonical};
 
 use super::golden::*;
-use super::{SERVED, fresh_drives, id, in_mask, lose, lost, plan, shows, shows_no};
+use super::{SERVED, fresh_drives, id, in_mask, lose, plan, shows, shows_no};
 use crate::{StageFault, Staged, stage_manifest};
 use drive_base::DriveSet;
 use drive_memory::MemDrive;
@@ -74,17 +74,5 @@ fn a_manifest_goes_to_the_drives_that_answer(rt: HostRuntime) -> Result<(), Fail
         assert_eq!(rt; answer, Ok(parts_on(took)));
         assert_eq!(rt; that_show_it(rt.alloc(), &mut drives)?, in_mask(took));
     }
-    Ok(())
-}
-
-#[test]
-fn two_lost_drives_refuse_a_manifest(rt: HostRuntime) -> Result<(), Fail> {
-    let mut drives = fresh_drives(rt.alloc(), 4)?;
-    lose(&mut drives, 1);
-    lose(&mut drives, 2);
-    let fault = StageFault::WriteQuorum(lost(1, 2));
-    assert_eq!(rt; staged(rt.alloc(), 0, &mut drives)?, Err(fault));
-    // What was put in place stays.
-    assert_eq!(rt; that_show_it(rt.alloc(), &mut drives)?, in_mask(0b1001));
     Ok(())
 }

@@ -1,17 +1,17 @@
 //! Stages by one drive call a step.
 
-ghost use Rattle.std.specs.Prelude.{◌≡◌, ◌≤◌, IfOk, length};
+ghost use Rattle.std.specs.Prelude.{◌≡◌, ◌<◌, IfOk, length};
 
-use super::feeds::{TestFeed, run};
+use super::feeds::{NEVER, TestFeed, run};
 use super::golden::*;
 use super::manifests::{golden_manifest, parts_on};
-use super::sets::{body_of, digest_of_files};
 use super::whole::hello_on;
-use super::{SERVED, fresh_drives, id, in_mask, lost, plan, shows_no};
+use super::{SERVED, id, in_mask, lost, plan, shown, shows_no};
 use crate::{Stage, StageFault, Staged};
 use call_types::Feed;
 use drive_base::{Drive, SetPlan};
 use drive_memory::{Calls, Script, ScriptedDrive, Voice};
+use sha2::{Digest, Sha256};
 use std::alloc::{AllocError, Global};
 use std::test::Fail;
 
@@ -34,10 +34,37 @@ const CALLS_OF: [(u32, (u64, u64, u64)); 4] = [
     (1048577, (4, 2, 2)),
 ];
 
+/// The SHA-256 of the files of a body of five bytes on four drives, as in `STAGES`.
+const FIVE_FILES: &str = "f6b5c3ed4fe1a0ba76ae8ecd0a3a54a7e5295d2cf5ea65d784dc2d7abb647520";
+
+/// The print of that body.
+const FIVE_PRINT: &str = "a3ddf7734d438195880eaa6858f8af89b25fe536b2bd6275272d0c3035406e86";
+
 /// The MD5 of the body of 1,048,577 bytes of which byte i is i mod 251.
 const LONG_MD5: [u8; 16] = [
     0x79, 0xb6, 0x7c, 0x7f, 0xbf, 0x43, 0xb7, 0x6e, 0x5b, 0x7f, 0x18, 0x23, 0x28, 0xbd, 0xc4, 0xb6,
 ];
+
+/// A body of so many bytes, of which byte i is i mod 251.
+fn body_of(alloc: Global, count: u32) -> Result<Vec<u8>, AllocError>
+    ensures { IfOk result (λ body. length body.items ≡ count) }
+{
+    let mut body = Vec::with_capacity(alloc, count as usize)?;
+    for i in 0..count {
+        body.push((i % 251) as u8)?;
+    }
+    Ok(body)
+}
+
+/// The hex digits of the SHA-256 of the files of all drives, on each the shard file and then the manifest.
+fn digest_of_files(alloc: Global, drives: &mut [ScriptedDrive]) -> Result<String, Fail> {
+    let mut hasher = Sha256::new();
+    for drive in drives.iter_mut() {
+        hasher.update(shown(alloc, drive.behind(), SHARD)?.as_slice());
+        hasher.update(shown(alloc, drive.behind(), MANIFEST)?.as_slice());
+    }
+    Ok(hex::encode(alloc, hasher.finalize())?)
+}
 
 /// So many calls of `append`, `sync` and `rename`.
 fn calls((append, sync, rename): (u64, u64, u64)) -> Calls {
@@ -64,55 +91,92 @@ fn scripted(alloc: Global, scripts: [Script; 4]) -> Result<Vec<ScriptedDrive>, A
     Ok(drives)
 }
 
-/// What a stage of a body of so many bytes answers, alone or with another writer between every two steps.
-fn staged<D: Drive>(
-    alloc: Global,
-    set: SetPlan,
-    feed: TestFeed,
-    size: u64,
-    md5: Option<[u8; 16]>,
-    drives: &mut [D],
-    alone: bool,
-) -> Result<Result<Staged, StageFault>, Fail>
-    requires drives { length drives.old ≡ set.drives }
-    requires few { size ≤ 5368709120 }
-    requires stated { (⟦<TestFeed as Feed>⟧.seen feed).stated ≡ size }
-    requires given { (⟦<TestFeed as Feed>⟧.seen feed).given ≡ 0 }
+/// So many drives that tell, of which no call fails.
+fn passing(alloc: Global, count: u8) -> Result<Vec<ScriptedDrive>, AllocError>
+    ensures { IfOk result (λ drives. length drives.items ≡ count) }
 {
-    let stage = Stage::new(alloc, set, id(), "k/pic/a", size, md5)?;
-    run(alloc, stage, feed, drives, alone)
+    let mut drives = Vec::new(alloc);
+    for made in 0..count {
+        drives.push(ScriptedDrive::new(alloc, Voice::Tells, Script::Pass))?;
+    }
+    Ok(drives)
 }
 
-/// What a stage of `hello` answers.
+/// What a stage of a body of so many bytes answers, with others at work before the step of this number.
+fn staged(
+    alloc: Global,
+    set: SetPlan,
+    bytes: u32,
+    md5: Option<[u8; 16]>,
+    drives: &mut [ScriptedDrive],
+    place: u32,
+) -> Result<Result<Staged, StageFault>, Fail>
+    requires { length drives.old ≡ set.drives }
+{
+    let feed = TestFeed::new(body_of(alloc, bytes)?, bytes as usize, false);
+    let stage = Stage::new(alloc, set, id(), "k/pic/a", bytes as u64, md5)?;
+    run(alloc, stage, feed, drives, place)
+}
+
+/// What a stage of the bytes of `hello` that come, of 5, answers.
 fn staged_hello(
     alloc: Global,
-    md5: [u8; 16],
+    come: &[u8],
+    breaks: bool,
     drives: &mut [ScriptedDrive],
 ) -> Result<Result<Staged, StageFault>, Fail>
     requires { length drives.old ≡ 4 }
 {
-    let feed = TestFeed::new(Vec::from_slice(alloc, b"hello")?, 5, false);
-    staged(alloc, plan(0), feed, 5, Some(md5), drives, true)
+    let feed = TestFeed::new(Vec::from_slice(alloc, come)?, 5, breaks);
+    let stage = Stage::new(alloc, plan(0), id(), "k/pic/a", 5, Some(HELLO_MD5))?;
+    run(alloc, stage, feed, drives, NEVER)
+}
+
+/// Whether a body of so many bytes goes to the drives of this mask as files of this SHA-256 with this print, with others at
+/// work before the step of this number.
+fn goes_as(
+    alloc: Global,
+    set: SetPlan,
+    bytes: u32,
+    (took, files, print): (u16, &str, &str),
+    place: u32,
+) -> Result<bool, Fail> {
+    let mut drives = passing(alloc, set.drives)?;
+    let Ok(staged) = staged(alloc, set, bytes, None, &mut drives, place)? else {
+        return Ok(false);
+    };
+    Ok(
+        staged.took.mask() == took
+            && staged.length == bytes as u64
+            && hex::encode(alloc, staged.print)?.as_str() == print
+            && digest_of_files(alloc, &mut drives)?.as_str() == files,
+    )
 }
 
 #[test]
-fn files_are_those_of_whole_bodies(rt: HostRuntime) -> Result<(), Fail> {
-    for (count, _, bytes, files, print) in STAGES {
-        if count == 4 {
-            for alone in [true, false] {
-                let mut drives = fresh_drives(rt.alloc(), 4)?;
-                let feed = TestFeed::new(body_of(rt.alloc(), bytes)?, bytes as usize, false);
-                let size = bytes as u64;
-                let answer = staged(rt.alloc(), plan(0), feed, size, None, &mut drives, alone)?;
-                let Ok(staged) = answer else {
-                    return Err(Fail::new("it is not staged"));
-                };
-                assert_eq!(rt; in_mask(staged.took.mask()), [true; 4]);
-                assert_eq!(rt; staged.length, size);
-                assert_eq!(rt; hex::encode(rt.alloc(), staged.print)?.as_str(), print);
-                assert_eq!(rt; digest_of_files(rt.alloc(), &mut drives)?.as_str(), files);
-            }
-        }
+fn files_and_prints_of_each_set(rt: HostRuntime) -> Result<(), Fail> {
+    for (count, parity, bytes, files, print) in STAGES {
+        assert!(rt; count >= 4 && count <= 16 && parity >= 1 && parity <= count / 2);
+        let set = SetPlan::new([7; 16], count, parity);
+        let took = u16::MAX >> (16 - count);
+        assert!(rt; goes_as(rt.alloc(), set, bytes, (took, files, print), NEVER)?);
+    }
+    Ok(())
+}
+
+#[test]
+fn others_at_work_between_two_steps_leave_the_files(rt: HostRuntime) -> Result<(), Fail> {
+    // A fill, seven calls on each of four drives, and the answer.
+    for place in 0..30u32 {
+        assert!(rt;
+            goes_as(
+                rt.alloc(),
+                plan(0),
+                5,
+                (0b1111, FIVE_FILES, FIVE_PRINT),
+                place
+            )?
+        );
     }
     Ok(())
 }
@@ -121,10 +185,8 @@ fn files_are_those_of_whole_bodies(rt: HostRuntime) -> Result<(), Fail> {
 fn each_step_is_one_call(rt: HostRuntime) -> Result<(), Fail> {
     for (bytes, each) in CALLS_OF {
         let mut drives = scripted(rt.alloc(), [Script::Pass; 4])?;
-        let feed = TestFeed::new(body_of(rt.alloc(), bytes)?, bytes as usize, false);
-        let size = bytes as u64;
         // Drive 2 is out.
-        let answer = staged(rt.alloc(), plan(4), feed, size, None, &mut drives, true)?;
+        let answer = staged(rt.alloc(), plan(4), bytes, None, &mut drives, NEVER)?;
         assert!(rt; answer.is_ok());
         for (place, drive) in drives.iter().enumerate() {
             let expected = if place == 2 { (0, 0, 0) } else { each };
@@ -134,55 +196,64 @@ fn each_step_is_one_call(rt: HostRuntime) -> Result<(), Fail> {
     Ok(())
 }
 
+/// Whether a stage of `hello` goes to the drives but one, of which the call of this number fails after so many calls.
+fn passes_over(
+    alloc: Global,
+    place: usize,
+    first: u64,
+    up_to: (u64, u64, u64),
+) -> Result<bool, Fail>
+    requires { place < 4 }
+{
+    let mut scripts = [Script::Pass; 4];
+    scripts[place] = Script::Calls { first, count: 1 };
+    let mut drives = scripted(alloc, scripts)?;
+    let answer = staged_hello(alloc, b"hello", false, &mut drives)?;
+    let mut as_due = answer == Ok(hello_on(0b1111 ^ (1 << place)));
+    for (other, drive) in drives.iter().enumerate() {
+        let expected = if other == place { up_to } else { (3, 2, 2) };
+        as_due = as_due && drive.calls() == calls(expected);
+    }
+    Ok(as_due)
+}
+
 #[test]
 fn a_drive_that_failed_is_called_no_more(rt: HostRuntime) -> Result<(), Fail> {
     for place in 0..4usize {
-        for (first, up_to) in CALLS_UP_TO.into_iter().enumerate() {
-            let fails = Script::Calls {
-                first: first as u64,
-                count: 1,
-            };
-            let mut scripts = [Script::Pass; 4];
-            scripts[place] = fails;
-            let mut drives = scripted(rt.alloc(), scripts)?;
-            let answer = staged_hello(rt.alloc(), HELLO_MD5, &mut drives)?;
-            assert_eq!(rt; answer, Ok(hello_on(0b1111 ^ (1 << place))));
-            for (other, drive) in drives.iter().enumerate() {
-                let expected = if other == place { up_to } else { (3, 2, 2) };
-                assert_eq!(rt; drive.calls(), calls(expected));
-            }
-            // Two such drives are too many.
-            let next = (place + 1) % 4;
-            scripts[next] = fails;
-            let mut drives = scripted(rt.alloc(), scripts)?;
-            let answer = staged_hello(rt.alloc(), HELLO_MD5, &mut drives)?;
-            assert_eq!(rt; answer, Err(StageFault::WriteQuorum(lost(place, next))));
+        let mut first = 0;
+        for up_to in CALLS_UP_TO {
+            assert!(rt; passes_over(rt.alloc(), place, first, up_to)?);
+            first = first.wrapping_add(1);
         }
     }
     Ok(())
 }
 
 #[test]
-fn another_md5_puts_nothing_in_place(rt: HostRuntime) -> Result<(), Fail> {
-    let fails = Script::Calls { first: 0, count: 1 };
-    // With two drives that fail there are too few as well.
-    for scripts in [
-        [Script::Pass; 4],
-        [fails, fails, Script::Pass, Script::Pass],
-    ] {
+fn two_drives_that_failed_are_too_many(rt: HostRuntime) -> Result<(), Fail> {
+    for first in 0..7u64 {
+        let fails = Script::Calls { first, count: 1 };
+        let scripts = [fails, Script::Pass, fails, Script::Pass];
         let mut drives = scripted(rt.alloc(), scripts)?;
-        let feed = TestFeed::new(body_of(rt.alloc(), 1048577)?, 1048577, false);
-        let md5 = Some(EMPTY_MD5);
-        let answer = staged(rt.alloc(), plan(0), feed, 1048577, md5, &mut drives, true)?;
-        let fault = StageFault::BadDigest {
-            stated: EMPTY_MD5,
-            computed: LONG_MD5,
-        };
-        assert_eq!(rt; answer, Err(fault));
-        for drive in drives.iter_mut() {
-            assert_eq!(rt; drive.calls(), calls((1, 0, 0)));
-            assert!(rt; shows_no(drive.behind(), SHARD) && shows_no(drive.behind(), MANIFEST));
-        }
+        let answer = staged_hello(rt.alloc(), b"hello", false, &mut drives)?;
+        assert_eq!(rt; answer, Err(StageFault::WriteQuorum(lost(0, 2))));
+    }
+    Ok(())
+}
+
+#[test]
+fn another_md5_puts_nothing_in_place(rt: HostRuntime) -> Result<(), Fail> {
+    let mut drives = scripted(rt.alloc(), [Script::Pass; 4])?;
+    let md5 = Some(EMPTY_MD5);
+    let answer = staged(rt.alloc(), plan(0), 1048577, md5, &mut drives, NEVER)?;
+    let fault = StageFault::BadDigest {
+        stated: EMPTY_MD5,
+        computed: LONG_MD5,
+    };
+    assert_eq!(rt; answer, Err(fault));
+    for drive in drives.iter_mut() {
+        assert_eq!(rt; drive.calls(), calls((1, 0, 0)));
+        assert!(rt; shows_no(drive.behind(), SHARD) && shows_no(drive.behind(), MANIFEST));
     }
     Ok(())
 }
@@ -190,9 +261,8 @@ fn another_md5_puts_nothing_in_place(rt: HostRuntime) -> Result<(), Fail> {
 #[test]
 fn a_body_that_does_not_come_whole_is_refused(rt: HostRuntime) -> Result<(), Fail> {
     for (breaks, fault) in [(false, StageFault::BodyCut), (true, StageFault::ReadFault)] {
-        let mut drives = fresh_drives(rt.alloc(), 4)?;
-        let feed = TestFeed::new(Vec::from_slice(rt.alloc(), b"hel")?, 5, breaks);
-        let answer = staged(rt.alloc(), plan(0), feed, 5, None, &mut drives, true)?;
+        let mut drives = scripted(rt.alloc(), [Script::Pass; 4])?;
+        let answer = staged_hello(rt.alloc(), b"hel", breaks, &mut drives)?;
         assert_eq!(rt; answer, Err(fault));
     }
     Ok(())
@@ -209,7 +279,7 @@ fn a_manifest_alone_takes_three_calls(rt: HostRuntime) -> Result<(), Fail> {
         let manifest = golden_manifest(rt.alloc())?;
         let stage = Stage::of_manifest(rt.alloc(), plan(out), id(), manifest, [9; 16])?;
         let feed = TestFeed::new(Vec::new(rt.alloc()), 0, false);
-        let answer = run(rt.alloc(), stage, feed, &mut drives, true)?;
+        let answer = run(rt.alloc(), stage, feed, &mut drives, NEVER)?;
         assert_eq!(rt; answer, Ok(parts_on(took)));
         for (drive, holds) in drives.iter().zip(in_mask(took)) {
             if holds {

@@ -3,9 +3,9 @@
 ghost use Rattle.std.specs.Prelude.{◌≡◌, ◌≤◌, length};
 
 use super::golden::*;
-use super::{SERVED, fresh_drives, id, in_mask, lose, lost, plan, shows, shows_no};
+use super::{SERVED, fresh_drives, id, in_mask, lose, plan, shows};
 use crate::{StageFault, Staged, stage_whole};
-use drive_base::{Drive, DriveSet};
+use drive_base::DriveSet;
 use drive_memory::MemDrive;
 use std::alloc::Global;
 use std::test::Fail;
@@ -38,11 +38,6 @@ fn that_show_hello(alloc: Global, drives: &mut [MemDrive]) -> Result<[bool; 4], 
         }
     }
     Ok(shown)
-}
-
-/// Whether a drive, which is back, shows neither file.
-fn shows_none(drive: &mut MemDrive) -> bool {
-    shows_no(drive, SHARD) && shows_no(drive, MANIFEST)
 }
 
 /// The answer to `hello` with this mask of the drives that took all.
@@ -78,35 +73,6 @@ fn the_worked_rows_are_the_blocks_of_the_files(rt: HostRuntime) -> Result<(), Fa
         for (drive, file) in drives.iter_mut().zip(files) {
             assert!(rt; shows(rt.alloc(), drive, SHARD, &file)?);
         }
-    }
-    Ok(())
-}
-
-#[test]
-fn two_lost_drives_are_too_many(rt: HostRuntime) -> Result<(), Fail> {
-    let mut drives = fresh_drives(rt.alloc(), 4)?;
-    lose(&mut drives, 0);
-    lose(&mut drives, 3);
-    let answer = staged(rt.alloc(), 0, b"hello", None, &mut drives);
-    assert_eq!(rt; answer, Err(StageFault::WriteQuorum(lost(0, 3))));
-    // What was put in place stays.
-    assert_eq!(rt; that_show_hello(rt.alloc(), &mut drives)?, in_mask(0b0110));
-    Ok(())
-}
-
-#[test]
-fn another_md5_calls_no_drive(rt: HostRuntime) -> Result<(), Fail> {
-    let mut drives = fresh_drives(rt.alloc(), 4)?;
-    lose(&mut drives, 0);
-    let answer = staged(rt.alloc(), 0, b"hello", Some(EMPTY_MD5), &mut drives);
-    let fault = StageFault::BadDigest {
-        stated: EMPTY_MD5,
-        computed: HELLO_MD5,
-    };
-    assert_eq!(rt; answer, Err(fault));
-    for drive in drives.iter_mut() {
-        assert_eq!(rt; drive.faults(), 0);
-        assert!(rt; shows_none(drive));
     }
     Ok(())
 }

@@ -1,7 +1,7 @@
 use Rattle.std.proofs.Common.{rules, ◌≡◌, ◌+◌, ◌<◌, ◌∙◌, ℕ, List, [], ◌++◌, length, slice_index, slice_index_or, take, drop, ◌≤◌, ap, sym, subst, arith}
 use Rattle.std.specs.List.{concat}
 use Rattle.std.proofs.Math.Seq.{take-append-add}
-use Rattle.std.proofs.lemmas.List.{append_assoc, append-nil, take_all}
+use Rattle.std.proofs.lemmas.List.{append_assoc, append-nil, take-append-le, take-take, take_all}
 use Rattle.std.proofs.Math.ListN.{drop_of_length-le}
 use Rattle.drive_base.specs.Plan.{data_drives}
 use Rattle.poly_code.specs.Codeword.{IsOfCodeword}
@@ -41,6 +41,8 @@ loop-which-preserved c =
     record {
       out = search rules;
       long = search rules;
+      kept = ap (take (length c.args.body.now.items)) gained
+          ∙ take-append-le (length c.args.body.now.items) c.loop-which.body.items c.as_slice-in-loop-which-2.result.now (omega (arith, inv.long)) ∙ inv.kept;
       front = λ stripe shards is are same.
           let block : new ≡ slice_index_or shards which [] =
           rebuilt_block n d size which rows bytes new stripe shards (omega arith) c.requires.rows c.requires.below c.requires.distinct (omega arith)
@@ -67,3 +69,10 @@ returns-clause-stripe c = λ ok stripe shards is are same.
     ∙ ap (λ (m : ℕ). old ++ take m (concat (take d shards))) (sym is)
     ∙ ap (λ (blocks : List (List ℕ)). old ++ take (length stripe) (concat blocks)) are.front
     ∙ ap (λ (bytes : List ℕ). old ++ bytes) (data_blocks_are_the_stripe d stripe (omega arith))
+
+pub returns-clause-kept : goal.returns-clause-kept
+returns-clause-kept c = λ ok.
+    let old = c.args.body.now.items in
+    let begin : c.len.result ≡ length old = search rules in
+    ap (take (length old)) c.truncate.ensures.items
+    ∙ take-take (length old) (c.len.result + c.args.long) c.loop-which.body.items (omega (arith, begin)) ∙ c.loop-which.invariant.kept

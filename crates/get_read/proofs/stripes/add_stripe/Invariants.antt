@@ -10,6 +10,7 @@ abbrev pub invariant-loop-which : goal.invariant-loop-which
 invariant-loop-which l = record {
   out : length l.out.items ≡ l.size;
   long : length l.body.items ≡ length l.initial.body.items + l.which * l.size;
+  kept : take (length l.initial.body.items) l.body.items ≡ l.initial.body.items;
   front : (stripe : List ℕ) (shards : List (List ℕ)) → length stripe ≡ l.long
       → AreStripeBlocks l.set.drives (data_drives l.set.drives l.set.parity) stripe shards
       → ((j : ℕ) → j < length l.blocks.rows.items → piece l.size l.blocks.bytes.items j ≡ slice_index_or shards (slice_index l.blocks.rows.items j) [])

@@ -1,4 +1,4 @@
-use Rattle.std.proofs.Common.{◌≡◌, ◌∙◌, sym}
+use Rattle.std.proofs.Common.{◌≡◌, ◌∙◌, refl, sym}
 use Rattle.drive_base.proofs.ViewLemmas.{untouched_are_only_read}
 use Rattle.drive_base.specs.View.{views}
 use Rattle.get_read.specs.declared.state.State.TheVariants.{Searching, Fetching, Ended, Refused}
@@ -36,3 +36,19 @@ returns-in-Refused-clause-steps g c =
 
 pub returns-in-Refused-clause-read : goal.returns-in-Refused-clause-read
 returns-in-Refused-clause-read g c = untouched_are_only_read (views g.D.Drive c.args.drives.now)
+
+pub returns-in-Searching-clause-fewer : goal.returns-in-Searching-clause-fewer
+returns-in-Searching-clause-fewer g c =
+    let is : c.args.self.now.state ≡ Searching c.in-Searching.search = sym c.replace-state.ensures.value ∙ c.in-Searching.is in
+    rw is c.search.ensures.fewer
+
+pub returns-in-Fetching-clause-fewer : goal.returns-in-Fetching-clause-fewer
+returns-in-Fetching-clause-fewer g c =
+    let is : c.args.self.now.state ≡ Fetching c.in-Fetching.fetching = sym c.replace-state.ensures.value ∙ c.in-Fetching.is in
+    rw is c.fetch.ensures.fewer
+
+pub returns-in-Ended-clause-fewer : goal.returns-in-Ended-clause-fewer
+returns-in-Ended-clause-fewer g c = rw (c.end.ensures.state, c.end.ensures.step) refl
+
+pub returns-in-Refused-clause-fewer : goal.returns-in-Refused-clause-fewer
+returns-in-Refused-clause-fewer g c = rw (c.refuse.ensures.state, c.refuse.ensures.fault) refl

@@ -1,124 +1,15 @@
-use Rattle.std.proofs.Common.{rules, ◌<◌, ◌≡◌, ◌∙◌, ◌*◌, ℕ, ap, length, refl, slice_index_or, arith}
-use Rattle.std.specs.Prelude.{Err}
-use Rattle.shard_file.specs.Stripes.{stripe_count, stripe_length}
-use Rattle.get_read.specs.declared.faults.ReadFaultKind.TheVariants.{NoMemory}
-use Rattle.get_read.proofs.OneCallLemmas.{again, only_read_at}
-use Rattle.get_read.proofs.StepLemmas.{any_part, fetch_added, fetch_holds, fetch_idle, fetch_over, fetch_passed, fetch_unkept}
+use Rattle.std.proofs.Common.{◌≡◌, ◌∙◌, ◌+◌, ap, refl, sym}
+use Rattle.std.specs.Prelude.{None, Some}
+use Rattle.get_read.proofs.WindowStepLemmas.{steps_of_stripe, steps_of_window}
 use Rattle.get_read.proofs.state.Fetching.step.Goals as goal
 
-pub returns-then-self-set-clause-steps : goal.returns-then-self-set-clause-steps
-returns-then-self-set-clause-steps g c =
-    let old = c.args.self.now in
-    let long : c.min-long.result ≡ stripe_length old.part.long old.work.stripe = omega arith in
-    fetch_over g.D.Drive old _ c.judge.result c.args.drives.now (omega arith) (record { asked = refl; manifest = refl; at = refl; part = refl })
-    (rw long at c.judge.ensures.judges) c.judge.ensures.tried c.judge.ensures.stripe c.judge.ensures.same_size
+pub returns-in-Some-clause-steps : goal.returns-in-Some-clause-steps
+returns-in-Some-clause-steps g c =
+    let is : c.args.self.now.ahead ≡ Some c.in-Some.window = sym c.replace.ensures.value ∙ c.in-Some.is in
+    steps_of_window g.D.Drive c.args.self.now _ c.step_window.new.self c.in-Some.window c.step_window.result c.args.drives.now c.step_window.new.drives
+    (record { asked = refl; manifest = refl; at = refl; part = refl; work = refl }) c.replace.ensures.after is c.step_window.ensures.steps
 
-pub returns-in-Ok-Table-clause-steps : goal.returns-in-Ok-Table-clause-steps
-returns-in-Ok-Table-clause-steps g c =
-    let old = c.args.self.now in
-    let k = c.args.self.now.work.tried in
-    let low : k < length c.args.drives.now = omega (arith, c.requires) in
-    let was = slice_index_or c.args.drives.now k c.index-drives-self.result in
-    let is = again c.args.drives.now k c.index-drives-self.result low in
-    fetch_holds g.D.Drive old _ c.in-Ok-Table.table c.args.drives.now was c.call.new.drive low is
-    (omega arith) refl refl refl c.hold.ensures.place refl c.hold.ensures.tables (rw c.in-Ok-Table.field-0-is at c.in-Ok-Table.ensures.called)
-
-pub returns-in-Ok-Table-clause-read : goal.returns-in-Ok-Table-clause-read
-returns-in-Ok-Table-clause-read g c =
-    let k = c.args.self.now.work.tried in
-    let low : k < length c.args.drives.now = omega (arith, c.requires) in
-    let was = slice_index_or c.args.drives.now k c.index-drives-self.result in
-    let is = again c.args.drives.now k c.index-drives-self.result low in
-    only_read_at g.D.Drive k c.args.drives.now was c.call.new.drive low is c.call.ensures.read
-
-pub returns-in_err-add-in-Ok-Block-clause-steps : goal.returns-in_err-add-in-Ok-Block-clause-steps
-returns-in_err-add-in-Ok-Block-clause-steps g c =
-    let old = c.args.self.now in
-    let k = c.args.self.now.work.tried in
-    let low : k < length c.args.drives.now = omega (arith, c.requires) in
-    let was = slice_index_or c.args.drives.now k c.index-drives-self.result in
-    let is = again c.args.drives.now k c.index-drives-self.result low in
-    let ends : c.from_residual.result ≡ Err NoMemory = search rules in
-    rw ends (fetch_unkept g.D.Drive old _ c.in-Ok-Block.fetched c.args.drives.now was c.call.new.drive low is
-    (omega arith) (record { asked = refl; manifest = refl; at = refl; part = refl }) (rw c.in-Ok-Block.field-0-is at c.in-Ok-Block.ensures.called))
-
-pub returns-in_err-add-in-Ok-Block-clause-read : goal.returns-in_err-add-in-Ok-Block-clause-read
-returns-in_err-add-in-Ok-Block-clause-read g c =
-    let k = c.args.self.now.work.tried in
-    let low : k < length c.args.drives.now = omega (arith, c.requires) in
-    let was = slice_index_or c.args.drives.now k c.index-drives-self.result in
-    let is = again c.args.drives.now k c.index-drives-self.result low in
-    only_read_at g.D.Drive k c.args.drives.now was c.call.new.drive low is c.call.ensures.read
-
-pub returns-in_ok-add-in-Ok-Block-clause-steps : goal.returns-in_ok-add-in-Ok-Block-clause-steps
-returns-in_ok-add-in-Ok-Block-clause-steps g c =
-    let old = c.args.self.now in
-    let k = c.args.self.now.work.tried in
-    let low : k < length c.args.drives.now = omega (arith, c.requires) in
-    let was = slice_index_or c.args.drives.now k c.index-drives-self.result in
-    let is = again c.args.drives.now k c.index-drives-self.result low in
-    let long : c.min-long.result ≡ stripe_length old.part.long old.work.stripe = omega arith in
-    let added = c.in_ok-add-in-Ok-Block.ensures in
-    fetch_added g.D.Drive old _ c.in-Ok-Block.fetched c.add.new.self c.judge-in-Ok-Block.result c.args.drives.now was c.call.new.drive low
-    is (omega arith) (record { asked = refl; manifest = refl; at = refl; part = refl }) (rw c.in-Ok-Block.field-0-is at c.in-Ok-Block.ensures.called)
-    added.letters added.rows added.stored added.bytes c.add.ensures.stripe c.add.ensures.same_size
-    (rw long at c.judge-in-Ok-Block.ensures.judges) c.judge-in-Ok-Block.ensures.tried c.judge-in-Ok-Block.ensures.stripe c.judge-in-Ok-Block.ensures.same_size
-
-pub returns-in_ok-add-in-Ok-Block-clause-read : goal.returns-in_ok-add-in-Ok-Block-clause-read
-returns-in_ok-add-in-Ok-Block-clause-read g c =
-    let k = c.args.self.now.work.tried in
-    let low : k < length c.args.drives.now = omega (arith, c.requires) in
-    let was = slice_index_or c.args.drives.now k c.index-drives-self.result in
-    let is = again c.args.drives.now k c.index-drives-self.result low in
-    only_read_at g.D.Drive k c.args.drives.now was c.call.new.drive low is c.call.ensures.read
-
-pub returns-in-Err-Because-clause-steps : goal.returns-in-Err-Because-clause-steps
-returns-in-Err-Because-clause-steps g c =
-    let old = c.args.self.now in
-    let k = c.args.self.now.work.tried in
-    let low : k < length c.args.drives.now = omega (arith, c.requires) in
-    let was = slice_index_or c.args.drives.now k c.index-drives-self.result in
-    let is = again c.args.drives.now k c.index-drives-self.result low in
-    let long : c.min-long.result ≡ stripe_length old.part.long old.work.stripe = omega arith in
-    fetch_passed g.D.Drive old _ c.in-Err-Because.why c.pass.new.self c.judge-in-Err-Because.result c.args.drives.now was c.call.new.drive low
-    is (omega arith) (record { asked = refl; manifest = refl; at = refl; part = refl }) (rw c.in-Err-Because.field-0-is at c.in-Err-Because.ensures.called)
-    c.pass.ensures.letters c.pass.ensures.found c.pass.ensures.stripe c.pass.ensures.size
-    (rw long at c.judge-in-Err-Because.ensures.judges) c.judge-in-Err-Because.ensures.tried c.judge-in-Err-Because.ensures.stripe c.judge-in-Err-Because.ensures.same_size
-
-pub returns-in-Err-Because-clause-read : goal.returns-in-Err-Because-clause-read
-returns-in-Err-Because-clause-read g c =
-    let k = c.args.self.now.work.tried in
-    let low : k < length c.args.drives.now = omega (arith, c.requires) in
-    let was = slice_index_or c.args.drives.now k c.index-drives-self.result in
-    let is = again c.args.drives.now k c.index-drives-self.result low in
-    only_read_at g.D.Drive k c.args.drives.now was c.call.new.drive low is c.call.ensures.read
-
-pub returns-in-Err-NoMemory-clause-steps : goal.returns-in-Err-NoMemory-clause-steps
-returns-in-Err-NoMemory-clause-steps g c =
-    let old = c.args.self.now in
-    let k = c.args.self.now.work.tried in
-    let low : k < length c.args.drives.now = omega (arith, c.requires) in
-    let was = slice_index_or c.args.drives.now k c.index-drives-self.result in
-    let is = again c.args.drives.now k c.index-drives-self.result low in
-    fetch_idle g.D.Drive old old c.args.drives.now was c.call.new.drive is (rw c.in-Err-NoMemory.field-0-is at c.in-Err-NoMemory.ensures.idle) refl refl refl refl
-
-pub returns-in-Err-NoMemory-clause-read : goal.returns-in-Err-NoMemory-clause-read
-returns-in-Err-NoMemory-clause-read g c =
-    let k = c.args.self.now.work.tried in
-    let low : k < length c.args.drives.now = omega (arith, c.requires) in
-    let was = slice_index_or c.args.drives.now k c.index-drives-self.result in
-    let is = again c.args.drives.now k c.index-drives-self.result low in
-    only_read_at g.D.Drive k c.args.drives.now was c.call.new.drive low is c.call.ensures.read
-
-pub add-requires-clause-size : goal.add-requires-clause-size
-add-requires-clause-size g c =
-    let old = c.args.self.now in
-    let fetches = (rw c.in-Ok-Block.field-0-is at c.in-Ok-Block.ensures.called) (any_part old.manifest.parts old.part.place old.in_manifest) in
-    fetches.size
-
-pub hold-requires-clause-long : goal.hold-requires-clause-long
-hold-requires-clause-long g c =
-    let old = c.args.self.now in
-    let d = any_part old.manifest.parts old.part.place old.in_manifest in
-    let shows = (rw c.in-Ok-Table.field-0-is at c.in-Ok-Table.ensures.called) d in
-    shows.size ∙ ap (λ (n : ℕ). 32 * stripe_count n) (old.part_long d)
+pub returns-in-None-clause-steps : goal.returns-in-None-clause-steps
+returns-in-None-clause-steps g c =
+    steps_of_stripe g.D.Drive c.args.self.now _ c.step_alone.new.self c.step_alone.result c.args.drives.now c.step_alone.new.drives
+    (record { asked = refl; manifest = refl; at = refl; part = refl; work = refl }) c.replace.ensures.after c.step_alone.ensures.steps

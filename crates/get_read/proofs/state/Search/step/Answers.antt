@@ -1,4 +1,9 @@
-use Rattle.std.proofs.Common.{◌<◌, length, refl, slice_index_or, arith}
+use Rattle.std.proofs.Common.{◌≡◌, ◌<◌, ap, length, refl, slice_index_or, arith}
+use Rattle.std.specs.Prelude.{None, Ok}
+use Rattle.manifest_file.specs.declared.manifest.Manifest.{Manifest}
+use Rattle.get_read.specs.Measure.{one_told}
+use Rattle.get_read.specs.Readers.{set_of}
+use Rattle.get_read.proofs.MeasureLemmas.{saved_now, search_past}
 use Rattle.get_read.proofs.OneCallLemmas.{again, only_read_at}
 use Rattle.get_read.proofs.SearchStepLemmas.{search_ends, search_finds, search_goes_past, search_left, search_over, search_sizes, search_without}
 use Rattle.get_read.proofs.state.Search.step.Goals as goal
@@ -106,3 +111,14 @@ returns-else-self-2-clause-read g c =
 
 pub returns-in-Ok-File-clause-suits : goal.returns-in-Ok-File-clause-suits
 returns-in-Ok-File-clause-suits g c = let call = rw c.in-Ok-File.field-0-is at c.in-Ok-File.ensures.called in (call.1, call.2)
+
+pub returns-in-Ok-Size-clause-fewer : goal.returns-in-Ok-Size-clause-fewer
+returns-in-Ok-Size-clause-fewer g c =
+    let old = c.args.self.now in
+    let call = rw c.in-Ok-Size.field-0-is at c.in-Ok-Size.ensures.called in
+    let none : one_told old.size ≡ 0 = ap one_told call.2 in
+    saved_now (set_of old.asked).drives old.tried (one_told old.size) 1 (omega arith) none refl
+
+pub returns-else-self-2-clause-fewer : goal.returns-else-self-2-clause-fewer
+returns-else-self-2-clause-fewer g c =
+    search_past {T = Manifest} (Ok None) c.args.self.now c.pass.new.self c.pass.ensures.asked c.pass.ensures.letters.past (omega arith)

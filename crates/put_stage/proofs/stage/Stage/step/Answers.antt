@@ -6,7 +6,8 @@ use Rattle.put_stage.specs.Dues.{after}
 use Rattle.put_stage.specs.Working.{due_at}
 use Rattle.put_stage.specs.declared.dues.Due.{Due}
 use Rattle.put_stage.specs.declared.dues.Due.TheVariants.{Block, Nothing}
-use Rattle.put_stage.proofs.StepLemmas.{step_works, stepped}
+use Rattle.put_stage.proofs.LeftLemmas.{fewer_after}
+use Rattle.put_stage.proofs.StepLemmas.{bad_letter, step_works, stepped}
 use Rattle.put_stage.proofs.stage.Stage.step.Goals as goal
 
 pub returns-in-Ok-clause-works : goal.returns-in-Ok-clause-works
@@ -44,3 +45,21 @@ returns-in-Err-clause-works g c =
     let same : due_at old k ≡ due = get_or_default old.dues k Nothing Block (omega (arith, places, c.in-Some.ensures.0.within, old.load.set.few_drives)) in
     step_works D.tells D.files D.count k old _ c.args.drives.now c.index-drives-index.result c.call_on.new.drive (Err c.in-Err.why) due
     places c.requires same c.in-Some.ensures.0 (c.set.ensures, refl) refl c.in-Err.ensures.works
+
+pub returns-in-Ok-clause-fewer : goal.returns-in-Ok-clause-fewer
+returns-in-Ok-clause-fewer g c = λ place is.
+    let old = c.args.self.now in
+    let k = c.in-Some.index in
+    let due : Due = slice_index_or old.dues k Block in
+    let places : length old.dues ≡ 16 = omega arith in
+    let same : due_at old k ≡ due = get_or_default old.dues k Nothing Block (omega (arith, places, c.in-Some.ensures.0.within, old.load.set.few_drives)) in
+    fewer_after (Ok c.in-Ok.field-0) k old _ places c.in-Some.ensures.0 (refl, ap (slice_set old.dues k) (c.after.ensures ∙ ap (after old.load.alone) (sym same))) refl
+    tt
+
+pub returns-in-Err-clause-fewer : goal.returns-in-Err-clause-fewer
+returns-in-Err-clause-fewer g c = λ place is.
+    let old = c.args.self.now in
+    let k = c.in-Some.index in
+    let places : length old.dues ≡ 16 = omega arith in
+    fewer_after (Err c.in-Err.why) k old _ places c.in-Some.ensures.0 (c.set.ensures, refl) refl
+    (bad_letter c.in-Err.why _ _ _ _ _ c.in-Err.ensures.letter)

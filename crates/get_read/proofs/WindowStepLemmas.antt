@@ -1,0 +1,426 @@
+-- One step of a window, by what its call gave.
+use Rattle.std.proofs.Common.{◌≡◌, ◌⊎◌, ◌∙◌, ℕ, ◌+◌, ◌-◌, ◌*◌, ◌<◌, ◌≤◌, List, [], ◌∷◌, ◌++◌, length, min, take, drop, slice_index, slice_index_or, slice_set, ap, refl, subst, sym, inl, inr, arith}
+use Rattle.std.specs.Prelude.{All, Err, None, Ok, Option, Result, Some, Vec, false}
+use Rattle.std.specs.Global.{Global}
+use Rattle.std.specs.Int.{IsBitSet}
+use Rattle.std.specs.List.{concat}
+use Rattle.std.proofs.Math.Seq.{drop-drop, get_or-append_seam}
+use Rattle.std.proofs.lemmas.Bool.{cases_lt}
+use Rattle.std.proofs.lemmas.List.{get_or_append_left, length-append, length-map, map-set, same_lists, set-get_or, take_all}
+use Rattle.std.proofs.lemmas.List.Elements.{All-weaker}
+use Rattle.field_reader.proofs.Parts.{IsBytes-drop, IsBytes-take}
+use Rattle.field_reader.specs.Spelling.{IsBytes}
+use Rattle.sha2.specs.Sha256.{sha256}
+use Rattle.drive_base.specs.Plan.{data_drives}
+use Rattle.drive_base.specs.View.{view}
+use Rattle.drive_base.specs.declared.drive.Drive.{Ghosts}
+use Rattle.drive_base.specs.declared.plan.SetPlan.{SetPlan}
+use Rattle.manifest_file.specs.declared.manifest.Manifest.{Manifest}
+use Rattle.manifest_file.specs.declared.manifest.ManifestPart.{ManifestPart}
+use Rattle.shard_file.proofs.Pieces.{concat-pieces, get_or-pieces, length-pieces, length-whole_piece}
+use Rattle.shard_file.proofs.StripeLemmas.{stripes_reach}
+use Rattle.shard_file.specs.Shards.{block_place, table_place}
+use Rattle.shard_file.specs.Stripes.{block_size, piece, pieces, stripe_count, stripe_length, stripe_size}
+use Rattle.body_print.proofs.ClashLemmas.{each_or}
+use Rattle.body_print.specs.Names.{shard_name}
+use Rattle.body_print.specs.Shards.{HasRoots}
+use Rattle.get_read.specs.Account.{Account, Call, Seen, Showed, WasSeen}
+use Rattle.get_read.specs.Advancing.{FetchAnswers, FetchSteps, GivesRun, IsRunBy, IsStripeBy, MakesOne, PartClashIn, StripeAnswers, data_of, part_of}
+use Rattle.get_read.specs.Causes.{digest_in}
+use Rattle.get_read.specs.Given.{IsFoundIn}
+use Rattle.get_read.specs.Going.{StaysBesides, WindowSteps}
+use Rattle.get_read.specs.Held.{all_bytes}
+use Rattle.get_read.specs.Letters.{GaveBlockIn, IsBlockIn, IsTableIn}
+use Rattle.get_read.specs.Readers.{AreCalls, AreTablesOf, IsFetchOf, IsPartOf, IsStripeOf, Told, all_calls, set_of, told_after, wants}
+use Rattle.get_read.specs.Windows.{AreAhead, AreRebuilt, AreRuns, FitsWindow, PassedRun, RunPasses, RunTakes, TookRun, Verifies, WindowCall, digests_in, run_block, run_digest}
+use Rattle.get_read.specs.declared.faults.ReadFaultKind.{ReadFaultKind}
+use Rattle.get_read.specs.declared.faults.ReadFaultKind.TheVariants.{InvalidRange, ShardQuorum, NoMemory}
+use Rattle.get_read.specs.declared.state.Asked.{Asked}
+use Rattle.get_read.specs.declared.state.Fetching.{Fetching as FetchingRecord}
+use Rattle.get_read.specs.declared.state.PartWork.{PartWork}
+use Rattle.get_read.specs.declared.state.StripeWork.{StripeWork}
+use Rattle.get_read.specs.declared.window.Found.TheVariants.{Table, Run}
+use Rattle.get_read.specs.declared.window.Window.{Window}
+use Rattle.get_read.proofs.AccountLemmas.{block_on, found_on, stands_last, table_on}
+use Rattle.get_read.proofs.FetchLemmas.{stripe_on, table_now, tables_more, tables_on}
+use Rattle.get_read.proofs.OneCallLemmas.{called_once}
+use Rattle.get_read.proofs.ReaderLemmas.{no_turn}
+use Rattle.get_read.proofs.StepLemmas.{any_part, stripe_within}
+use Rattle.get_read.proofs.StripeByLemmas.{rebuilt_from}
+use Rattle.get_read.proofs.WindowLemmas.{digest_among, piece_full, piece_of_before, piece_of_more, rows_more, run_below, run_under}
+
+-- a block of a drive, told otherwise
+as_told : (d i : ℕ) (part : ManifestPart) (calls : Account) (k k_now : ℕ) (stored stored_now block block_now : List ℕ) → k_now ≡ k → stored_now ≡ stored → block_now ≡ block
+    → IsBlockIn d part i (slice_index_or part.roots k []) calls calls k stored block
+    → IsBlockIn d part i (slice_index_or part.roots k_now []) calls calls k_now stored_now block_now
+as_told d i part calls k k_now stored stored_now block block_now same_drive same_digest same_block is =
+    subst (λ (m : ℕ). IsBlockIn d part i (slice_index_or part.roots m []) calls calls m stored_now block_now) (sym same_drive)
+    (subst (λ (s : List ℕ). IsBlockIn d part i (slice_index_or part.roots k []) calls calls k s block_now) (sym same_digest)
+    (subst (λ (b : List ℕ). IsBlockIn d part i (slice_index_or part.roots k []) calls calls k stored b) (sym same_block) is))
+
+-- block s of blocks that a call shows now, by a table that is held
+run_now : (d first count size s : ℕ) (part : ManifestPart) (root : List ℕ) (calls : Account) (k : ℕ) (table run : List ℕ) → IsTableIn d part root calls k table
+    → s < count → stripe_size * (first + count) ≤ part.length → size ≡ block_size d stripe_size → length run ≡ count * size → IsBytes run
+    → IsBlockIn d part (first + s) root (calls ++ record { drive = k; seen = Showed (shard_name part.id) (block_place d first) run } ∷ [])
+    (calls ++ record { drive = k; seen = Showed (shard_name part.id) (block_place d first) run } ∷ []) k (digest_in table (first + s)) (piece size run s)
+run_now d first count size s part root calls k table run is_table low within size_is long bytes =
+    let call : Call = record { drive = k; seen = Showed (shard_name part.id) (block_place d first) run } in
+    let full : length (piece size run s) ≡ size = piece_full size count s run long low in
+    let whole : stripe_length part.length (first + s) ≡ stripe_size = omega (arith, within, low) in
+    let place : block_place d (first + s) ≡ block_place d first + size * s =
+    let parts : (first + s) * block_size d stripe_size ≡ first * block_size d stripe_size + block_size d stripe_size * s = omega arith in
+    parts ∙ ap (λ (n : ℕ). first * block_size d stripe_size + n * s) (sym size_is) in
+    record {
+      table = table;
+      is_table = table_on d part root calls (call ∷ []) k table is_table;
+      size = full ∙ size_is ∙ ap (block_size d) (sym whole);
+      bytes = IsBytes-take size (drop (size * s) run) (IsBytes-drop (size * s) run bytes);
+      stored = refl;
+      showed = (block_place d first, size * s, run, stands_last calls call, place, ap (λ (n : ℕ). take n (drop (size * s) run)) (sym full));
+    }
+
+-- the rows with one more
+runs_added : (set : SetPlan) (part : ManifestPart) (old new : Window) (table run : List ℕ) (calls : Account)
+    → TookRun old new run (digests_in table old.first old.count) → AreRuns set part old calls
+    → IsTableIn (data_drives set.drives set.parity) part (slice_index_or part.roots old.tried []) calls old.tried table
+    → stripe_size * (old.first + old.count) ≤ part.length → old.size ≡ block_size (data_drives set.drives set.parity) stripe_size
+    → length run ≡ old.count * old.size → IsBytes run
+    → AreRuns set part new (calls ++ record { drive = old.tried; seen = Showed (shard_name part.id) (block_place (data_drives set.drives set.parity) old.first) run } ∷ [])
+runs_added set part old new table run calls took runs is_table within size_is long bytes = λ j s low inside.
+    let d = data_drives set.drives set.parity in
+    let rows = old.rows.items in
+    let n = length rows in
+    let count = old.count in
+    let call : Call = record { drive = old.tried; seen = Showed (shard_name part.id) (block_place d old.first) run } in
+    let late = calls ++ call ∷ [] in
+    let at : s < count = omega (arith, inside, took.same.count) in
+    let counted : length new.rows.items ≡ n + 1 = ap (length {A = ℕ}) took.rows ∙ length-append rows (old.tried ∷ []) in
+    let is : IsBlockIn d part (old.first + s) (slice_index_or part.roots (slice_index new.rows.items j) []) late late (slice_index new.rows.items j)
+    (piece 32 new.stored.items (j * count + s)) (piece old.size new.bytes.items (j * count + s)) = elim (cases_lt j n) [
+      | inl before ↦
+          let below : j * count + s < n * count = omega (arith, run_below j n s count before at) in
+          as_told d (old.first + s) part late (slice_index rows j) (slice_index new.rows.items j) (run_digest old j s) (piece 32 new.stored.items (j * count + s))
+          (run_block old j s) (piece old.size new.bytes.items (j * count + s))
+          (ap (λ (r : List ℕ). slice_index r j) took.rows ∙ get_or_append_left rows (old.tried ∷ []) 0 j before)
+          (piece_of_before 32 (n * count) (j * count + s) old.stored.items (digests_in table old.first count) new.stored.items old.hashes took.stored below)
+          (piece_of_before old.size (n * count) (j * count + s) old.bytes.items run new.bytes.items old.long took.bytes below)
+          (block_on d part (old.first + s) (slice_index_or part.roots (slice_index rows j) []) calls calls (call ∷ []) (slice_index rows j) (run_digest old j s) (run_block old j s) (runs j s before at))
+      | inr past ↦
+          let last : j ≡ n = omega (arith, low, past, counted) in
+          let there : j * count + s ≡ n * count + s = ap (λ (m : ℕ). m * count + s) last in
+          as_told d (old.first + s) part late old.tried (slice_index new.rows.items j) (digest_in table (old.first + s)) (piece 32 new.stored.items (j * count + s))
+          (piece old.size run s) (piece old.size new.bytes.items (j * count + s))
+          (ap (slice_index new.rows.items) last ∙ ap (λ (r : List ℕ). slice_index r n) took.rows ∙ get_or-append_seam rows old.tried [] 0)
+          (ap (piece 32 new.stored.items) there ∙ piece_of_more 32 (n * count) s old.stored.items (digests_in table old.first count) new.stored.items old.hashes took.stored
+          ∙ digest_among table old.first count s at)
+          (ap (piece old.size new.bytes.items) there ∙ piece_of_more old.size (n * count) s old.bytes.items run new.bytes.items old.long took.bytes)
+          (run_now d old.first count old.size s part (slice_index_or part.roots old.tried []) calls old.tried table run is_table at within size_is long bytes)
+    ] in
+    rw (took.same.first, took.same.count, took.same.size) is
+
+-- bytes with the same pieces are the same
+pieces_same : (size count : ℕ) (a b : List ℕ) → length a ≡ size * count → ((s : ℕ) → s < count → piece size a s ≡ piece size b s) → a ≡ take (size * count) b
+pieces_same size count a b long same =
+    let all : pieces size count a ≡ pieces size count b = same_lists (pieces size count a) (pieces size count b)
+    (length-pieces size count a ∙ sym (length-pieces size count b))
+    (λ k d low.
+    let inside : k < count = omega (arith, low, length-pieces size count a) in
+    get_or-pieces size count a k d inside ∙ same k inside ∙ sym (get_or-pieces size count b k d inside)) in
+    sym (take_all (size * count) a (omega (arith, long))) ∙ sym (concat-pieces size count a) ∙ ap concat all ∙ concat-pieces size count b
+
+-- stripes one after another
+run_by : (set : SetPlan) (part : ManifestPart) (first count : ℕ) (bytes : List ℕ) (calls : Account) → length bytes ≡ stripe_size * count
+    → stripe_size * (first + count) ≤ part.length → ((s : ℕ) → s < count → IsStripeBy set part (first + s) (piece stripe_size bytes s) calls)
+    → IsRunBy set part first (stripe_size * count) bytes calls
+run_by set part first count bytes calls long within each = record {
+  long = omega (arith, long, within);
+  exact = λ all is roots.
+      let from = drop (stripe_size * first) all in
+      elim (each_or (λ s. piece stripe_size bytes s ≡ piece stripe_size all (first + s)) (PartClashIn set.drives (data_drives set.drives set.parity) all calls) count
+      (λ s low. (each s low).exact all is roots)) [
+        | inl same ↦ inl (pieces_same stripe_size count bytes from long
+            (λ s low. same s low ∙ ap (take stripe_size) (ap (λ (m : ℕ). drop m all) (omega arith) ∙ sym (drop-drop (stripe_size * s) (stripe_size * first) all))))
+        | inr clash ↦ inr clash
+      ];
+}
+
+-- a stripe of a window is whole, and begins before the part ends
+whole_stripe : (n first count s : ℕ) → stripe_size * (first + count) ≤ n → s < count → stripe_length n (first + s) ≡ stripe_size
+whole_stripe n first count s within low = omega (arith, within, low)
+
+begins_before : (n first count s : ℕ) → stripe_size * (first + count) ≤ n → s < count → stripe_size * (first + s) < n
+begins_before n first count s within low = omega (arith, within, low)
+
+-- what a window has at least
+some_stripe : (count : ℕ) → 1 ≤ count → stripe_size ≤ stripe_size * count
+some_stripe count some = omega (arith, some)
+
+-- what is rebuilt from a window that verifies
+run_given : (set : SetPlan) (part : ManifestPart) (w : Window) (bytes : List ℕ) (calls : Account) → AreRuns set part w calls → Verifies w → AreRebuilt set w bytes
+    → All (λ row. row < set.drives) w.rows.items → 1 ≤ w.count → stripe_size * (w.first + w.count) ≤ part.length → GivesRun set part w.first bytes calls
+run_given set part w bytes calls runs verified rebuilt below some within =
+    let d = data_drives set.drives set.parity in (
+      stripe_size * w.count,
+      some_stripe w.count some,
+      run_by set part w.first w.count bytes calls rebuilt.0 within
+          (λ s low.
+          let whole : stripe_length part.length (w.first + s) ≡ stripe_size = whole_stripe part.length w.first w.count s within low in
+          let full : length (piece stripe_size bytes s) ≡ stripe_length part.length (w.first + s) = length-whole_piece stripe_size w.count bytes s low rebuilt.0 ∙ sym whole in
+          rebuilt_from set part (w.first + s) w.rows.items (λ j. run_block w j s) (piece stripe_size bytes s) calls
+          (stripe_within part.length (w.first + s) (begins_before part.length w.first w.count s within low)) below
+          (λ j inside. record {
+            digest = run_digest w j s;
+            is_block = runs j s inside low;
+            same = verified (j * w.count + s) (run_under j (length w.rows.items) s w.count inside low);
+          })
+          full
+          (λ other shards is blocks same. rebuilt.1 s other shards low (is ∙ whole) blocks same)),
+    )
+
+-- one call was made
+one_made : (result : Result (Option (Vec ℕ Global)) ReadFaultKind) (call : Call) → MakesOne result (call ∷ [])
+one_made (Ok found) call = refl
+one_made (Err fault) call = omega arith
+
+-- the rows stand on
+runs_on : (set : SetPlan) (part : ManifestPart) (w : Window) (calls more : Account) → AreRuns set part w calls → AreRuns set part w (calls ++ more)
+runs_on set part w calls more runs = λ j s low inside.
+    block_on (data_drives set.drives set.parity) part (w.first + s) (slice_index_or part.roots (slice_index w.rows.items j) []) calls calls more
+    (slice_index w.rows.items j) (run_digest w j s) (run_block w j s) (runs j s low inside)
+
+-- and where a drive is passed over
+passed_ahead : (set : SetPlan) (part : ManifestPart) (w : Window) (ahead : Option Window) (calls more : Account) → RunPasses w ahead → AreRuns set part w calls
+    → AreAhead set part ahead (calls ++ more)
+passed_ahead set part w None calls more passes runs = tt
+passed_ahead set part w (Some new) calls more passes runs =
+    rw (passes.same.first, passes.same.count, passes.same.size, passes.rows, passes.stored, passes.bytes) (runs_on set part w calls more runs)
+
+-- and where one more is added
+took_ahead : (Z : Type 0) (set : SetPlan) (part : ManifestPart) (w : Window) (run digests : List ℕ) (result : Result (Option (Vec ℕ Z)) ReadFaultKind) (ahead : Option Window)
+    (calls : Account) → RunTakes set w run digests result ahead → ((next : Window) → TookRun w next run digests → AreRuns set part next calls) → AreAhead set part ahead calls
+took_ahead Z set part w run digests (Ok None) None calls takes added = tt
+took_ahead Z set part w run digests (Ok None) (Some new) calls takes added = added new takes
+took_ahead Z set part w run digests (Ok (Some bytes)) ahead calls takes added = subst (λ (a : Option Window). AreAhead set part a calls) (sym takes.0) tt
+took_ahead Z set part w run digests (Err (InvalidRange n)) ahead calls takes added = absurd takes
+took_ahead Z set part w run digests (Err (ShardQuorum whys)) ahead calls takes added = absurd takes
+took_ahead Z set part w run digests (Err NoMemory) ahead calls takes added = subst (λ (a : Option Window). AreAhead set part a calls) (sym takes) tt
+
+-- what a stripe answers where the blocks of one drive more came
+took_answers : (set : SetPlan) (part : ManifestPart) (w : Window) (run digests : List ℕ) (result : Result (Option (Vec ℕ Global)) ReadFaultKind) (ahead : Option Window)
+    (work : StripeWork) (told : Told) → RunTakes set w run digests result ahead
+    → ((next : Window) → TookRun w next run digests → AreRuns set part next (all_calls told)) → w.tried < set.drives → 1 ≤ w.count
+    → stripe_size * (w.first + w.count) ≤ part.length → w.first ≡ work.stripe → IsStripeOf set part work (all_calls told) told.since
+    → StripeAnswers set part result work told
+took_answers set part w run digests (Ok None) ahead work told takes added low some within first alone = alone
+took_answers set part w run digests (Ok (Some bytes)) ahead work told takes added low some within first alone =
+    let next = takes.1.0 in
+    let took = takes.1.1 in
+    let below : All (λ row. row < set.drives) next.rows.items =
+    All-weaker (λ row. row < w.tried + 1) (λ row. row < set.drives) (λ row under. omega (arith, under, low)) next.rows.items
+    (rows_more w.tried w.rows.items next.rows.items took.rows w.below) in
+    subst (λ (i : ℕ). GivesRun set part i bytes.items (all_calls told)) (took.same.first ∙ first)
+    (run_given set part next bytes.items (all_calls told) (added next took) takes.1.3 takes.1.4 below (omega (arith, some, took.same.count))
+    (omega (arith, within, took.same.first, took.same.count)))
+took_answers set part w run digests (Err (InvalidRange n)) ahead work told takes added low some within first alone = absurd takes
+took_answers set part w run digests (Err (ShardQuorum whys)) ahead work told takes added low some within first alone = absurd takes
+took_answers set part w run digests (Err NoMemory) ahead work told takes added low some within first alone = tt
+
+module _ {D : Type 0} (ghosts : Ghosts D) (old : FetchingRecord) (w : Window) (new : FetchingRecord) where
+  -- what stays over the calls of a step
+  abbrev stays_part : (told : Told) (more : Account) → IsFetchOf old told → StaysBesides old new → IsPartOf new.asked new.manifest new.part (all_calls (told_after false told more))
+  stays_part told more so stays =
+      let whole = so.is_part in
+      let p = whole.part in
+      let on : all_calls (told_after false told more) ≡ all_calls told ++ more = no_turn told more in
+      record {
+        part = p;
+        part_is = λ e. ap (λ (m : Manifest). slice_index_or m.parts new.part.place e) stays.manifest ∙ ap (λ (v : PartWork). slice_index_or old.manifest.parts v.place e) stays.part ∙ whole.part_is e;
+        found = rw (stays.asked, stays.manifest) (subst (IsFoundIn (wants old.asked) old.asked.id old.manifest) (sym on)
+            (found_on (wants old.asked) old.asked.id old.manifest (all_calls told) more whole.found));
+        held = rw (stays.asked, stays.part) (subst (AreTablesOf (data_of old) p (all_bytes old.part.tables.items)) (sym on)
+            (tables_on (data_of old) p (all_bytes old.part.tables.items) (all_calls told) more whole.held));
+      }
+
+  -- the stripe alone is as before
+  stays_stripe : (told : Told) (more : Account) (so : IsFetchOf old told) → new.asked ≡ old.asked → new.work ≡ old.work
+      → IsStripeOf (set_of new.asked) so.is_part.part new.work (all_calls (told_after false told more)) (told.since ++ more)
+  stays_stripe told more so asked work =
+      let set = set_of old.asked in
+      let p = so.is_part.part in
+      let stripe = stripe_on set p old.work.stripe old.work.size old.work.found old.work.tried old.work.whys (all_calls told) told.since more so.stripe in
+      rw (asked, work) (subst (λ (all : Account). IsStripeOf set p old.work all (told.since ++ more)) (sym (no_turn told more)) stripe)
+
+  -- a call was made that leaves the window as it is, or gives it up, but for its next drive
+  pub window_passed : (drives : List D) (was now : D) → length drives ≡ (set_of old.asked).drives → slice_index_or drives w.tried was ≡ was
+      → FitsWindow (set_of old.asked) old.part.long old.work.stripe w → StaysBesides old new → RunPasses w new.ahead
+      → ((seen : Seen) × WasSeen seen (view ghosts was) (view ghosts now))
+      → WindowSteps {Z = Global} ghosts old w new (Ok None) drives (slice_set drives w.tried now)
+  window_passed drives was now counted is fits stays passes call =
+      let call_is : Call = record { drive = w.tried; seen = call.0 } in
+      record {
+        calls = call_is ∷ [];
+        are = called_once ghosts (set_of old.asked).out w.tried call.0 drives was now (omega (arith, counted, fits.tried)) fits.in_use is call.1;
+        made = refl;
+        asked = stays.asked;
+        at = stays.at;
+        goes_on = λ told so runs. record {
+          is_part = stays_part told (call_is ∷ []) so stays;
+          stripe = stays_stripe told (call_is ∷ []) so stays.asked stays.work;
+          ahead = subst (λ (a : Asked). AreAhead (set_of a) so.is_part.part new.ahead (all_calls (told_after false told (call_is ∷ [])))) (sym stays.asked)
+              (subst (AreAhead (set_of old.asked) so.is_part.part new.ahead) (sym (no_turn told (call_is ∷ [])))
+              (passed_ahead (set_of old.asked) so.is_part.part w new.ahead (all_calls told) (call_is ∷ []) passes runs));
+        };
+      }
+
+  -- a call gave the blocks of the next drive
+  pub window_took : (result : Result (Option (Vec ℕ Global)) ReadFaultKind) (run table : List ℕ) (drives : List D) (was now : D) → length drives ≡ (set_of old.asked).drives
+      → slice_index_or drives w.tried was ≡ was → FitsWindow (set_of old.asked) old.part.long old.work.stripe w → StaysBesides old new
+      → table ≡ slice_index_or (all_bytes old.part.tables.items) w.tried []
+      → RunTakes (set_of old.asked) w run (digests_in table w.first w.count) result new.ahead
+      → ((d : ManifestPart) → (0 < length table) × (length run ≡ w.count * w.size)
+      × WasSeen (Showed (shard_name (part_of old d).id) (block_place (data_of old) w.first) run) (view ghosts was) (view ghosts now))
+      → WindowSteps {Z = Global} ghosts old w new result drives (slice_set drives w.tried now)
+  window_took result run table drives was now counted is fits stays table_is takes call =
+      let d0 = any_part old.manifest.parts old.part.place old.in_manifest in
+      let part = part_of old d0 in
+      let seen : Seen = Showed (shard_name part.id) (block_place (data_of old) w.first) run in
+      let call_is : Call = record { drive = w.tried; seen = seen } in
+      record {
+        calls = call_is ∷ [];
+        are = called_once ghosts (set_of old.asked).out w.tried seen drives was now (omega (arith, counted, fits.tried)) fits.in_use is (call d0).2;
+        made = one_made result call_is;
+        asked = stays.asked;
+        at = stays.at;
+        goes_on = λ told so runs.
+            let set = set_of old.asked in
+            let whole = so.is_part in
+            let p = whole.part in
+            let same : part ≡ p = whole.part_is d0 in
+            let long : p.length ≡ old.part.long = ap (λ (q : ManifestPart). q.length) (sym (whole.part_is p)) ∙ old.part_long p in
+            let calls = all_calls told in
+            let on = sym (no_turn told (call_is ∷ [])) in
+            let is_table : IsTableIn (data_of old) p (slice_index_or p.roots w.tried []) calls w.tried table =
+            elim (whole.held w.tried (omega (arith, fits.tried, old.tables, length-map old.part.tables.items (λ (file : Vec ℕ Global). file.items)))) [
+              | inl none ↦ absurd (omega (arith, (call d0).0, ap (length {A = ℕ}) (table_is ∙ none)))
+              | inr held ↦ subst (IsTableIn (data_of old) p (slice_index_or p.roots w.tried []) calls w.tried) (sym table_is) held
+            ] in
+            let added : (next : Window) → TookRun w next run (digests_in table w.first w.count) → AreRuns set p next (all_calls (told_after false told (call_is ∷ []))) =
+            λ next took. subst (AreRuns set p next) on
+            (subst (λ (q : ManifestPart). AreRuns set p next (calls ++ record { drive = w.tried; seen = Showed (shard_name q.id) (block_place (data_of old) w.first) run } ∷ [])) (sym same)
+            (runs_added set p w next table run calls took runs is_table (omega (arith, fits.within, long)) fits.size (call d0).1 (call d0).2.1)) in
+            record {
+              is_part = stays_part told (call_is ∷ []) so stays;
+              stripe = subst (λ (a : Asked). StripeAnswers (set_of a) p result new.work (told_after false told (call_is ∷ []))) (sym stays.asked) (took_answers set p w run (digests_in table w.first w.count) result new.ahead new.work (told_after false told (call_is ∷ [])) takes added
+                  fits.tried fits.some (omega (arith, fits.within, long)) (fits.first ∙ ap (λ (v : StripeWork). v.stripe) (sym stays.work))
+                  (subst (λ (a : Asked). IsStripeOf (set_of a) p new.work (all_calls (told_after false told (call_is ∷ []))) (told.since ++ call_is ∷ [])) stays.asked
+                  (stays_stripe told (call_is ∷ []) so stays.asked stays.work)));
+              ahead = subst (λ (a : Asked). AreAhead (set_of a) p new.ahead (all_calls (told_after false told (call_is ∷ [])))) (sym stays.asked) (took_ahead Global set p w run (digests_in table w.first w.count) result new.ahead (all_calls (told_after false told (call_is ∷ []))) takes added);
+            };
+      }
+
+  -- a call gave the digest table of the next drive
+  pub window_holds : (table : Vec ℕ Global) (drives : List D) (was now : D) → length drives ≡ (set_of old.asked).drives → slice_index_or drives w.tried was ≡ was
+      → FitsWindow (set_of old.asked) old.part.long old.work.stripe w → new.asked ≡ old.asked → new.manifest ≡ old.manifest → new.at ≡ old.at
+      → new.part.place ≡ old.part.place → new.work ≡ old.work → new.ahead ≡ Some w → new.part.tables.items ≡ slice_set old.part.tables.items w.tried table
+      → ((d : ManifestPart) → WindowCall (data_of old) (part_of old d) (slice_index_or (part_of old d).roots w.tried []) (slice_index_or (all_bytes old.part.tables.items) w.tried [])
+      w (Ok (Table table)) (view ghosts was) (view ghosts now))
+      → WindowSteps {Z = Global} ghosts old w new (Ok None) drives (slice_set drives w.tried now)
+  window_holds table drives was now counted is fits asked manifest at place work some tables call =
+      let d0 = any_part old.manifest.parts old.part.place old.in_manifest in
+      let part = part_of old d0 in
+      let k = w.tried in
+      let d = data_of old in
+      let seen : Seen = Showed (shard_name part.id) (table_place d part.length) table.items in
+      let call_is : Call = record { drive = k; seen = seen } in
+      record {
+        calls = call_is ∷ [];
+        are = called_once ghosts (set_of old.asked).out k seen drives was now (omega (arith, counted, fits.tried)) fits.in_use is (call d0).3;
+        made = refl;
+        asked = asked;
+        at = at;
+        goes_on = λ told so runs.
+            let whole = so.is_part in
+            let p = whole.part in
+            let same : part ≡ p = whole.part_is d0 in
+            let calls = all_calls told in
+            let on = sym (no_turn told (call_is ∷ [])) in
+            let table_is : IsTableIn d p (slice_index_or p.roots k []) (calls ++ call_is ∷ []) k table.items =
+            subst (λ (q : ManifestPart). IsTableIn d q (slice_index_or q.roots k []) (calls ++ call_is ∷ []) k table.items) same
+            (table_now d part (slice_index_or part.roots k []) calls k table.items (call d0).1 (call d0).3.1 (call d0).2) in
+            let bytes : all_bytes new.part.tables.items ≡ slice_set (all_bytes old.part.tables.items) k table.items =
+            ap (λ (t : List (Vec ℕ Global)). all_bytes t) tables ∙ map-set (λ (file : Vec ℕ Global). file.items) old.part.tables.items k table in
+            let held : AreTablesOf d p (all_bytes new.part.tables.items) (calls ++ call_is ∷ []) =
+            tables_more d p (all_bytes old.part.tables.items) (all_bytes new.part.tables.items) calls k table.items seen whole.held bytes
+            (omega (arith, fits.tried, old.tables, length-map old.part.tables.items (λ (file : Vec ℕ Global). file.items))) table_is in
+            record {
+              is_part = record {
+                part = p;
+                part_is = λ e. ap (λ (m : Manifest). slice_index_or m.parts new.part.place e) manifest ∙ ap (λ (j : ℕ). slice_index_or old.manifest.parts j e) place ∙ whole.part_is e;
+                found = rw (asked, manifest) (subst (IsFoundIn (wants old.asked) old.asked.id old.manifest) on
+                    (found_on (wants old.asked) old.asked.id old.manifest calls (call_is ∷ []) whole.found));
+                held = rw asked (subst (AreTablesOf d p (all_bytes new.part.tables.items)) on held);
+              };
+              stripe = stays_stripe told (call_is ∷ []) so asked work;
+              ahead = subst (λ (a : Asked). AreAhead (set_of a) p new.ahead (all_calls (told_after false told (call_is ∷ [])))) (sym asked)
+                  (subst (λ (a : Option Window). AreAhead (set_of old.asked) p a (all_calls (told_after false told (call_is ∷ [])))) (sym some)
+                  (subst (AreRuns (set_of old.asked) p w) on (runs_on (set_of old.asked) p w calls (call_is ∷ []) runs)));
+            };
+      }
+
+  -- there was not enough memory, before a call
+  pub window_idle : (drives : List D) (was now : D) → slice_index_or drives w.tried was ≡ was → now ≡ was → StaysBesides old new → new.ahead ≡ None
+      → WindowSteps {Z = Global} ghosts old w new (Err NoMemory) drives (slice_set drives w.tried now)
+  window_idle drives was now is same stays none = record {
+    calls = [];
+    are = ap (slice_set drives w.tried) (same ∙ sym is) ∙ set-get_or drives w.tried was;
+    made = omega arith;
+    asked = stays.asked;
+    at = stays.at;
+    goes_on = λ told so runs. record {
+      is_part = stays_part told [] so stays;
+      stripe = tt;
+      ahead = subst (λ (a : Option Window). AreAhead (set_of new.asked) so.is_part.part a (all_calls (told_after false told []))) (sym none) tt;
+    };
+  }
+
+module _ {D : Type 0} (ghosts : Ghosts D) (old bare new : FetchingRecord) where
+  -- what is known of a reader that is about to use its window
+  abbrev bare_of : (told : Told) → StaysBesides old bare → bare.ahead ≡ None → IsFetchOf old told → IsFetchOf bare told
+  bare_of told stays none so =
+      let whole = so.is_part in
+      let p = whole.part in
+      record {
+        is_part = record {
+          part = p;
+          part_is = λ e. ap (λ (m : Manifest). slice_index_or m.parts bare.part.place e) stays.manifest ∙ ap (λ (v : PartWork). slice_index_or old.manifest.parts v.place e) stays.part ∙ whole.part_is e;
+          found = rw (stays.asked, stays.manifest) whole.found;
+          held = rw (stays.asked, stays.part) whole.held;
+        };
+        stripe = rw (stays.asked, stays.work) so.stripe;
+        ahead = rw none tt;
+      }
+
+  -- a step of the window is one of the reader
+  pub steps_of_window : (w : Window) (result : Result (Option (Vec ℕ Global)) ReadFaultKind) (before after : List D) → StaysBesides old bare → bare.ahead ≡ None
+      → old.ahead ≡ Some w → WindowSteps {Z = Global} ghosts bare w new result before after → FetchSteps {Z = Global} ghosts old new result before after
+  steps_of_window w result before after stays none some steps = record {
+    calls = steps.calls;
+    are = subst (λ (a : Asked). AreCalls ghosts (set_of a).out steps.calls before after) stays.asked steps.are;
+    made = steps.made;
+    asked = steps.asked ∙ stays.asked;
+    at = steps.at ∙ stays.at;
+    goes_on = λ told so. steps.goes_on told (bare_of told stays none so)
+        (subst (λ (a : Asked). AreRuns (set_of a) so.is_part.part w (all_calls told)) (sym stays.asked) (subst (λ (a : Option Window). AreAhead (set_of old.asked) so.is_part.part a (all_calls told)) some so.ahead));
+  }
+
+  -- and so is one of the stripe alone
+  pub steps_of_stripe : (result : Result (Option (Vec ℕ Global)) ReadFaultKind) (before after : List D) → StaysBesides old bare → bare.ahead ≡ None
+      → FetchSteps {Z = Global} ghosts bare new result before after → FetchSteps {Z = Global} ghosts old new result before after
+  steps_of_stripe result before after stays none steps = record {
+    calls = steps.calls;
+    are = subst (λ (a : Asked). AreCalls ghosts (set_of a).out steps.calls before after) stays.asked steps.are;
+    made = steps.made;
+    asked = steps.asked ∙ stays.asked;
+    at = steps.at ∙ stays.at;
+    goes_on = λ told so. steps.goes_on told (bare_of told stays none so);
+  }
