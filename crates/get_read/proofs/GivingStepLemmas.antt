@@ -1,8 +1,8 @@
 -- A reader before and after one step in a stripe.
-use Rattle.std.proofs.Common.{◌≡◌, ◌∙◌, ℕ, ◌+◌, ◌-◌, ◌*◌, ◌<◌, ◌≤◌, List, ◌++◌, length, slice_index_or, take, drop, ap, subst, sym, inl, inr, arith}
+use Rattle.std.proofs.Common.{◌≡◌, ◌∙◌, ℕ, ◌+◌, ◌-◌, ◌*◌, ◌<◌, ◌≤◌, List, ◌++◌, length, slice_index_or, take, drop, ap, refl, subst, sym, inl, inr, arith}
 use Rattle.std.specs.Prelude.{Err, None, Ok, Result, Some, Vec, false, true}
 use Rattle.std.specs.Global.{Global}
-use Rattle.std.proofs.lemmas.List.{length-append}
+use Rattle.std.proofs.lemmas.List.{length-append, length-take}
 use Rattle.std.proofs.lemmas.Option.{slice_get-get_or}
 use Rattle.drive_base.specs.Plan.{data_drives}
 use Rattle.drive_base.specs.declared.drive.Drive.{Ghosts}
@@ -24,7 +24,7 @@ use Rattle.get_read.specs.declared.state.PartWork.{PartWork}
 use Rattle.get_read.specs.declared.state.Fetching.{Fetching as FetchingRecord}
 use Rattle.get_read.specs.declared.state.State.{State}
 use Rattle.get_read.specs.declared.state.State.TheVariants.{Fetching, Refused}
-use Rattle.get_read.proofs.AccountLemmas.{span_on}
+use Rattle.get_read.proofs.AccountLemmas.{found_on, span_on}
 use Rattle.get_read.proofs.GivingLemmas.{given_on}
 use Rattle.get_read.proofs.ReaderLemmas.{fetch_begins, in_use_on, no_turn, none_held, one_turn, stands_after}
 
@@ -60,6 +60,16 @@ at_place f = record {
   before_end = f.before_end;
   end = f.asked.end;
 }
+
+-- a manifest that was found before the last turn was found
+found_before : (told : Told) (calls : Account) (next : FetchingRecord) → IsFoundIn (wants next.asked) next.asked.id next.manifest told.before
+    → IsFoundIn (wants next.asked) next.asked.id next.manifest (all_calls told ++ calls)
+found_before told calls next found = found_on (wants next.asked) next.asked.id next.manifest (all_calls told) calls
+    (found_on (wants next.asked) next.asked.id next.manifest told.before told.since found)
+
+-- what is wanted of a stripe ends where the span does, or before
+piece_within : (next : FetchingRecord) (stripe : List ℕ) → length (wanted_of_stripe next stripe) ≤ next.asked.wanted.reach - next.at
+piece_within next stripe = omega (arith, length-take (next.asked.wanted.reach - next.at) (drop (next.at - next.part.begin - next.work.stripe * stripe_size) stripe))
 
 -- why a stripe is refused
 fetch_cause : (fault : ReadFaultKind) (asked : Asked) (next : FetchingRecord) (told : Told) (given : ℕ) → next.asked ≡ asked → AtPlace next
@@ -148,7 +158,7 @@ module _ {D : Type 0} (ghosts : Ghosts D) where
       is ∙ ap (λ (b : ℕ). take (a.wanted.reach - next.at) (drop (next.at - b - next.work.stripe * stripe_size) stripe.items)) place.begins in
       subst (λ (b : Asked). AreOfSpanIn (set_of b).drives (set_of b).parity b.wanted.print b.span.at b.wanted.reach (given ++ piece) calls) back
       (given_on (set_of a) a.wanted.print a.id a.span.at a.wanted.reach next.manifest part.part next.part.place next.work.stripe answers.stripe.0 next.at given stripe.items piece calls
-      (subst (IsFoundIn (wants a) a.id next.manifest) whole part.found) place.inside part.part_is at place.before_end
+      (found_before told steps.calls next part.found) place.inside part.part_is at place.before_end
       (omega (arith, place.begins, place.begun)) (omega (arith, place.begins, place.in_stripe, answers.stripe.1)) (omega (arith, place.begins, place.in_part, long))
       piece_is (subst (IsRunBy (set_of a) part.part next.work.stripe answers.stripe.0 stripe.items) whole answers.stripe.2) exact)
 
@@ -185,7 +195,7 @@ module _ {D : Type 0} (ghosts : Ghosts D) where
             subst (λ (a : Asked). a.span.at + a.span.length ≡ next.asked.wanted.reach) back place.end in
             let part = answers.is_part in
             let found : IsFoundIn (wants next.asked) next.asked.id next.manifest (all_calls told ++ steps.calls) =
-            subst (IsFoundIn (wants next.asked) next.asked.id next.manifest) (no_turn told steps.calls) part.found in
+            found_before told steps.calls next part.found in
             let found_now : IsFoundIn (wants asked) asked.id next.manifest (all_calls told ++ steps.calls) =
             subst (λ (a : Asked). IsFoundIn (wants a) a.id next.manifest (all_calls told ++ steps.calls)) back found in
             let state : IsStateOf asked new after_it (length (given ++ piece)) = elim gives.2 [
@@ -201,7 +211,7 @@ module _ {D : Type 0} (ghosts : Ghosts D) where
                           (subst (AreTablesOf (data_drives (set_of next.asked).drives (set_of next.asked).parity) part.part (all_bytes next.part.tables.items)) (no_turn told steps.calls) part.held)
                       | inr past ↦ none_held _ (set_of turns_to.0.asked).drives q (all_bytes turns_to.0.part.tables.items) (all_calls told ++ steps.calls) past.1
                     ])
-                    after_it (one_turn told steps.calls),
+                    after_it refl (one_turn told steps.calls),
               )
             ] in (
               record {
@@ -211,6 +221,6 @@ module _ {D : Type 0} (ghosts : Ghosts D) where
                     (given_after_stripe asked fetching next stripe piece told given before after same place steps gives.0 so);
                 is = state;
               },
-              gives.1,
+              (gives.1, omega (arith, more, at, reach, place.before_end, piece_within next stripe.items, ap (length {A = ℕ}) gives.0)),
             );
       }

@@ -33,7 +33,7 @@ use Rattle.get_read.specs.declared.state.Fetching.{Fetching as FetchingRecord}
 use Rattle.get_read.specs.declared.state.State.{State}
 use Rattle.get_read.specs.declared.state.State.TheVariants.{Searching, Fetching, Ended, Refused}
 use Rattle.get_read.specs.declared.window.Window.{Window}
-use Rattle.get_read.proofs.AccountLemmas.{span_on}
+use Rattle.get_read.proofs.AccountLemmas.{found_on, span_on}
 use Rattle.get_read.proofs.FetchLemmas.{fresh_stripe}
 
 -- what is asked for
@@ -149,8 +149,8 @@ pub fetch_begins : (asked : Asked) (m : Manifest) (at : ℕ) (fetching : Fetchin
     → IsFoundIn (wants asked) asked.id m calls
     → ((part : ManifestPart) → ((d : ManifestPart) → slice_index_or m.parts fetching.part.place d ≡ part)
     → AreTablesOf (data_drives (set_of asked).drives (set_of asked).parity) part (all_bytes fetching.part.tables.items) calls)
-    → (told : Told) → all_calls told ≡ calls → IsFetchOf fetching told
-fetch_begins asked m at fetching calls begins found tables told is =
+    → (told : Told) → told.before ≡ calls → all_calls told ≡ calls → IsFetchOf fetching told
+fetch_begins asked m at fetching calls begins found tables told turned is =
     let place = fetching.part.place in
     let part = slice_index_or m.parts place (some_part m.parts place begins.is_part.inside) in
     let part_is : (d : ManifestPart) → slice_index_or m.parts place d ≡ part =
@@ -159,7 +159,7 @@ fetch_begins asked m at fetching calls begins found tables told is =
       is_part = record {
         part = part;
         part_is = λ d. ap (λ (x : Manifest). slice_index_or x.parts place d) begins.manifest_is ∙ part_is d;
-        found = rw (begins.asked_is, begins.manifest_is, is) found;
+        found = rw (begins.asked_is, begins.manifest_is, turned) found;
         held = rw (begins.asked_is, is) (tables part part_is);
       };
       stripe = rw begins.asked_is (fresh_stripe (set_of asked) part fetching.work.stripe fetching.work.size fetching.work.found fetching.work.tried fetching.work.whys
@@ -198,7 +198,7 @@ module _ {D : Type 0} (ghosts : Ghosts D) where
             omega (arith, begins.2.at_is, so.is.1),
             fetch_begins asked m asked.span.at fetching (all_calls told ++ steps.calls) begins.2 (found (all_calls told) so.is.2)
                 (λ part is. none_held _ (set_of fetching.asked).drives part (all_bytes fetching.part.tables.items) (all_calls told ++ steps.calls) begins.3)
-                (told_after true told steps.calls) (one_turn told steps.calls),
+                (told_after true told steps.calls) refl (one_turn told steps.calls),
           ),
           tt,
         );
@@ -267,7 +267,8 @@ told_found asked (Ended manifest) told given m is tells =
 told_found asked (Fetching fetching) told given m is tells =
     let same : fetching.manifest ≡ m = cc in
     subst (λ (x : Manifest). IsFoundIn (wants asked) asked.id x (all_calls told)) same
-    (subst (λ (a : Asked). IsFoundIn (wants a) a.id fetching.manifest (all_calls told)) is.0 is.2.is_part.found)
+    (subst (λ (a : Asked). IsFoundIn (wants a) a.id fetching.manifest (all_calls told)) is.0
+    (found_on (wants fetching.asked) fetching.asked.id fetching.manifest told.before told.since is.2.is_part.found))
 
 pub tells_found : (reader : Reader) → TellsFound reader
 tells_found reader told given m so tells = told_found reader.asked reader.state told (length given) m so.is tells

@@ -31,7 +31,6 @@ use Rattle.get_read.specs.declared.state.Found.TheVariants.{Table, Block}
 use Rattle.get_read.specs.declared.state.PartWork.{PartWork}
 use Rattle.get_read.specs.declared.state.StripeWork.{StripeWork}
 use Rattle.get_read.specs.declared.tables.Fetched.{Fetched}
-use Rattle.get_read.proofs.AccountLemmas.{found_on}
 use Rattle.get_read.proofs.FetchLemmas.{block_now, judged_so, stripe_added, stripe_on, stripe_passed, table_now, tables_more, tables_on}
 use Rattle.get_read.proofs.OneCallLemmas.{called_once}
 
@@ -52,7 +51,7 @@ module _ (old new : FetchingRecord) where
   -- what a stripe answers, by what it answers of its part
   fetch_answers : (result : Result (Option (Vec ℕ Global)) ReadFaultKind) (told : Told) (calls : Account) (part : ManifestPart)
       → ((d : ManifestPart) → slice_index_or new.manifest.parts new.part.place d ≡ part)
-      → IsFoundIn (wants new.asked) new.asked.id new.manifest (all_calls told ++ calls)
+      → IsFoundIn (wants new.asked) new.asked.id new.manifest told.before
       → AreTablesOf (data_of new) part (all_bytes new.part.tables.items) (all_calls told ++ calls)
       → StripeAnswers (set_of new.asked) part result new.work (told_after false told calls) → new.ahead ≡ None
       → FetchAnswers result new (told_after false told calls)
@@ -60,7 +59,7 @@ module _ (old new : FetchingRecord) where
     is_part = record {
       part = part;
       part_is = part_is;
-      found = subst (IsFoundIn (wants new.asked) new.asked.id new.manifest) (behind told calls) found;
+      found = found;
       held = subst (AreTablesOf (data_of new) part (all_bytes new.part.tables.items)) (behind told calls) held;
     };
     stripe = stripe;
@@ -104,7 +103,7 @@ module _ {D : Type 0} (ghosts : Ghosts D) (old new : FetchingRecord) where
             let stripe = stripe_on (set_of old.asked) p old.work.stripe old.work.size old.work.found k old.work.whys calls told.since (call_is ∷ []) so.stripe in
             fetch_answers old new (Ok None) told (call_is ∷ []) p
             (λ e. ap (λ (m : Manifest). slice_index_or m.parts new.part.place e) manifest ∙ ap (λ (j : ℕ). slice_index_or old.manifest.parts j e) place ∙ whole.part_is e)
-            (rw (asked, manifest) (found_on (wants old.asked) old.asked.id old.manifest calls (call_is ∷ []) whole.found))
+            (rw (asked, manifest) whole.found)
             (subst (λ (a : Asked). AreTablesOf (data_drives (set_of a).drives (set_of a).parity) p (all_bytes new.part.tables.items) (calls ++ call_is ∷ [])) (sym asked) held)
             (rw (asked, work) (subst (λ (all : Account). IsStripe (set_of old.asked) p old.work.stripe old.work.size old.work.found k old.work.whys all (told.since ++ call_is ∷ []))
             (behind told (call_is ∷ [])) stripe)) none;
@@ -145,7 +144,7 @@ module _ {D : Type 0} (ghosts : Ghosts D) (old new : FetchingRecord) where
       tried_now stripe_now size_now in
       fetch_answers old new result told more p
       (λ e. ap (λ (m : Manifest). slice_index_or m.parts new.part.place e) stays.manifest ∙ ap (λ (w : PartWork). slice_index_or old.manifest.parts w.place e) stays.part ∙ whole.part_is e)
-      (rw (stays.asked, stays.manifest) (found_on (wants old.asked) old.asked.id old.manifest calls more whole.found))
+      (rw (stays.asked, stays.manifest) whole.found)
       (rw (stays.asked, stays.part) (tables_on d p (all_bytes old.part.tables.items) calls more whole.held))
       (subst (λ (a : Asked). StripeAnswers (set_of a) p result new.work (told_after false told more)) (sym stays.asked) answer)
       stays.ahead
@@ -270,7 +269,7 @@ module _ {D : Type 0} (ghosts : Ghosts D) (old new : FetchingRecord) where
         let p = whole.part in
         fetch_answers old new (Err NoMemory) told [] p
         (λ e. ap (λ (m : Manifest). slice_index_or m.parts new.part.place e) manifest ∙ ap (λ (w : PartWork). slice_index_or old.manifest.parts w.place e) part ∙ whole.part_is e)
-        (rw (asked, manifest) (found_on (wants old.asked) old.asked.id old.manifest (all_calls told) [] whole.found))
+        (rw (asked, manifest) whole.found)
         (rw (asked, part) (tables_on (data_of old) p (all_bytes old.part.tables.items) (all_calls told) [] whole.held)) tt none;
   }
 
@@ -296,6 +295,6 @@ module _ {D : Type 0} (ghosts : Ghosts D) (old new : FetchingRecord) where
             let p = whole.part in
             fetch_answers old new (Err NoMemory) told (call_is ∷ []) p
             (λ e. ap (λ (m : Manifest). slice_index_or m.parts new.part.place e) stays.manifest ∙ ap (λ (w : PartWork). slice_index_or old.manifest.parts w.place e) stays.part ∙ whole.part_is e)
-            (rw (stays.asked, stays.manifest) (found_on (wants old.asked) old.asked.id old.manifest (all_calls told) (call_is ∷ []) whole.found))
+            (rw (stays.asked, stays.manifest) whole.found)
             (rw (stays.asked, stays.part) (tables_on (data_of old) p (all_bytes old.part.tables.items) (all_calls told) (call_is ∷ []) whole.held)) tt stays.ahead;
       }

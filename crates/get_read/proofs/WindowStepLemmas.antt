@@ -27,7 +27,6 @@ use Rattle.body_print.specs.Shards.{HasRoots}
 use Rattle.get_read.specs.Account.{Account, Call, Seen, Showed, WasSeen}
 use Rattle.get_read.specs.Advancing.{FetchAnswers, FetchSteps, GivesRun, IsRunBy, IsStripeBy, MakesOne, PartClashIn, StripeAnswers, data_of, part_of}
 use Rattle.get_read.specs.Causes.{digest_in}
-use Rattle.get_read.specs.Given.{IsFoundIn}
 use Rattle.get_read.specs.Going.{StaysBesides, WindowSteps}
 use Rattle.get_read.specs.Held.{all_bytes}
 use Rattle.get_read.specs.Letters.{GaveBlockIn, IsBlockIn, IsTableIn}
@@ -41,7 +40,7 @@ use Rattle.get_read.specs.declared.state.PartWork.{PartWork}
 use Rattle.get_read.specs.declared.state.StripeWork.{StripeWork}
 use Rattle.get_read.specs.declared.window.Found.TheVariants.{Table, Run}
 use Rattle.get_read.specs.declared.window.Window.{Window}
-use Rattle.get_read.proofs.AccountLemmas.{block_on, found_on, stands_last, table_on}
+use Rattle.get_read.proofs.AccountLemmas.{block_on, stands_last, table_on}
 use Rattle.get_read.proofs.FetchLemmas.{stripe_on, table_now, tables_more, tables_on}
 use Rattle.get_read.proofs.OneCallLemmas.{called_once}
 use Rattle.get_read.proofs.ReaderLemmas.{no_turn}
@@ -227,7 +226,7 @@ took_answers set part w run digests (Err NoMemory) ahead work told takes added l
 
 module _ {D : Type 0} (ghosts : Ghosts D) (old : FetchingRecord) (w : Window) (new : FetchingRecord) where
   -- what stays over the calls of a step
-  abbrev stays_part : (told : Told) (more : Account) → IsFetchOf old told → StaysBesides old new → IsPartOf new.asked new.manifest new.part (all_calls (told_after false told more))
+  abbrev stays_part : (told : Told) (more : Account) → IsFetchOf old told → StaysBesides old new → IsPartOf new.asked new.manifest new.part told.before (all_calls (told_after false told more))
   stays_part told more so stays =
       let whole = so.is_part in
       let p = whole.part in
@@ -235,8 +234,7 @@ module _ {D : Type 0} (ghosts : Ghosts D) (old : FetchingRecord) (w : Window) (n
       record {
         part = p;
         part_is = λ e. ap (λ (m : Manifest). slice_index_or m.parts new.part.place e) stays.manifest ∙ ap (λ (v : PartWork). slice_index_or old.manifest.parts v.place e) stays.part ∙ whole.part_is e;
-        found = rw (stays.asked, stays.manifest) (subst (IsFoundIn (wants old.asked) old.asked.id old.manifest) (sym on)
-            (found_on (wants old.asked) old.asked.id old.manifest (all_calls told) more whole.found));
+        found = rw (stays.asked, stays.manifest) whole.found;
         held = rw (stays.asked, stays.part) (subst (AreTablesOf (data_of old) p (all_bytes old.part.tables.items)) (sym on)
             (tables_on (data_of old) p (all_bytes old.part.tables.items) (all_calls told) more whole.held));
       }
@@ -356,8 +354,7 @@ module _ {D : Type 0} (ghosts : Ghosts D) (old : FetchingRecord) (w : Window) (n
               is_part = record {
                 part = p;
                 part_is = λ e. ap (λ (m : Manifest). slice_index_or m.parts new.part.place e) manifest ∙ ap (λ (j : ℕ). slice_index_or old.manifest.parts j e) place ∙ whole.part_is e;
-                found = rw (asked, manifest) (subst (IsFoundIn (wants old.asked) old.asked.id old.manifest) on
-                    (found_on (wants old.asked) old.asked.id old.manifest calls (call_is ∷ []) whole.found));
+                found = rw (asked, manifest) whole.found;
                 held = rw asked (subst (AreTablesOf d p (all_bytes new.part.tables.items)) on held);
               };
               stripe = stays_stripe told (call_is ∷ []) so asked work;

@@ -152,7 +152,7 @@ StripeAnswers set part (Err NoRoom) new told = Unit {0}
 
 -- and the tables are held on
 pub record FetchAnswers {Z : Type 0} (result : Result (Option (Vec ℕ Z)) ReadFaultKind) (new : Fetching) (told : Told) : Type 0 where
-  pub is_part : IsPartOf new.asked new.manifest new.part (all_calls told)
+  pub is_part : IsPartOf new.asked new.manifest new.part told.before (all_calls told)
   pub stripe : StripeAnswers (set_of new.asked) is_part.part result new.work told
   pub ahead : AreAhead (set_of new.asked) is_part.part new.ahead (all_calls told)
 

@@ -88,16 +88,16 @@ pub record IsStripe (set : SetPlan) (part : ManifestPart) (i size : ℕ) (found 
 abbrev pub IsStripeOf : SetPlan → ManifestPart → StripeWork → Account → Account → Type 0
 IsStripeOf set part work calls since = IsStripe set part work.stripe work.size work.found work.tried work.whys calls since
 
--- a manifest was found, and a part of it is read, whose tables that are held were shown
-pub record IsPartOf (asked : Asked) (manifest : Manifest) (work : PartWork) (calls : Account) : Type 0 where
+-- a manifest was found before the last turn, and a part of it is read, whose tables that are held were shown
+pub record IsPartOf (asked : Asked) (manifest : Manifest) (work : PartWork) (before calls : Account) : Type 0 where
   pub part : ManifestPart
   pub part_is : (d : ManifestPart) → slice_index_or manifest.parts work.place d ≡ part
-  pub found : IsFoundIn (wants asked) asked.id manifest calls
+  pub found : IsFoundIn (wants asked) asked.id manifest before
   pub held : AreTablesOf (data_drives (set_of asked).drives (set_of asked).parity) part (all_bytes work.tables.items) calls
 
 -- the reading of a stripe stands so by the reader's calls
 pub record IsFetchOf (fetching : FetchingRecord) (told : Told) : Type 0 where
-  pub is_part : IsPartOf fetching.asked fetching.manifest fetching.part (all_calls told)
+  pub is_part : IsPartOf fetching.asked fetching.manifest fetching.part told.before (all_calls told)
   pub stripe : IsStripeOf (set_of fetching.asked) is_part.part fetching.work (all_calls told) told.since
   pub ahead : AreAhead (set_of fetching.asked) is_part.part fetching.ahead (all_calls told)
 
@@ -106,7 +106,7 @@ abbrev pub IsRefusedIn : Asked → ReadFaultKind → Told → ℕ → Type 0
 IsRefusedIn asked (InvalidRange _) told given = ⊥
 IsRefusedIn asked (ShardQuorum whys) told given =
     NoneServesIn (set_of asked) asked.wanted.print asked.id asked.wanted.reach whys (all_calls told)
-    ⊎ FewBlocksIn (set_of asked) asked.wanted.print asked.id asked.wanted.reach (asked.span.at + given) whys (all_calls told) told.since
+    ⊎ FewBlocksIn (set_of asked) asked.wanted.print asked.id asked.wanted.reach (asked.span.at + given) whys told.before told.since
 IsRefusedIn asked NoMemory told given = Unit {0}
 
 -- a state stands so by the reader's calls, after so many bytes were given
@@ -164,11 +164,11 @@ turns (Ok Piece) old new = true
 turns (Ok Done) old new = finds old new
 turns (Err fault) old new = false
 
--- what a step answers, with its piece and all that was given: a piece is not empty, `Done` comes only with the whole span, after the manifest was found, and a
+-- what a step answers, with its piece and all that was given: a piece is not empty and ends within the span, `Done` comes only with the whole span, after the manifest was found, and a
 -- refusal has its cause in the calls
 abbrev pub AnswersBy : Result ReadStep ReadFaultKind → Asked → State → List ℕ → Told → List ℕ → Type 0
 AnswersBy (Ok More) asked new piece told given = Unit {0}
-AnswersBy (Ok Piece) asked new piece told given = 0 < length piece
+AnswersBy (Ok Piece) asked new piece told given = (0 < length piece) × (length given ≤ asked.span.length)
 AnswersBy (Ok Done) asked new piece told given = (length given ≡ asked.span.length)
     × ((m : Manifest) × (manifest_in new ≡ Some m) × IsFoundIn (wants asked) asked.id m (all_calls told))
 AnswersBy (Err fault) asked new piece told given = IsRefusedIn asked fault told (length given)

@@ -1,5 +1,5 @@
 -- Why a reader refuses: all drives were tried, and each letter has its call.
-use Rattle.std.specs.Prelude.{◌≡◌, ◌<◌, ◌≤◌, ◌+◌, ◌*◌, ℕ, List, [], Some, length, take, slice_get, slice_index_or}
+use Rattle.std.specs.Prelude.{◌≡◌, ◌<◌, ◌≤◌, ◌+◌, ◌*◌, ℕ, List, [], ◌++◌, Some, length, take, slice_get, slice_index_or}
 use Rattle.stamp_id.specs.declared.version.VersionId.{VersionId}
 use Rattle.call_types.specs.Good.{good_count}
 use Rattle.call_types.specs.declared.why.Why.{Why}
@@ -35,13 +35,13 @@ pub record IsInStripe (m : Manifest) (at place : ℕ) (part : ManifestPart) (str
   pub ends : at < body_length (take place m.parts) + stripe_size * (stripe + 1)
   pub within : at < body_length (take place m.parts) + part.length
 
--- of the stripe that has the next byte too few drives gave a block, and a manifest that serves was found before
-pub record FewBlocksIn (set : SetPlan) (print : List ℕ) (id : VersionId) (reach next : ℕ) (whys : List Why) (account since : Account) : Type 0 where
+-- of the stripe that has the next byte too few drives gave a block since the reader turned to it, and a manifest that serves was found before that turn
+pub record FewBlocksIn (set : SetPlan) (print : List ℕ) (id : VersionId) (reach next : ℕ) (whys : List Why) (before since : Account) : Type 0 where
   pub manifest : Manifest
-  pub found : IsFoundIn (wanted_of set print reach) id manifest account
+  pub found : IsFoundIn (wanted_of set print reach) id manifest before
   pub place : ℕ
   pub part : ManifestPart
   pub stripe : ℕ
   pub next_in : IsInStripe manifest next place part stripe
   pub needed : next < reach
-  pub few : FewGiveIn set part stripe whys account since
+  pub few : FewGiveIn set part stripe whys (before ++ since) since
