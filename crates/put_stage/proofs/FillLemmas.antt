@@ -51,20 +51,14 @@ gave_both xs ys old mid new first second = record {
 }
 
 -- what was given, and at most so many bytes more
-pub gave_more : (xs : List ℕ) (most all : ℕ) (old mid new : FeedView) → Gave xs old mid → GaveUpTo most mid new → length xs + most ≤ all → GaveUpTo all old new
-gave_more xs most all old mid new first second fits = record {
+pub gave_more : (xs : List ℕ) (most all before between after : ℕ) (old mid new : FeedView) → Gave xs old mid → length xs + between ≡ before
+    → GaveUpTo most between after mid new → length xs + most ≤ all → GaveUpTo all before after old new
+gave_more xs most all before between after old mid new first counted second fits = record {
   bytes = xs ++ second.bytes;
   few = omega (arith, second.few, length-append xs second.bytes);
+  left = omega (arith, counted, second.left, length-append xs second.bytes);
   gave = gave_both xs second.bytes old mid new first second.gave;
 }
-
--- what was given is at most this
-pub gave_all : (xs : List ℕ) (all : ℕ) (old new : FeedView) → Gave xs old new → length xs ≤ all → GaveUpTo all old new
-gave_all xs all old new gave fits = record { bytes = xs; few = fits; gave = gave }
-
--- what is at most few bytes is at most more
-pub gave_wider : (most all : ℕ) (old new : FeedView) → GaveUpTo most old new → most ≤ all → GaveUpTo all old new
-gave_wider most all old new gave fits = record { bytes = gave.bytes; few = omega (arith, gave.few); gave = gave.gave }
 
 -- a shard with the block of one stripe more
 shard_with : (n k : ℕ) (shards : List (List (List ℕ))) (blocks : List (List ℕ)) → length shards ≡ n → k < n

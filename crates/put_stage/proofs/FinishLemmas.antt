@@ -10,6 +10,7 @@ use Rattle.call_types.specs.declared.why.Why.{Why}
 use Rattle.call_types.specs.declared.why.Why.TheVariants.{Good, Lacks}
 use Rattle.drive_base.specs.Files.{Files}
 use Rattle.drive_base.specs.Plan.{data_drives}
+use Rattle.manifest_file.specs.Canonical.{IsCanonical}
 use Rattle.manifest_file.specs.Print.{Cut, print_text}
 use Rattle.shard_file.specs.Shards.{root_of, shard_bytes}
 use Rattle.body_print.proofs.ShardLemmas.{shards_have_their_blocks}
@@ -19,9 +20,9 @@ use Rattle.put_stage.specs.Coding.{IsSharded, block_at}
 use Rattle.put_stage.specs.Dues.{is_nothing}
 use Rattle.put_stage.specs.Finishing.{StagesBody, StagesManifestAlone}
 use Rattle.put_stage.specs.Holding.{HoldsBody}
-use Rattle.put_stage.specs.Outcomes.{Acknowledges, Answers, manifest_of}
+use Rattle.put_stage.specs.Outcomes.{Acknowledges, Answers}
 use Rattle.put_stage.specs.Stepping.{HasDone, MayFinish}
-use Rattle.put_stage.specs.Taking.{HasTaken}
+use Rattle.put_stage.specs.Taking.{HasTaken, manifest_in}
 use Rattle.put_stage.specs.Working.{AtWork, Blocks, HasBy, all_placed, due_at, why_at}
 use Rattle.put_stage.specs.declared.dues.Due.{Due}
 use Rattle.put_stage.specs.declared.dues.Due.TheVariants.{Block, Table, SyncShard, Manifest as DueManifest, SyncManifest, PlaceManifest, PlaceShard, Nothing}
@@ -93,43 +94,53 @@ one_part load body print shards taken whole is =
       hashed = is ∙ (taken.made whole).print;
     }
 
+-- the manifest of a body that is taken whole
+pub whole_manifest : (load : Load) (body : List ℕ) (shards : List (List (List ℕ))) → HasTaken load body shards → load.left ≡ 0
+    → IsCanonical (manifest_in load body shards)
+whole_manifest load body shards taken whole =
+    let set = load.set in
+    let d = data_drives set.drives set.parity in
+    let roots = map root_of shards in
+    let fits : length body ≤ 5368709120 = omega (arith, taken.long, load.few taken.of_body) in
+    let sharded : IsSharded set.drives d body (map shard_bytes shards) roots =
+    record { shards = shards; are = taken.are; files_are = refl; roots_are = refl } in
+    canonical set load.names.id (string_bytes load.name) body (length body) d (map shard_bytes shards) roots (manifest_in load body shards) refl
+    load.short_name fits sharded
+
 -- a drive with all in place holds the body
 holds_body : (stage : Stage) (body print : List ℕ) (shards : List (List (List ℕ))) (k : ℕ) (first : DataCells) (files : Files)
     → HasTaken stage.load body shards → stage.load.left ≡ 0 → print ≡ stage.load.made.print → k < stage.load.set.drives
     → data_of stage.load.names.id files ≡ all_placed first stage.load.made.manifest.items (Some (slice_index_or shards k []))
-    → HoldsBody stage.load.set stage.load.names.id print k files.kept
+    → (held : HoldsBody stage.load.set stage.load.names.id print k files.kept) × (held.whole.manifest ≡ manifest_in stage.load body shards)
 holds_body stage body print shards k first files taken whole is low all =
     let load = stage.load in
     let set = stage.load.set in
     let id = stage.load.names.id in
     let n = set.drives in
     let d = data_drives set.drives set.parity in
-    let name = string_bytes load.name in
     let roots = map root_of shards in
     let made = taken.made whole in
-    let m = manifest_of set id name (length body) roots in
-    let fits : length body ≤ 5368709120 = omega (arith, taken.long, load.few taken.of_body) in
-    let sharded : IsSharded n d body (map shard_bytes shards) roots =
-    record { shards = shards; are = taken.are; files_are = refl; roots_are = refl } in
-    let inside : k < length shards = omega (arith, taken.are.count, low) in
-    record {
-      whole = record {
-        manifest = m;
-        canonical = canonical set id name body (length body) d (map shard_bytes shards) roots m refl load.short_name fits sharded;
-        is = ap (λ (cells : DataCells). cells.manifest) all ∙ ap (λ (bytes : List ℕ). Some bytes) made.manifest;
-        printed = is ∙ made.print;
-      };
-      part = record { id = id; length = length body; roots = roots };
-      alone = refl;
-      own = refl;
-      shard = record {
-        within = low;
-        blocks = slice_index_or shards k [];
-        sized = shards_have_their_blocks n d body shards k taken.are low;
-        is = ap (λ (cells : DataCells). cells.shard) all;
-        root = get_or-map root_of shards k [] [] inside;
-      };
-    }
+    let inside : k < length shards = omega (arith, taken.are.count, low) in (
+      record {
+        whole = record {
+          manifest = manifest_in load body shards;
+          canonical = whole_manifest load body shards taken whole;
+          is = ap (λ (cells : DataCells). cells.manifest) all ∙ ap (λ (bytes : List ℕ). Some bytes) made.manifest;
+          printed = is ∙ made.print;
+        };
+        part = record { id = id; length = length body; roots = roots };
+        alone = refl;
+        own = refl;
+        shard = record {
+          within = low;
+          blocks = slice_index_or shards k [];
+          sized = shards_have_their_blocks n d body shards k taken.are low;
+          is = ap (λ (cells : DataCells). cells.shard) all;
+          root = get_or-map root_of shards k [] [] inside;
+        };
+      },
+      refl,
+    )
 
 -- the answer of a stage of a body
 pub finished_body : (stage : Stage) (result : Result Staged StageFault) → MayFinish stage

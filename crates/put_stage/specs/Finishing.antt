@@ -3,7 +3,7 @@ use Rattle.std.specs.Prelude.{◌≡◌, ◌≢◌, ◌<◌, ℕ, true, List, []
 use Rattle.std.specs.Int.{IsBitSet}
 use Rattle.call_types.specs.Good.{good_count}
 use Rattle.md5.specs.Md5.{md5}
-use Rattle.drive_base.specs.Files.{Files}
+use Rattle.drive_base.specs.Files.{Files, Named}
 use Rattle.drive_base.specs.Plan.{write_drives}
 use Rattle.manifest_file.specs.Canonical.{IsCanonical}
 use Rattle.manifest_file.specs.Spelling.{file_of}
@@ -15,7 +15,7 @@ use Rattle.put_stage.specs.Cells.{DataCells, data_of}
 use Rattle.put_stage.specs.Holding.{HoldsBody}
 use Rattle.put_stage.specs.Manifests.{print_under, total_size}
 use Rattle.put_stage.specs.Outcomes.{Acknowledges, Agrees}
-use Rattle.put_stage.specs.Taking.{HasTaken}
+use Rattle.put_stage.specs.Taking.{HasTaken, manifest_in}
 use Rattle.put_stage.specs.Working.{AtWork, Blocks, Keeps}
 use Rattle.put_stage.specs.declared.stage.Load.{Load}
 use Rattle.put_stage.specs.declared.stage.Stage.{Stage}
@@ -38,6 +38,11 @@ Concludes stage (Err BodyCut) = ⊥
 Concludes stage (Err ReadFault) = ⊥
 Concludes stage (Err NoMemory) = ⊥
 
+-- kept files hold the body of a stage, under the one manifest of that body
+abbrev pub HoldsStaged : Stage → Staged → List ℕ → List (List (List ℕ)) → ℕ → Named (List ℕ) → Type 0
+HoldsStaged stage staged body shards k kept = (held : HoldsBody stage.load.set stage.load.names.id staged.print k kept)
+    × (held.whole.manifest ≡ manifest_in stage.load body shards)
+
 -- a body is staged: the answer tells the print, the length and the MD5 of exactly the bytes that were taken, and each drive that took it, and has
 -- what the stage says, holds it
 pub record IsStagedBody (stage : Stage) (staged : Staged) (body : List ℕ) (shards : List (List (List ℕ))) : Type 0 where
@@ -47,7 +52,7 @@ pub record IsStagedBody (stage : Stage) (staged : Staged) (body : List ℕ) (sha
   pub agrees : Agrees stage.load.stated body
   pub holds : (k : ℕ) (first : DataCells) (files : Files) → k < stage.load.set.drives → IsBitSet staged.took k
       → AtWork stage (Some (slice_index_or shards k [])) k first (data_of stage.load.names.id files)
-      → HoldsBody stage.load.set stage.load.names.id staged.print k files.kept
+      → HoldsStaged stage staged body shards k files.kept
 
 -- whoever took bytes with a stage learns so of them
 abbrev pub StagesBody : Stage → Result Staged StageFault → Type 0

@@ -1,8 +1,11 @@
 -- What holds of a stage at work whatever it does next.
-use Rattle.std.specs.Prelude.{ℕ}
+use Rattle.std.specs.Prelude.{◌≡◌, ℕ, List}
 use Rattle.drive_base.specs.Files.{Files}
+use Rattle.manifest_file.specs.Canonical.{IsCanonical}
 use Rattle.put_stage.specs.Cells.{DataCells, LeavesCells, data_of}
+use Rattle.put_stage.specs.Taking.{HasTaken, manifest_in}
 use Rattle.put_stage.specs.Working.{AtWork, Blocks, IsOpen, Keeps}
+use Rattle.put_stage.specs.declared.stage.Load.{Load}
 use Rattle.put_stage.specs.declared.stage.Stage.{Stage}
 
 -- A stage is at work on a drive still where others left what is under its four names.
@@ -14,3 +17,8 @@ WorkOutlivesOthers = (stage : Stage) (blocks : Blocks) (k : ℕ) (first : DataCe
 abbrev pub OpenStagesPlaceNothing : Type 0
 OpenStagesPlaceNothing = (stage : Stage) (blocks : Blocks) (k : ℕ) (first cells : DataCells) → IsOpen stage.load → AtWork stage blocks k first cells
     → Keeps first.manifest first.shard cells
+
+-- The manifest of a body that is taken whole is canonical.
+abbrev pub WholeBodiesHaveManifests : Type 0
+WholeBodiesHaveManifests = (load : Load) (body : List ℕ) (shards : List (List (List ℕ))) → HasTaken load body shards → load.left ≡ 0
+    → IsCanonical (manifest_in load body shards)

@@ -7,6 +7,7 @@ use Rattle.call_types.specs.Feeds.{FeedView, Gave}
 use Rattle.drive_base.specs.Plan.{data_drives}
 use Rattle.manifest_file.specs.Print.{print_of_parts}
 use Rattle.manifest_file.specs.Spelling.{file_of}
+use Rattle.manifest_file.specs.declared.manifest.Manifest.{Manifest}
 use Rattle.shard_file.specs.Shards.{root_of, table_of}
 use Rattle.shard_file.specs.Stripes.{pieces, stripe_size}
 use Rattle.body_print.specs.Shards.{AreShards, with_blocks}
@@ -20,9 +21,13 @@ use Rattle.put_stage.specs.declared.stage.Stage.{Stage}
 use Rattle.put_stage.specs.declared.staged.StageFault.{StageFault}
 use Rattle.put_stage.specs.declared.staged.StageFault.TheVariants.{WriteQuorum, BadDigest, BodyCut, ReadFault, NoMemory}
 
+-- the manifest of a body that has these shards
+abbrev pub manifest_in : Load → List ℕ → List (List (List ℕ)) → Manifest
+manifest_in load body shards = manifest_of load.set load.names.id (string_bytes load.name) (length body) (map root_of shards)
+
 -- the manifest, the print and the MD5 of a body that has these shards
 pub record IsMadeOf (load : Load) (body : List ℕ) (shards : List (List (List ℕ))) (made : Made) : Type 0 where
-  pub manifest : made.manifest.items ≡ file_of (manifest_of load.set load.names.id (string_bytes load.name) (length body) (map root_of shards))
+  pub manifest : made.manifest.items ≡ file_of (manifest_in load body shards)
   pub print : made.print ≡ print_of_parts load.set.drives load.set.parity ((length body, map root_of shards) ∷ [])
   pub etag : made.etag ≡ md5 body
 
@@ -73,16 +78,17 @@ pub record Filled (old new : Stage) (bytes : List ℕ) : Type 0 where
   pub taken : (body : List ℕ) (shards : List (List (List ℕ))) → HasTaken old.load body shards
       → (after : List (List (List ℕ))) × HasTaken new.load (body ++ bytes) after × WorkGoesOn old new shards after
 
--- a feed gave at most so many bytes
-pub record GaveUpTo (most : ℕ) (old new : FeedView) : Type 0 where
+-- a feed gave at most so many bytes, which are no longer left
+pub record GaveUpTo (most before after : ℕ) (old new : FeedView) : Type 0 where
   pub bytes : List ℕ
   pub few : length bytes ≤ most
+  pub left : length bytes + after ≡ before
   pub gave : Gave bytes old new
 
--- what a fill took of a feed: the bytes that the feed gave; one that is refused took at most a stripe
+-- what a fill took of a feed: the bytes that the feed gave; one that is refused took at most a stripe, and the stage has as many fewer left
 abbrev pub FillTakes : Result (Unit {0}) StageFault → Stage → Stage → FeedView → FeedView → Type 0
 FillTakes (Ok _) old new before after = (bytes : List ℕ) × Filled old new bytes × Gave bytes before after
-FillTakes (Err _) old new before after = GaveUpTo stripe_size before after
+FillTakes (Err _) old new before after = GaveUpTo stripe_size old.load.left new.load.left before after
 
 -- why a fill was refused, with the counts of faults of the feed's source
 abbrev pub FillCause : {T : Type 0} → Result T StageFault → FeedView → ℕ → ℕ → Type 0

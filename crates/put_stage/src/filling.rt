@@ -26,7 +26,7 @@ impl Stage {
     /// Takes the next stripe of the body from the feed, codes it, and lets its blocks be appended to the shard files. Where
     /// it is the last one the manifest is made, and the MD5 is compared with the one that was stated. `BodyCut` where the
     /// feed ended before its stated length, `ReadFault` where its source failed, `NoMemory`; after these the stage is of no
-    /// use.
+    /// use but to say how many bytes it took.
     pub fn fill<F: Feed>(&mut self, alloc: Global, feed: &mut F) -> Result<(), StageFault>
         requires next { MayFill self.old }
         requires feed { (F.seen feed.old).given + self.old.load.left ≡ (F.seen feed.old).stated }
@@ -37,6 +37,13 @@ impl Stage {
         take_stripe(alloc, &mut self.load, feed)?;
         append_next(&mut self.dues, &self.whys);
         Ok(())
+    }
+
+    /// How many bytes of the body are not yet taken of its feed, also after a fill that was refused. It takes no memory.
+    pub fn left(&self) -> u64
+        ensures { result ≡ self.now.load.left }
+    {
+        self.load.left
     }
 }
 
@@ -61,12 +68,11 @@ fn take_stripe<F: Feed>(alloc: Global, load: &mut Load, feed: &mut F) -> Result<
 {
     let long = load.left.min(STRIPE);
     let mut stripe = Vec::with_capacity(alloc, long as usize)?;
-    read_into(feed, long as usize, &mut stripe)?;
+    read_into(feed, long as usize, &mut load.left, &mut stripe)?;
     load.hasher.update(stripe.as_slice());
     let window = coded(alloc, &load.set, stripe)?;
     add_digests(load.tables.as_mut_slice(), window.digests.as_slice())?;
     load.window = window;
-    load.left -= long;
     if load.left > 0 {
         return Ok(());
     }
@@ -89,31 +95,44 @@ fn add_digests(tables: &mut [Vec<u8>], digests: &[[u8; 32]]) -> Result<(), Alloc
     Ok(())
 }
 
-/// Takes so many bytes of a feed, at most as many as its stated length leaves.
-fn read_into<F: Feed>(feed: &mut F, count: usize, into: &mut Vec<u8>) -> Result<(), StageFault>
+/// Takes so many bytes of a feed, at most as many as its stated length leaves, and counts them off those that are left.
+fn read_into<F: Feed>(
+    feed: &mut F,
+    count: usize,
+    left: &mut u64,
+    into: &mut Vec<u8>,
+) -> Result<(), StageFault>
     requires empty { into.old.items ≡ [] }
-    requires room { (F.seen feed.old).given + count ≤ (F.seen feed.old).stated }
-    ensures gave { ReadTakes result count into.new.items (F.seen feed.old) (F.seen feed.new) }
+    requires few { count ≤ left.old }
+    requires feed { (F.seen feed.old).given + left.old ≡ (F.seen feed.old).stated }
+    ensures gave { ReadTakes result count left.old left.new into.new.items (F.seen feed.old) (F.seen feed.new) }
     ensures cause { FillCause result (F.seen feed.new) (F.faults feed.old) (F.faults feed.new) }
 {
     while into.len() < count {
         let room = count - into.len();
-        take_piece(feed, room.min(PIECE), into)?;
+        take_piece(feed, room.min(PIECE), left, into)?;
     }
     Ok(())
 }
 
-/// Takes the next bytes of a feed, at most so many, and adds them.
-fn take_piece<F: Feed>(feed: &mut F, most: usize, into: &mut Vec<u8>) -> Result<(), StageFault>
+/// Takes the next bytes of a feed, at most so many, counts them off those that are left, and adds them.
+fn take_piece<F: Feed>(
+    feed: &mut F,
+    most: usize,
+    left: &mut u64,
+    into: &mut Vec<u8>,
+) -> Result<(), StageFault>
     requires some { 0 < most }
     requires few { most ≤ PIECE }
-    requires room { (F.seen feed.old).given + most ≤ (F.seen feed.old).stated }
-    ensures more { PieceTakes result most into.old.items into.new.items (F.seen feed.old) (F.seen feed.new) }
+    requires fits { most ≤ left.old }
+    requires feed { (F.seen feed.old).given + left.old ≡ (F.seen feed.old).stated }
+    ensures more { PieceTakes result most left.old left.new into.old.items into.new.items (F.seen feed.old) (F.seen feed.new) }
     ensures cause { FillCause result (F.seen feed.new) (F.faults feed.old) (F.faults feed.new) }
 {
     let mut piece = [0; PIECE];
     match feed.take(&mut piece[..most]) {
         Ok(count) => {
+            *left -= count as u64;
             into.extend_from_slice(&piece[..count])?;
             Ok(())
         }

@@ -1,10 +1,12 @@
 //! The laws of a stage at work, for a caller's proof.
 
-ghost use Rattle.put_stage.specs.Laws.{OpenStagesPlaceNothing, WorkOutlivesOthers};
+ghost use Rattle.put_stage.specs.Laws.{OpenStagesPlaceNothing, WholeBodiesHaveManifests, WorkOutlivesOthers};
 
 /// A stage is at work still after others that leave its four names, and puts nothing in place while bytes of its body are
-/// left, or where the body has another MD5 than stated: so also where a `fill` is refused. It does nothing.
+/// left, or where the body has another MD5 than stated: so also where a `fill` is refused. The
+/// manifest that it makes of a body is canonical. It does nothing.
 pub fn stage_laws()
     ensures others { WorkOutlivesOthers }
     ensures open { OpenStagesPlaceNothing }
+    ensures manifest { WholeBodiesHaveManifests }
 {}

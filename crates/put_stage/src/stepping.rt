@@ -37,6 +37,7 @@ impl Stage {
         ensures once { StepsOnce D.tells D.files D.count self.old self.new drives.old drives.new }
         ensures works { StepWorks D.tells D.files self.old self.new drives.old drives.new }
         ensures load { self.new.load ≡ self.old.load }
+        ensures drives { length drives.new ≡ length drives.old }
         ensures fewer { (k : ℕ) → IsDue self.old k → calls_left self.new < calls_left self.old }
         ensures tells { (k : ℕ) (d : D) → k < length drives.old → D.tells (slice_index_or drives.new k d) ≡ D.tells (slice_index_or drives.old k d) }
         ensures counts { (k : ℕ) (d : D) → k < length drives.old → D.count (slice_index_or drives.old k d) ≤ D.count (slice_index_or drives.new k d) }

@@ -1,4 +1,4 @@
-use Rattle.std.proofs.Common.{◌≡◌, ◌-◌, ◌≤◌, length, vec_len}
+use Rattle.std.proofs.Common.{◌≡◌, ◌+◌, ◌-◌, ◌≤◌, length, vec_len}
 use Rattle.call_types.specs.Feeds.{Gave}
 use Rattle.put_stage.proofs.filling.read_into.Given as goal
 
@@ -6,6 +6,7 @@ use Rattle.put_stage.proofs.filling.read_into.Given as goal
 abbrev pub invariant-loop-into : goal.invariant-loop-into
 invariant-loop-into g l = let F = g.F.Feed in record {
   few : length l.into.items ≤ l.count;
+  left : length l.into.items + l.left ≡ l.initial.left;
   gave : Gave l.into.items (F.seen l.initial.feed) (F.seen l.feed);
   calm : F.faults l.feed ≡ F.faults l.initial.feed;
 }

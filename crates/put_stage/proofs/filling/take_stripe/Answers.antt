@@ -23,7 +23,7 @@ returns-then-load-gt0-clause-takes g c =
     λ body holds. subst (λ (bytes : List ℕ). Holds c.update.new.self (body ++ bytes)) c.as_slice.ensures.value (c.update.ensures body holds) in (
       stripe,
       took_stripe load _ stripe (record { set = refl; id = refl; name = refl; alone = refl; long = refl; stated = refl })
-          c.requires.some (omega (arith, long, take_is, c.requires.some)) (omega (arith, long, take_is)) (omega (arith, long, take_is)) (λ more. omega (arith, long, take_is, more))
+          c.requires.some (omega (arith, long, take_is, c.requires.some)) (omega (arith, long, take_is)) gave.left (λ more. omega (arith, long, take_is, gave.left, more))
           c.in_ok-window.ensures
           (λ k low.
           ap (λ tables. slice_index_or (all_bytes tables) k []) tables_are
@@ -49,7 +49,7 @@ returns-clause-takes g c =
     λ body holds. subst (λ (bytes : List ℕ). Holds c.update.new.self (body ++ bytes)) c.as_slice.ensures.value (c.update.ensures body holds) in (
       stripe,
       took_stripe load _ stripe (record { set = refl; id = refl; name = refl; alone = refl; long = refl; stated = refl })
-          c.requires.some (omega (arith, long, take_is, c.requires.some)) (omega (arith, long, take_is)) (omega (arith, long, take_is)) (λ more. omega (arith, long, take_is, more))
+          c.requires.some (omega (arith, long, take_is, c.requires.some)) (omega (arith, long, take_is)) gave.left (λ more. omega (arith, long, take_is, gave.left, more))
           c.in_ok-window.ensures
           (λ k low.
           ap (λ tables. slice_index_or (all_bytes tables) k []) tables_are
