@@ -4,6 +4,7 @@ use Rattle.drive_base.specs.declared.plan.SetPlan.{SetPlan}
 use Rattle.fault_base.specs.declared.memory.NoMemory.{NoMemory}
 use Rattle.slot_core.specs.declared.commit.Commit.TheVariants.{MakeBucket}
 use Rattle.receipts.specs.Registers.{bucket_slot}
+use Rattle.receipts.proofs.RegisterLemmas.{bucket_slot_below}
 use Rattle.op_steps.specs.Claims.{no_claim}
 use Rattle.bucket_ops.specs.Begins.{BeginsSetting, IsNewMake, IsNewSet}
 use Rattle.bucket_ops.specs.Changes.{AfterDocument, ChangeStands, HasChanged, HasTaken}
@@ -16,7 +17,7 @@ use Rattle.bucket_ops.proofs.FeedLemmas.{document_stands}
 
 -- what an op stands for
 abbrev pub Stands : ChangeOp → Type 0
-Stands op = (slot : ℕ) × ChangeStands op.set op.sets_mode op.document op.bucket op.now (bucket_slot op.bucket) op.state (no_claim slot) []
+Stands op = (slot : ℕ) × (slot < 64) × ChangeStands op.set op.sets_mode op.document op.bucket op.now (bucket_slot op.bucket) op.state (no_claim slot) []
 
 -- nothing of a document was taken
 none_taken : (document : Document) → document.taken ≡ 0 → HasTaken (taken_of document) []
@@ -38,7 +39,7 @@ make_done set bucket now op x =
     }))
 
 pub make_begins : (set : SetPlan) (bucket : List ℕ) (now : ℕ) (result : Result ChangeOp NoMemory) → IfOk result (IsNewMake set bucket now) → IfOk result Stands
-make_begins set bucket now (Ok op) x = (bucket_slot op.bucket, record { none = refl; done = make_done set bucket now op x })
+make_begins set bucket now (Ok op) x = (bucket_slot op.bucket, bucket_slot_below op.bucket, record { none = refl; done = make_done set bucket now op x })
 make_begins set bucket now (Err fault) x = tt
 
 set_done : (set : SetPlan) (bucket : List ℕ) (long now : ℕ) (op : ChangeOp) → IsNewSet set bucket long now op → BeginsSetting bucket op
@@ -51,5 +52,5 @@ set_done set bucket long now op x (inr read) =
     (subst (λ b. AfterDocument b [] op.state) (sym x.bucket_is) read.1))
 
 pub set_begins : (set : SetPlan) (bucket : List ℕ) (long now : ℕ) (result : Result ChangeOp NoMemory) → IfOk result (IsNewSet set bucket long now) → IfOk result Stands
-set_begins set bucket long now (Ok op) x = (bucket_slot op.bucket, record { none = refl; done = set_done set bucket long now op x x.begins })
+set_begins set bucket long now (Ok op) x = (bucket_slot op.bucket, bucket_slot_below op.bucket, record { none = refl; done = set_done set bucket long now op x x.begins })
 set_begins set bucket long now (Err fault) x = tt

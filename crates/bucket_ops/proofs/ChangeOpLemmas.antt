@@ -64,10 +64,13 @@ pub untold_with : (log : Log) (event : Event) → All IsUntold log → IsUntold 
 untold_with log event all is = All-append IsUntold log (event ∷ []) all (one_untold event is)
 
 -- a log without a section changed nothing
+pub idle_log : (log : Log) → sections_of log ≡ [] → All ChangesNothing (sections_of log)
+idle_log log none = subst (λ sections. All ChangesNothing sections) (sym none) (λ k d l. let below : k < 0 = l in absurd (omega arith))
+
 pub still_nothing : (set : SetPlan) (sets : Bool) (document : Document) (bucket : List ℕ) (now : ℕ) (log : Log) → sections_of log ≡ []
     → DidNoMore set (change_task sets document bucket now) log
 still_nothing set sets document bucket now log none =
-    inl (subst (λ sections. All ChangesNothing sections) (sym none) (λ k d l. let below : k < 0 = l in absurd (omega arith)))
+    inl (idle_log log none)
 
 -- the whole body was taken
 whole_after : (sets : Bool) (document : Document) (bucket : List ℕ) (deed : Commit) (before : Log) (event : Event) → MayCommit sets document bucket deed before

@@ -29,7 +29,7 @@ use Rattle.bucket_ops.specs.Taking.{IsFedFrom, TakesSome, taken_of}
 use Rattle.bucket_ops.specs.declared.change_state.ChangeState.{ChangeState}
 use Rattle.bucket_ops.specs.declared.change_state.ChangeState.TheVariants.{Committing, Over, Reading, Telling}
 use Rattle.bucket_ops.specs.declared.document.Document.{Document}
-use Rattle.bucket_ops.proofs.ChangeOpLemmas.{body_with, cuts_with, sections_with, still_nothing, untold_with}
+use Rattle.bucket_ops.proofs.ChangeOpLemmas.{body_with, cuts_with, idle_log, sections_with, still_nothing, untold_with}
 
 -- a document is whole
 pub is_whole : (a b : ℕ) → nat_eq a b ≡ true → a ≡ b
@@ -73,7 +73,7 @@ cut_pays set document bucket now cuts.ReadFault bytes log was after sections tal
   outcome = CutOff cuts.ReadFault [];
   ends = refl;
   tells = sym tale;
-  owes = (refl, uncut, still_nothing set true document bucket now (log ++ Fed bytes (Some cuts.ReadFault) ∷ []) sections);
+  owes = (refl, uncut, idle_log (log ++ Fed bytes (Some cuts.ReadFault) ∷ []) sections);
 }
 cut_pays set document bucket now (cuts.BodyCut read stated) bytes log was after sections tale uncut long fed cause = record {
   outcome = CutOff (cuts.BodyCut read stated) [];
@@ -85,7 +85,7 @@ cut_pays set document bucket now (cuts.BodyCut read stated) bytes log was after 
     cause.0 ∙ (fed.given ∙ sym long),
     cause.1 ∙ fed.stated,
     (let a = cause.0 in let b = cause.1 in let c = cause.2 in omega (arith, a, b, c)),
-    still_nothing set true document bucket now (log ++ Fed bytes (Some (cuts.BodyCut read stated)) ∷ []) sections,
+    idle_log (log ++ Fed bytes (Some (cuts.BodyCut read stated)) ∷ []) sections,
   );
 }
 cut_pays set document bucket now cuts.WriteFault bytes log was after sections tale uncut long fed cause = absurd cause

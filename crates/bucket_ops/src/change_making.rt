@@ -1,6 +1,6 @@
 //! How the op of a change begins.
 
-ghost use Rattle.std.specs.Prelude.{◌≡◌, ◌≤◌, ℕ, [], IfOk, length};
+ghost use Rattle.std.specs.Prelude.{◌≡◌, ◌<◌, ◌≤◌, ℕ, [], IfOk, length};
 ghost use Rattle.version_list.specs.State.{IsMoment};
 ghost use Rattle.op_steps.specs.Claims.{no_claim};
 ghost use Rattle.bucket_ops.specs.Begins.{IsNewMake, IsNewSet};
@@ -27,7 +27,7 @@ impl ChangeOp {
         ensures set { IfOk result (λ op. ⟦<ChangeOp as Op>⟧.set op ≡ set) }
         ensures task { IfOk result (λ op. ⟦<ChangeOp as Op>⟧.task op ≡ record { call = call.now; now = now }) }
         ensures taken { IfOk result (λ op. ⟦<ChangeOp as Op>⟧.taken op ≡ 0) }
-        ensures begins { IfOk result (λ op. (slot : ℕ) × ⟦<ChangeOp as Op>⟧.stands op (no_claim slot) []) }
+        ensures begins { IfOk result (λ op. (slot : ℕ) × (slot < 64) × ⟦<ChangeOp as Op>⟧.stands op (no_claim slot) []) }
     {
         match call {
             Call::CreateBucket { bucket } => ChangeOp::make(alloc, set, bucket, now),

@@ -1,6 +1,6 @@
 //! How the op of a look begins.
 
-ghost use Rattle.std.specs.Prelude.{◌≡◌, ℕ, [], IfOk};
+ghost use Rattle.std.specs.Prelude.{◌≡◌, ◌<◌, ℕ, [], IfOk};
 ghost use Rattle.bucket_book.specs.Name.{IsBucketName};
 ghost use Rattle.op_steps.specs.Claims.{no_claim};
 ghost use Rattle.bucket_ops.specs.Begins.{IsNew};
@@ -23,7 +23,7 @@ impl LookOp {
         ensures set { IfOk result (λ op. ⟦<LookOp as Op>⟧.set op ≡ set) }
         ensures task { IfOk result (λ op. ⟦<LookOp as Op>⟧.task op ≡ record { call = call.now; now = now }) }
         ensures taken { IfOk result (λ op. ⟦<LookOp as Op>⟧.taken op ≡ 0) }
-        ensures begins { IfOk result (λ op. (slot : ℕ) × ⟦<LookOp as Op>⟧.stands op (no_claim slot) []) }
+        ensures begins { IfOk result (λ op. (slot : ℕ) × (slot < 64) × ⟦<LookOp as Op>⟧.stands op (no_claim slot) []) }
     {
         match call {
             Call::HeadBucket { bucket } => LookOp::of(alloc, set, bucket, false, now),

@@ -86,6 +86,7 @@ module _ {D : Type 0} (ghosts : Ghosts D) where
         records_after = left.after;
         state_after = left.now;
         stands = left.stands;
+        stay = left.stay;
         moves = subst (λ e. EntryMoves was.numbers.index e (ShowsBy e NoneShown) records state left.after left.now) (sym (same_entry stub))
             (moves_bare was.numbers.index (entry_of stub) (ShowsTrash deed answer was.holding.trash now.holding.trash) records left.after state left.now left.moves);
         holds = λ unseen front rest d.
@@ -105,6 +106,8 @@ module _ {D : Type 0} (ghosts : Ghosts D) where
                   (let rises = last_rises was.numbers now.numbers x.turns.numbers in omega (arith, rises, above));
               met = λ c there. met_on was.numbers.set was.holding now.holding unseen (views ghosts old) c flights pins (d.met c there);
               apart = d.apart;
+              flights_are = λ f there. d.flights_are f (subst (λ (l : List Flying). Contains l f) flights there);
+              pins_are = λ p there. d.pins_are p (subst (λ (l : List Pinned). Contains l p) pins there);
             } in
             data_read now.numbers now.holding unseen (views ghosts old) (views ghosts new) (among front claim rest) (among front claim rest) left.after left.now
             (all_read ghosts old new x.read) refl

@@ -1,5 +1,5 @@
 -- The data of a slot goes on to hold where data drives are only read, and other claims change elsewhere.
-use Rattle.std.proofs.Common.{◌≡◌, ◌≢◌, ◌<◌, ◌≤◌, ◌+◌, ◌*◌, ◌∙◌, ◌^◌, ◌==◌, ℕ, None, Bool, true, false, IsTrue, List, ◌∷◌, ◌++◌, Contains, bit_and, cond, ext_get_or, length, inl, inr, refl, sym, ap, subst, subst₂, arith}
+use Rattle.std.proofs.Common.{◌≡◌, ◌≢◌, ◌<◌, ◌≤◌, ◌+◌, ◌*◌, ◌∙◌, ◌^◌, ◌==◌, ℕ, None, Some, Bool, true, false, IsTrue, List, ◌∷◌, ◌++◌, Contains, bit_and, cond, ext_get_or, length, inl, inr, refl, sym, ap, subst, subst₂, arith}
 use Rattle.std.specs.Int.{IsBitSet}
 use Rattle.std.proofs.lemmas.Bool.{cases_eq, eqb-true}
 use Rattle.std.proofs.lemmas.Bool.Decides.{eqb_tells}
@@ -80,6 +80,8 @@ data_read numbers holding unseen old new claims later records state read same x 
       (sym (same_files numbers.set old new k x.tell read inside in_use)) (x.loose k id inside in_use own above);
   met = λ c there. met_stays numbers.set holding unseen old new c x.tell read (x.met c (subst (λ own. Contains own c) same there));
   apart = subst AllApart (sym same) x.apart;
+  flights_are = λ f there. subst (λ own. (c : Claim) × Contains own c × (c.flight ≡ Some f)) (sym same) (x.flights_are f there);
+  pins_are = λ p there. subst (λ own. (c : Claim) × Contains own c × (c.pin ≡ Some p)) (sym same) (x.pins_are p there);
 }
 
 -- a claim of another slot isn't among a slot's

@@ -1,9 +1,11 @@
 pub mod CommitLemmas
 pub mod DataLemmas
 pub mod LookLemmas
+pub mod NamesLemmas
 pub mod NoteLemmas
 pub mod RunLemmas
 pub mod SlotLemmas
+pub mod StayLemmas
 pub mod StepLemmas
 pub mod TellLemmas
 pub mod TurnLemmas

@@ -9,16 +9,15 @@ use Rattle.slot_history.specs.State.{State}
 use Rattle.slot_core.specs.Sections.{SaysKept, ShowsContent}
 use Rattle.slot_core.specs.Stubs.{entry_of}
 use Rattle.slot_core.specs.Turning.{EntryMoves}
-use Rattle.slot_core.specs.Views.{last_of}
 use Rattle.slot_core.specs.declared.fault.SlotFault.{SlotFault}
 use Rattle.slot_core.specs.declared.stub.Stub.{Stub}
-use Rattle.op_steps.specs.Claims.{Claim, HoldsAt, IsMet, among, claims_at, disks_of, hands_of}
+use Rattle.op_steps.specs.Claims.{Claim, among}
 use Rattle.op_steps.specs.Looking.{AreOnlyRead, LookIsTurn, LookSays, ReadIsCall, shown_by}
-use Rattle.op_steps.specs.Moves.{KeepsOthers, ShowsBy, TurnLeaves}
-use Rattle.op_steps.specs.Notes.{noted}
-use Rattle.op_steps.specs.Store.{LanesStand, SlotSeen}
-use Rattle.op_steps.proofs.DataLemmas.{data_read, last_rises}
-use Rattle.op_steps.proofs.NoteLemmas.{audit_noted, entry_counts, entry_noted, same_entry}
+use Rattle.op_steps.specs.Moves.{KeepsOthers, ShowsBy}
+use Rattle.op_steps.specs.Store.{SlotSeen}
+use Rattle.op_steps.proofs.DataLemmas.{data_read}
+use Rattle.op_steps.proofs.NoteLemmas.{audit_noted, entry_counts, entry_noted}
+use Rattle.op_steps.proofs.StayLemmas.{Stays, stays_leave}
 
 -- what was shown is so of the register that the entry names
 shows_by : (answer : Result (List ℕ) SlotFault) (name : List ℕ) (entry : Entry) (before after : State) → entry.name ≡ name
@@ -53,33 +52,17 @@ module _ {D : Type 0} (ghosts : Ghosts D) where
     each = λ k inside. each_read old new k x inside;
   }
 
-  -- what a look leaves of its lanes and of the slot's data
-  look_leaves : (was now : SlotSeen D) (name : List ℕ) (answer : Result (List ℕ) SlotFault) (stub : Option Stub) (old new : List D) (claim : Claim)
-      → LookSays ghosts was now name answer stub old new → (records : Records) (state : State) → LanesStand ghosts.tells ghosts.files was records state
-      → TurnLeaves ghosts.tells ghosts.files was now (noted stub) (shown_by answer) claim claim (views ghosts old) (views ghosts new) records state
-  look_leaves was now name answer stub old new claim x records state stands =
-      let left = x.leaves records state stands in
-      record {
-        records_after = left.after;
-        state_after = left.now;
-        stands = left.stands;
-        moves = subst (λ e. EntryMoves was.numbers.index e (ShowsBy e (shown_by answer)) records state left.after left.now) (sym (same_entry stub))
-            (moves_by was.numbers.index (entry_of stub) name answer records left.after state left.now x.says left.moves);
-        holds = λ unseen front rest d.
-            let inner : HoldsAt was.numbers.set was.numbers.index (last_of now.numbers) now.holding unseen (views ghosts old) (among front claim rest) left.after left.now = record {
-              tell = d.tell;
-              stands = left.holds (disks_of unseen was.numbers.set.out (views ghosts old)) (hands_of (claims_at was.numbers.index (among front claim rest)))
-                  (hands_of (claims_at was.numbers.index (among front claim rest))) refl d.stands;
-              loose = λ k id inside in_use own above. d.loose k id inside in_use own
-                  (let rises = last_rises was.numbers now.numbers x.turns.numbers in omega (arith, rises, above));
-              met = λ c there. subst (λ h. IsMet was.numbers.set h unseen (views ghosts old) c) (sym x.holds) (d.met c there);
-              apart = d.apart;
-            } in
-            data_read now.numbers now.holding unseen (views ghosts old) (views ghosts new) (among front claim rest) (among front claim rest) left.after left.now
-            (all_read old new x.read) refl
-            (subst₂ (λ s i. HoldsAt s i (last_of now.numbers) now.holding unseen (views ghosts old) (among front claim rest) left.after left.now)
-            (sym x.turns.numbers.set) (sym x.turns.numbers.index) inner);
-      }
+  -- what a look says of its slot
+  look_stays : (was now : SlotSeen D) (name : List ℕ) (answer : Result (List ℕ) SlotFault) (stub : Option Stub) (old new : List D)
+      → LookSays ghosts was now name answer stub old new
+      → Stays ghosts was now stub (shown_by answer) (ShowsContent name answer) (views ghosts old) (views ghosts new)
+  look_stays was now name answer stub old new x = record {
+    numbers = x.turns.numbers;
+    holds = x.holds;
+    leaves = x.leaves;
+    read = all_read old new x.read;
+    shows = λ records after state later moves. moves_by was.numbers.index (entry_of stub) name answer records after state later x.says moves;
+  }
 
   pub look_is_turn : LookIsTurn ghosts
   look_is_turn was now name answer stub old new claim x = record {
@@ -89,7 +72,8 @@ module _ {D : Type 0} (ghosts : Ghosts D) where
     faults = entry_counts was.numbers answer stub was.faults now.faults x.turns.stub_is x.turns.faults;
     claims = record { slot = refl; elsewhere = λ other. refl };
     read = all_read old new x.read;
-    leaves = look_leaves was now name answer stub old new claim x;
+    leaves = stays_leave ghosts was now stub (shown_by answer) (ShowsContent name answer) (views ghosts old) (views ghosts new) claim
+        (look_stays was now name answer stub old new x);
   }
 
 pub read_is_call : ReadIsCall
@@ -105,6 +89,7 @@ read_is_call set k seen old new claim x = record {
   long = x.read.long;
   others = x.others;
   slot = refl;
+  written = λ unseen front rest own says at mine. x.reads says;
   holds = λ unseen front rest own s at mine kept.
       data_read s.numbers s.holding unseen old new (among front claim rest) (among front claim rest) s.records s.state x.read refl kept.holds;
 }

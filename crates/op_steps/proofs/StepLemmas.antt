@@ -1,5 +1,6 @@
 -- What one step leaves of the order of the slots, of each slot's history, and of its data.
 use Rattle.std.proofs.Common.{◌≡◌, ◌≢◌, ◌<◌, ◌∙◌, ℕ, Bool, List, [], ◌∷◌, ◌++◌, Option, Some, None, MatchOption, cond, length, option_to_list, slice_index_or, slice_set, append-nil, append_assoc, inl, inr, refl, sym, ap, subst, subst₂, arith}
+use Rattle.std.specs.Int.{IsBitSet}
 use Rattle.std.proofs.lemmas.Bool.{cases_eq}
 use Rattle.std.proofs.lemmas.Bool.Decides.{eqb_tells}
 use Rattle.std.proofs.lemmas.List.{get_or_default}
@@ -48,8 +49,10 @@ module _ {D T : Type 0} (tells : D → Bool) (files : D → Files) (takes breaks
   -- a slot that nothing was done to
   went_none : (slot : ℕ) (was : SlotSeen D) → WentOn tells files slot was was []
   went_none slot was = record {
+    set = refl;
     audit = none_added was.entries;
-    runs = λ records state stands. record { records_after = records; state_after = state; stands = stands; runs = ([], refl) };
+    runs = λ records state stands.
+        record { records_after = records; state_after = state; stands = stands; stay = λ name k out. refl; runs = ([], refl) };
   }
 
   same_went : (slot : ℕ) (was now : SlotSeen D) → was ≡ now → WentOn tells files slot was now []
@@ -59,6 +62,7 @@ module _ {D T : Type 0} (tells : D → Bool) (files : D → Files) (takes breaks
   went_twice : RunsJoin → (slot : ℕ) (was mid now : SlotSeen D) (one two : List Entry) → WentOn tells files slot was mid one → WentOn tells files slot mid now two
       → WentOn tells files slot was now (one ++ two)
   went_twice joins slot was mid now one two first second = record {
+    set = second.set ∙ first.set;
     audit = second.audit ∙ (ap (λ e. with_entries e two) first.audit ∙ added_twice was.entries one two);
     runs = λ records state stands.
         let a = first.runs records state stands in
@@ -67,6 +71,8 @@ module _ {D T : Type 0} (tells : D → Bool) (files : D → Files) (takes breaks
           records_after = b.records_after;
           state_after = b.state_after;
           stands = b.stands;
+          stay = λ name k out. b.stay name k out
+              ∙ a.stay name k (subst (λ (s : SetPlan). IsBitSet s.out k) second.set out);
           runs = joins slot one two state a.state_after b.state_after a.runs b.runs;
         };
   }
@@ -82,6 +88,7 @@ module _ {D T : Type 0} (tells : D → Bool) (files : D → Files) (takes breaks
       → TurnMoves tells files was now note shown claim later disks_old disks_new
       → WentOn tells files was.numbers.index was now (option_to_list (entry_in note))
   went_turn runs was now note shown claim later disks_old disks_new x = record {
+    set = x.numbers.set;
     audit = by_entry (entry_in note) was.entries now.entries x.audit;
     runs = λ records state stands.
         let leaves = x.leaves records state stands in
@@ -89,6 +96,7 @@ module _ {D T : Type 0} (tells : D → Bool) (files : D → Files) (takes breaks
           records_after = leaves.records_after;
           state_after = leaves.state_after;
           stands = leaves.stands;
+          stay = λ name k out. leaves.stay name k (subst (λ (s : SetPlan). IsBitSet s.out k) x.numbers.set out);
           runs = entry_runs runs was.numbers.index (entry_in note) _ records leaves.records_after state leaves.state_after leaves.moves;
         };
   }

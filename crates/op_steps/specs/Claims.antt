@@ -110,7 +110,8 @@ pub record IsMet (set : SetPlan) (holding : Holding) (unseen : Disks) (disks : L
   pub unwritten : (f : Flying) (k : ℕ) → claim.flight ≡ Some f → k < set.drives → IsBitSet set.out k → KeepsNone f.id (kept_on unseen k)
 
 -- the data of a slot of this set and index, of which this number was drawn last, stands with what ops have in hand by these claims, and with these files
--- on the drives that are out; no drive in use has a loose file of an id that wasn't drawn; those claims that are of the slot are met and apart
+-- on the drives that are out; no drive in use has a loose file of an id that wasn't drawn; those claims that are of the slot are met and apart, and each put
+-- and each pin that the slot lists is one of theirs
 pub record HoldsAt (set : SetPlan) (index last : ℕ) (holding : Holding) (unseen : Disks) (disks : List DriveView) (claims : List Claim) (records : Records)
     (state : State) : Type 0 where
   pub tell : DisksTell set disks
@@ -119,6 +120,8 @@ pub record HoldsAt (set : SetPlan) (index last : ℕ) (holding : Holding) (unsee
       → HasNoneLoose (data_of id (view_at disks k).files)
   pub met : (c : Claim) → Contains (claims_at index claims) c → IsMet set holding unseen disks c
   pub apart : AllApart (claims_at index claims)
+  pub flights_are : (f : Flying) → Contains holding.flights f → (c : Claim) × Contains (claims_at index claims) c × (c.flight ≡ Some f)
+  pub pins_are : (p : Pinned) → Contains holding.pins p → (c : Claim) × Contains (claims_at index claims) c × (c.pin ≡ Some p)
 
 -- that of a slot of these numbers
 abbrev pub DataHolds : SlotNumbers → Holding → Disks → List DriveView → List Claim → Records → State → Type 0

@@ -1,10 +1,12 @@
 -- The laws of steps: histories run, and the data of each slot goes on to hold.
 use Rattle.std.specs.Prelude.{◌≡◌, ℕ, ◌<◌, Bool, List, [], ◌++◌, nat_eq, if◌then◌else◌, option_map, option_to_list, Option}
 use Rattle.std.specs.List.{flat_map}
+use Rattle.std.specs.Int.{IsBitSet}
 use Rattle.audit_trail.specs.declared.entry.Entry.{Entry}
 use Rattle.desk_base.specs.Telling.{Effect}
 use Rattle.drive_base.specs.Files.{Files}
 use Rattle.drive_base.specs.declared.plan.SetPlan.{SetPlan}
+use Rattle.vote_core.specs.Lane.{lane_at}
 use Rattle.slot_history.specs.Moving.{Runs}
 use Rattle.slot_history.specs.Standing.{Records}
 use Rattle.slot_history.specs.State.{State}
@@ -32,17 +34,19 @@ abbrev pub with_entries : Option (List Entry) → List Entry → Option (List En
 with_entries entries more = option_map (λ before. before ++ more) entries
 
 module _ {D : Type 0} (tells : D → Bool) (files : D → Files) where
-  -- the lanes of a slot stand for a state to which these entries run
-  pub record RunsTo (slot : ℕ) (now : SlotSeen D) (entries : List Entry) (state : State) : Type 0 where
+  -- the lanes of a slot stand for a state to which these entries run, with the same records in the place of those that are out
+  pub record RunsTo (slot : ℕ) (now : SlotSeen D) (entries : List Entry) (records : Records) (state : State) : Type 0 where
     pub records_after : Records
     pub state_after : State
     pub stands : LanesStand tells files now records_after state_after
+    pub stay : (name : List ℕ) (k : ℕ) → IsBitSet now.numbers.set.out k → lane_at (records_after name) k ≡ lane_at (records name) k
     pub runs : Runs slot entries state state_after
 
   -- a slot went on by these entries: its audit has got exactly them, and where its lanes stood for a state they stand for one to which they run
   pub record WentOn (slot : ℕ) (was now : SlotSeen D) (entries : List Entry) : Type 0 where
+    pub set : now.numbers.set ≡ was.numbers.set
     pub audit : now.entries ≡ with_entries was.entries entries
-    pub runs : (records : Records) (state : State) → LanesStand tells files was records state → RunsTo slot now entries state
+    pub runs : (records : Records) (state : State) → LanesStand tells files was records state → RunsTo slot now entries records state
 
 module _ {D T : Type 0} (tells : D → Bool) (files : D → Files) where
   -- the lanes of a slot stand for a state, with which its data holds, with these files on the drives that are out

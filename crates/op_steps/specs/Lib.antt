@@ -4,6 +4,7 @@ pub mod Going
 pub mod Laws
 pub mod Looking
 pub mod Moves
+pub mod Naming
 pub mod Notes
 pub mod Ready
 pub mod Steps

@@ -15,7 +15,7 @@ use Rattle.slot_core.specs.declared.stub.Stub.{Stub}
 use Rattle.receipts.specs.Events.{Seen, Shown}
 use Rattle.receipts.specs.Events.Shown.{ContentShown, NoneShown}
 use Rattle.op_steps.specs.Claims.{Claim}
-use Rattle.op_steps.specs.Moves.{CallMoves, IsCall, TurnMoves, WasSo}
+use Rattle.op_steps.specs.Moves.{CallMoves, IsCall, SaysUnwritten, TurnMoves, WasSo}
 use Rattle.op_steps.specs.Notes.{noted}
 use Rattle.op_steps.specs.Store.{SlotSeen}
 
@@ -51,6 +51,7 @@ pub record ReadSays (set : SetPlan) (k : ℕ) (seen : Seen) (old new : List Driv
   pub within : k < length old
   pub in_use : IsCall seen → IsBitSet set.out k → ⊥
   pub was_so : WasSo seen (view_at old k) (view_at new k)
+  pub reads : SaysUnwritten seen → ⊥
   pub read : AllOnlyRead old new
   pub others : (other : ℕ) → other ≢ k → view_at new other ≡ view_at old other
 

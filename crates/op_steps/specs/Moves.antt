@@ -15,6 +15,7 @@ use Rattle.fault_base.specs.Counts.{Rose}
 use Rattle.field_reader.specs.Spelling.{IsBytes}
 use Rattle.file_access.specs.Reading.{HasLength, IsPieceAt}
 use Rattle.stamp_id.specs.declared.version.VersionId.{VersionId}
+use Rattle.vote_core.specs.Lane.{lane_at}
 use Rattle.slot_history.specs.Standing.{Records, Stands}
 use Rattle.slot_history.specs.State.{IsHeld, State}
 use Rattle.slot_data.specs.Disks.{Disks}
@@ -46,13 +47,14 @@ pub record ClaimMoves (index : ℕ) (claim later : Claim) : Type 0 where
   pub elsewhere : claim.slot ≢ index → later ≡ claim
 
 module _ {D : Type 0} (tells : D → Bool) (files : D → Files) where
-  -- what a section leaves of lanes that stood for a state: they stand for a state to which its entry moved, and whatever other ops hold, the data goes
-  -- on to hold, with any files on drives that are out
+  -- what a section leaves of lanes that stood for a state: they stand for a state to which its entry moved, with the same records in the place of lanes that
+  -- are out, and whatever other ops hold, the data goes on to hold, with any files on drives that are out
   pub record TurnLeaves (was now : SlotSeen D) (note : Option Note) (shown : Shown) (claim later : Claim) (disks_old disks_new : List DriveView)
       (records : Records) (state : State) : Type 0 where
     pub records_after : Records
     pub state_after : State
     pub stands : LanesStand tells files now records_after state_after
+    pub stay : (name : List ℕ) (k : ℕ) → IsBitSet was.numbers.set.out k → lane_at (records_after name) k ≡ lane_at (records name) k
     pub moves : EntryMoves was.numbers.index (entry_in note) (ShowsBy (entry_in note) shown) records state records_after state_after
     pub holds : (unseen : Disks) (front rest : List Claim) → DataHolds was.numbers was.holding unseen disks_old (among front claim rest) records state
         → DataHolds now.numbers now.holding unseen disks_new (among front later rest) records_after state_after
@@ -90,6 +92,11 @@ abbrev pub IsCall : Seen → Type 0
 IsCall Uncalled = ⊥
 IsCall other = Unit {0}
 
+-- it gave that nothing was being written under a loose name
+abbrev pub SaysUnwritten : Seen → Type 0
+SaysUnwritten (Unwritten name) = Unit {0}
+SaysUnwritten other = ⊥
+
 -- a name is one under which a drive keeps data, or one under which data is being written
 abbrev pub IsDataName : List ℕ → Type 0
 IsDataName name = (id : VersionId) × ((name ≡ manifest_name id) ⊎ (name ≡ shard_name id))
@@ -120,8 +127,8 @@ pub record KeepsData (set : SetPlan) (unseen : Disks) (disks : List DriveView) (
   pub stands : RecordsStand slot.numbers slot.holding slot.records slot.state
   pub holds : DataHolds slot.numbers slot.holding unseen disks claims slot.records slot.state
 
--- a step at a data drive, and none at another: one call, where the drive is in use, or none. A drive that tells keeps what is no data. Whatever other ops hold,
--- the data of each slot goes on to hold, where that of the op's own slot does too
+-- a step at a data drive, and none at another: one call, where the drive is in use, or none. A drive that tells keeps what is no data. Where the data of the
+-- op's own slot holds, no drive says that nothing is being written under a loose name, and whatever other ops hold, the data of each slot goes on to hold
 pub record CallMoves (set : SetPlan) (k : ℕ) (seen : Seen) (claim later : Claim) (old new : List DriveView) : Type 0 where
   pub within : k < length old
   pub in_use : IsCall seen → IsBitSet set.out k → ⊥
@@ -131,6 +138,8 @@ pub record CallMoves (set : SetPlan) (k : ℕ) (seen : Seen) (claim later : Clai
   pub long : length new ≡ length old
   pub others : (other : ℕ) → other ≢ k → view_at new other ≡ view_at old other
   pub slot : later.slot ≡ claim.slot
+  pub written : (unseen : Disks) (front rest : List Claim) (own : SlotKept) → SaysUnwritten seen → own.numbers.index ≡ claim.slot
+      → KeepsData set unseen old (among front claim rest) own → ⊥
   pub holds : (unseen : Disks) (front rest : List Claim) (own slot : SlotKept) → own.numbers.index ≡ claim.slot
       → KeepsData set unseen old (among front claim rest) own → KeepsData set unseen old (among front claim rest) slot
       → DataHolds slot.numbers slot.holding unseen new (among front later rest) slot.records slot.state

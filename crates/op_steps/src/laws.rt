@@ -1,8 +1,10 @@
 //! The laws of steps.
 
+ghost use Rattle.std.specs.Global.{Global};
 ghost use Rattle.op_steps.specs.Committing.{CommitIsTurn};
 ghost use Rattle.op_steps.specs.Laws.{EachStepKeepsData, RanKeepsHistory};
 ghost use Rattle.op_steps.specs.Looking.{LookIsTurn, ReadIsCall};
+ghost use Rattle.op_steps.specs.Naming.{NamesIsTurn};
 
 use desk_base::Teller;
 use drive_base::Drive;
@@ -23,6 +25,11 @@ pub fn data_law<D: Drive, T: Teller>()
 /// A look of a slot is a step that leaves whatever an op claims. It does nothing.
 pub fn look_law<D: Drive>()
     ensures { LookIsTurn D.Drive }
+{}
+
+/// A listing of the names of a slot's registers is a step that leaves whatever an op claims. It does nothing.
+pub fn names_law<D: Drive>()
+    ensures { NamesIsTurn D.Drive Global }
 {}
 
 /// A commit of a slot that ends no put is a step that leaves whatever an op claims. It does nothing.

@@ -17,8 +17,11 @@ mod refusing;
 mod run;
 mod turning;
 
-pub use laws::{commit_law, data_law, history_law, look_law, read_law};
+pub use laws::{commit_law, data_law, history_law, look_law, names_law, read_law};
 pub use next::OpNext;
 pub use op::Op;
 pub use refusing::{call_refusal, section_refusal};
 pub use run::{Served, call_op, run_op};
+
+#[cfg(test)]
+mod tests;

@@ -96,7 +96,8 @@ pub struct Served {
 /// How many stubs a call has at most but for listings: there is room for as many before its first section.
 const FEW_STUBS: usize = 4;
 
-/// Serves a call by its op, which has done nothing yet and holds nothing of its slot.
+/// Serves a call by its op, which has done nothing yet and holds nothing of its slot. Where there is no memory for the stubs of a call with few sections,
+/// the call is cut before its first step.
 pub fn call_op<O: Op, D: Drive, A: Audit, F: Feed, T: Teller>(
     alloc: Global,
     op: &mut O,
@@ -116,8 +117,12 @@ pub fn call_op<O: Op, D: Drive, A: Audit, F: Feed, T: Teller>(
         result.stubs.items }
 {
     let mut stubs = Vec::new(alloc);
-    // Where this finds no memory, the first section that needs some is told so.
-    let _ = stubs.reserve(FEW_STUBS);
+    if stubs.reserve(FEW_STUBS).is_err() {
+        return Served {
+            stubs,
+            cut: Some(Cut::NoMemory),
+        };
+    }
     run_op(alloc, op, slots, disks, feed, teller, &mut stubs);
     Served {
         stubs,

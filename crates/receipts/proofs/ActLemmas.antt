@@ -1,5 +1,6 @@
 -- The act of a receipt is the call's.
 use Rattle.std.proofs.Common.{◌≡◌, ◌∙◌, ℕ, zero, suc, List, [], ◌∷◌, ◌++◌, map, Option, None, Contains, append-nil, ap, inl, inr, refl, subst, sym, arith}
+use Rattle.std.proofs.lemmas.List.{get_or-map, length-map}
 use Rattle.std.proofs.lemmas.List.Elements.{Contains-append_left}
 use Rattle.call_types.specs.declared.act.Act.{Act}
 use Rattle.call_types.specs.declared.act.Brief.{Brief}
@@ -9,6 +10,7 @@ use Rattle.call_types.specs.declared.names.Mode.{Mode}
 use Rattle.call_types.specs.declared.names.Pick.{Pick}
 use Rattle.call_types.specs.declared.names.RangeAsk.{RangeAsk}
 use Rattle.call_types.specs.declared.refusal.Refusal.{Refusal}
+use Rattle.call_types.specs.declared.reply.BucketRow.{BucketRow}
 use Rattle.call_types.specs.declared.reply.Reply.{Reply}
 use Rattle.call_types.specs.declared.reply.Reply.TheVariants as reply_of
 use Rattle.bucket_book.specs.declared.step.BucketAct.{BucketAct}
@@ -18,6 +20,7 @@ use Rattle.desk_base.specs.declared.call.Call.TheVariants as call_of
 use Rattle.drive_base.specs.declared.plan.SetPlan.{SetPlan}
 use Rattle.stamp_id.specs.declared.stamp.ChangeId.{ChangeId}
 use Rattle.version_list.specs.Answers.{IsServed}
+use Rattle.receipts.specs.BucketLists.{FindsRow}
 use Rattle.receipts.specs.Bucketing.{BucketActOwes}
 use Rattle.receipts.specs.Committing.{EndsAtCommit}
 use Rattle.receipts.specs.Deleting.{Deletes}
@@ -124,10 +127,30 @@ shows_get set at pick ask now body (reply_of.Versions rows cut) reply log reads 
 shows_get set at pick ask now body (reply_of.Opened id) reply log reads tells served = absurd tells
 shows_get set at pick ask now body (reply_of.Completed etag id) reply log reads tells served = absurd tells
 
+-- the note of a section is among those of its log
+note_there : (sections : List Section) (x : Section) → Contains sections x → Contains (map (λ (section : Section). section.note) sections) x.note
+note_there sections x h =
+    let long = length-map sections (λ (section : Section). section.note) in
+    let lt = h.1 in
+    (h.0, omega (arith, long, lt), get_or-map (λ (section : Section). section.note) sections h.0 x x.note lt ∙ ap (λ (section : Section). section.note) h.2)
+
+-- what a list of buckets shows of each row
+shows_row : (row : BucketRow) (log : Log) → (look : Section) × Contains (sections_of log) look × FindsRow row look
+    → IsLookedAtIn (bucket_slot row.name) (bucket_register row.name) (notes_of log)
+shows_row row log x = record {
+  note = x.0.note;
+  there = note_there (sections_of log) x.0 x.1;
+  entry = x.2.looks.entry;
+}
+
 -- what is owed before the reply is told shows the act
 shows : (set : SetPlan) (call : Call) (now : ℕ) (reply : Reply) (log : Log) → OwesCall set call now reply log → IsServed reply
     → ShowsAct set call now (body_of log) reply (notes_of log)
-shows set call_of.ListBuckets now reply log x served = absurd (unserved reply _ x.0 served)
+shows set call_of.ListBuckets now reply log x served = elim x.1 [
+  | inl listed ↦ (listed.0, listed.1, λ k d l. shows_row _ log (listed.2.found k d l))
+  | inr (inl refused) ↦ absurd (unserved reply _ refused.refuses.told served)
+  | inr (inr barred) ↦ absurd (unserved reply _ barred.barred.told served)
+]
 shows set (call_of.CreateBucket bucket) now reply log x served = shows_bucket bucket _ _ now reply log x.1 served
 shows set (call_of.HeadBucket bucket) now reply log x served = elim x.1 [
   | inl ended ↦ absurd (at_look bucket reply log ended served)
@@ -187,7 +210,7 @@ more_looked slot name notes more x = record { note = x.note; there = Contains-ap
 
 more_shows : (set : SetPlan) (call : Call) (now : ℕ) (body : List ℕ) (reply : Reply) (notes more : List Note)
     → ShowsAct set call now body reply notes → ShowsAct set call now body reply (notes ++ more)
-more_shows set call_of.ListBuckets now body reply notes more x = x
+more_shows set call_of.ListBuckets now body reply notes more x = (x.0, x.1, λ k d l. more_looked _ _ notes more (x.2 k d l))
 more_shows set (call_of.CreateBucket bucket) now body reply notes more x = more_done _ _ _ reply notes more x
 more_shows set (call_of.HeadBucket bucket) now body reply notes more x = more_looked _ _ notes more x
 more_shows set (call_of.GetVersioning bucket) now body reply notes more x = more_looked _ _ notes more x

@@ -4,3 +4,5 @@ pub mod JoinLemmas
 pub mod OutcomeLemmas
 pub mod OweLemmas
 pub mod PayLemmas
+pub mod RegisterLemmas
+pub mod TriedLemmas

@@ -1,23 +1,17 @@
 -- One log has one outcome, and what is paid is told as a desk must.
-use Rattle.std.proofs.Common.{◌≡◌, ◌⊎◌, ◌<◌, ◌+◌, ◌∙◌, ℕ, List, [], ◌∷◌, ◌++◌, All, length, map, Option, Some, None, ap, ap₂, inl, inr, refl, subst, sym, arith}
-use Rattle.std.proofs.lemmas.List.{length-append}
+use Rattle.std.proofs.Common.{◌≡◌, ◌∙◌, ℕ, List, [], ◌∷◌, All, map, Option, Some, None, ap, ap₂, refl, subst, sym}
 use Rattle.std.specs.List.{concat}
 use Rattle.call_types.specs.declared.feed.Cut.{Cut}
-use Rattle.call_types.specs.declared.feed.Cut.TheVariants.{BodyCut}
+use Rattle.call_types.specs.declared.feed.Cut.TheVariants.{BodyCut, NoMemory, ReadFault, ShardCut, WriteFault}
 use Rattle.call_types.specs.declared.reply.Reply.{Reply}
 use Rattle.desk_base.specs.Answering.{Task}
-use Rattle.desk_base.specs.Calls.{stated_length}
 use Rattle.desk_base.specs.Telling.{Telling}
 use Rattle.desk_base.specs.Telling.Telling.{Head as TheHead, Piece}
-use Rattle.desk_base.specs.declared.call.Call.{Call}
-use Rattle.desk_base.specs.declared.call.Call.TheVariants.{ListBuckets, CreateBucket, HeadBucket, GetVersioning, PutVersioning, Put, Get, Head, Delete, List2, ListVersions, Create, Part, Complete, Abort}
 use Rattle.drive_base.specs.declared.plan.SetPlan.{SetPlan}
-use Rattle.receipts.specs.Events.{Log, body_of, sections_of, tale_of}
-use Rattle.receipts.specs.Laws.{CutBodyChangesNothing, OutcomesAreOne}
-use Rattle.receipts.specs.Owes.{IsWhole, OwesCall}
-use Rattle.receipts.specs.Paying.{ChangesNothing, DidNoMore, EndsAs, IsTaleOf, Outcome, Owes, OwesCut}
+use Rattle.receipts.specs.Events.{Log, sections_of, tale_of}
+use Rattle.receipts.specs.Laws.{CutBodyChangesNothing, IsOfFeed, OutcomesAreOne}
+use Rattle.receipts.specs.Paying.{ChangesNothing, EndsAs, IsTaleOf, Outcome, Owes, OwesCut}
 use Rattle.receipts.specs.Paying.Outcome.{CutOff, Replied}
-use Rattle.receipts.proofs.JoinLemmas.{bodies_join, sections_join}
 
 -- the reply of a tale's head, and the bytes of its pieces
 abbrev reply_in : Reply → List Telling → Reply
@@ -62,49 +56,20 @@ outcomes_are_one cut log (Replied a x) (CutOff why tale) ends also tells too = a
 outcomes_are_one cut log (CutOff why tale) (Replied b y) ends also tells too = absurd (none_or_some cut why also ends)
 outcomes_are_one cut log (CutOff why tale) (CutOff other more) ends also tells too = ap₂ CutOff (same_cuts cut why other ends also) (tells ∙ sym too)
 
--- a reply is owed once the body is whole, or no section is done
-whole_or_still : (set : SetPlan) (call : Call) (now : ℕ) (reply : Reply) (log : Log) → OwesCall set call now reply log → IsWhole call log ⊎ (sections_of log ≡ [])
-whole_or_still set ListBuckets now reply log x = inr x.1
-whole_or_still set (CreateBucket bucket) now reply log x = inl x.0
-whole_or_still set (HeadBucket bucket) now reply log x = inl x.0
-whole_or_still set (GetVersioning bucket) now reply log x = inl x.0
-whole_or_still set (PutVersioning bucket long) now reply log x = inl x.0
-whole_or_still set (Put at kinds md5 long) now reply log x = inl x.0
-whole_or_still set (Get at pick ask) now reply log x = inl x.0
-whole_or_still set (Head at pick) now reply log x = inl x.0
-whole_or_still set (Delete at pick) now reply log x = inl x.0
-whole_or_still set (List2 bucket page) now reply log x = inr x.1
-whole_or_still set (ListVersions bucket page) now reply log x = inr x.1
-whole_or_still set (Create at kinds) now reply log x = inr x.1
-whole_or_still set (Part at upload number md5 long) now reply log x = inr x.1
-whole_or_still set (Complete at upload long) now reply log x = inr x.1
-whole_or_still set (Abort at upload) now reply log x = inr x.1
-
--- a call whose body is cut did nothing of its own
-short_nothing : (set : SetPlan) (task : Task) (log : Log) → length (body_of log) < stated_length task.call → DidNoMore set task log
+-- a call that is cut by its feed did nothing of its own
+cut_nothing : (set : SetPlan) (task : Task) (cut : Cut) (tale : List Telling) (log : Log) → IsOfFeed cut → OwesCut set task cut tale log
     → All ChangesNothing (sections_of log)
-short_nothing set task log short (inl none) = none
-short_nothing set task log short (inr x) = elim (whole_or_still set task.call task.now x.0 x.1 x.4) [
-  | inl whole ↦ absurd (
-      let joined : length (body_of log) ≡ length (body_of x.1) + length (body_of x.2) =
-      ap (λ (l : Log). length (body_of l)) x.3 ∙ (ap length (bodies_join x.1 x.2) ∙ length-append (body_of x.1) (body_of x.2)) in
-      omega (arith, joined, whole, short))
-  | inr still ↦
-      let none : sections_of log ≡ [] = ap sections_of x.3 ∙ (sections_join x.1 x.2 ∙ ap₂ (λ a b. a ++ b) still x.5) in
-      subst (λ sections. All ChangesNothing sections) (sym none) (λ k d l. let below : k < 0 = l in absurd (omega arith))
-]
+cut_nothing set task ReadFault tale log is owed = owed.2
+cut_nothing set task (BodyCut read stated) tale log is owed = owed.5
+cut_nothing set task WriteFault tale log is owed = absurd is
+cut_nothing set task (ShardCut whys) tale log is owed = absurd is
+cut_nothing set task NoMemory tale log is owed = absurd is
 
-cut_nothing : (set : SetPlan) (task : Task) (why : Cut) (tale : List Telling) (read stated : ℕ) (log : Log) → why ≡ BodyCut read stated
-    → OwesCut set task why tale log → All ChangesNothing (sections_of log)
-cut_nothing set task why tale read stated log is owed =
-    let x : OwesCut set task (BodyCut read stated) tale log = subst (λ w. OwesCut set task w tale log) is owed in
-    short_nothing set task log (let a = x.2 in let b = x.3 in let c = x.4 in omega (arith, a, b, c)) x.5
-
-outcome_nothing : (set : SetPlan) (task : Task) (outcome : Outcome) (read stated : ℕ) (log : Log) → EndsAs (Some (BodyCut read stated)) outcome
+outcome_nothing : (set : SetPlan) (task : Task) (outcome : Outcome) (cut : Cut) (log : Log) → IsOfFeed cut → EndsAs (Some cut) outcome
     → Owes set task outcome log → All ChangesNothing (sections_of log)
-outcome_nothing set task (Replied reply bytes) read stated log ends owes = absurd (subst is_cut ends tt)
-outcome_nothing set task (CutOff why tale) read stated log ends owes =
-    cut_nothing set task why tale read stated log (ap (some_is why) (sym ends)) owes
+outcome_nothing set task (Replied reply bytes) cut log is ends owes = absurd (subst is_cut ends tt)
+outcome_nothing set task (CutOff why tale) cut log is ends owes =
+    cut_nothing set task why tale log (subst IsOfFeed (ap (some_is why) ends) is) owes
 
 pub cut_changes_nothing : CutBodyChangesNothing
-cut_changes_nothing set task read stated log x = outcome_nothing set task x.outcome read stated log x.ends x.owes
+cut_changes_nothing set task cut log is x = outcome_nothing set task x.outcome cut log is x.ends x.owes

@@ -1,5 +1,5 @@
 -- What is owed stays owed while a log grows.
-use Rattle.std.proofs.Common.{◌≡◌, ◌≢◌, ◌∙◌, ℕ, List, Option, Contains, length, slice_index_or, inl, inr, sym, ap, subst, ◌≤◌, ◌*◌}
+use Rattle.std.proofs.Common.{◌≡◌, ◌≢◌, ◌∙◌, ℕ, List, Option, All, Contains, length, slice_index_or, inl, inr, sym, ap, subst, ◌≤◌, ◌*◌}
 use Rattle.call_types.specs.declared.act.Act.{Act}
 use Rattle.call_types.specs.declared.act.Brief.{Brief}
 use Rattle.call_types.specs.declared.names.Key.{Key}
@@ -21,6 +21,7 @@ use Rattle.shard_file.specs.Stripes.{stripe_size}
 use Rattle.std.specs.List.{flat_map}
 use Rattle.desk_base.specs.declared.call.Call.{Call}
 use Rattle.desk_base.specs.declared.call.Call.TheVariants as call_of
+use Rattle.receipts.specs.BucketLists.{BucketsAreListed, DoesNothing, ListBucketsOwes, ListingIsRefused}
 use Rattle.receipts.specs.Bucketing.{BucketActOwes, BucketIsThere, GetVersioningOwes, HeadBucketOwes, PutVersioningOwes}
 use Rattle.receipts.specs.Committing.{EndsAtCommit, HasLooked, KeyIsBarred}
 use Rattle.receipts.specs.Deleting.{DeleteOwes}
@@ -135,7 +136,7 @@ block_letter set wants log later since after k (Lacks kind.Register) keeps goes_
 block_letter set wants log later since after k (Lacks kind.Manifest) keeps goes_on h = h
 block_letter set wants log later since after k (Lacks kind.Shard) keeps goes_on h = (h.0, goes_on _ h.1)
 
-few_blocks : (set : SetPlan) (wanted : Wanted) (next : ℕ) (whys : List Why) (log later : Log) → Grows log later
+pub few_blocks : (set : SetPlan) (wanted : Wanted) (next : ℕ) (whys : List Why) (log later : Log) → Grows log later
     → FewBlocks set wanted next whys log → FewBlocks set wanted next whys later
 few_blocks set wanted next whys log later g x = let since = g.since x.is_since.before x.since x.is_since.parts in record {
   manifest = x.manifest;
@@ -341,12 +342,22 @@ put_versioning_owes bucket now reply log later g (inr x) = inr (record {
   told = x.told;
 })
 
+list_buckets_owes : (reply : Reply) (log later : Log) → Grows log later → ListBucketsOwes reply log → ListBucketsOwes reply later
+list_buckets_owes reply log later g (inl x) = inl (x.0, x.1, subst (BucketsAreListed x.0) (sym g.sections) x.2)
+list_buckets_owes reply log later g (inr (inl x)) = inr (inl (subst (ListingIsRefused reply) (sym g.sections) x))
+list_buckets_owes reply log later g (inr (inr x)) = inr (inr (record {
+  idle = subst (All DoesNothing) (sym g.sections) x.idle;
+  slot = x.slot;
+  in_store = x.in_store;
+  barred = spent x.slot reply log later g x.barred;
+}))
+
 whole : (call : Call) (log later : Log) → Grows log later → IsWhole call log → IsWhole call later
 whole call log later g x = ap length g.body ∙ x
 
 pub call_owes : (set : SetPlan) (call : Call) (now : ℕ) (reply : Reply) (log later : Log) → Grows log later
     → OwesCall set call now reply log → OwesCall set call now reply later
-call_owes set call_of.ListBuckets now reply log later g x = (x.0, g.sections ∙ x.1)
+call_owes set call_of.ListBuckets now reply log later g x = (whole call_of.ListBuckets log later g x.0, list_buckets_owes reply log later g x.1)
 call_owes set (call_of.CreateBucket bucket) now reply log later g x =
     (whole (call_of.CreateBucket bucket) log later g x.0, bucket_act_owes bucket _ _ now reply log later g x.1)
 call_owes set (call_of.HeadBucket bucket) now reply log later g x =

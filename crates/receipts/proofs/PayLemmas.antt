@@ -1,5 +1,6 @@
 -- What is paid stays paid while quiet events are added.
-use Rattle.std.proofs.Common.{◌∙◌, ℕ, List, ◌∷◌, ◌++◌, All, None, length, append_assoc, inl, inr, sym, ap, subst}
+use Rattle.std.proofs.Common.{◌∙◌, ℕ, List, ◌∷◌, ◌++◌, All, None, Some, length, append_assoc, inl, inr, sym, ap, subst}
+use Rattle.std.proofs.lemmas.List.Elements.{All-append}
 use Rattle.call_types.specs.declared.feed.Cut.{Cut}
 use Rattle.call_types.specs.declared.feed.Cut.TheVariants as cut_of
 use Rattle.call_types.specs.declared.names.Span.{Span}
@@ -11,19 +12,19 @@ use Rattle.call_types.specs.declared.version.What.TheVariants.{Marker, Object}
 use Rattle.call_types.specs.declared.why.Why.{Why}
 use Rattle.desk_base.specs.Answering.{Task}
 use Rattle.desk_base.specs.Telling.{Telling}
-use Rattle.desk_base.specs.Telling.Telling.{Head as TheHead}
+use Rattle.desk_base.specs.Telling.Telling.{Head as TheHead, Piece}
 use Rattle.desk_base.specs.declared.call.Call.{Call}
 use Rattle.desk_base.specs.declared.call.Call.TheVariants.{Get}
 use Rattle.drive_base.specs.declared.plan.SetPlan.{SetPlan}
 use Rattle.receipts.specs.Clashes.{ClashIn, WasMet}
-use Rattle.receipts.specs.Events.{IsQuiet, Log}
+use Rattle.receipts.specs.Events.{IsQuiet, IsUntold, Log, sections_of}
 use Rattle.receipts.specs.Events.Event.{Told}
 use Rattle.receipts.specs.Laws.{QuietKeepsPay}
-use Rattle.receipts.specs.Paying.{BodyIsCut, ChangesNothing, DidNoMore, IsTaleOf, Outcome, Owes, OwesCut, OwesPart, TellsFront, TellsOutcome, WasOwed}
+use Rattle.receipts.specs.Paying.{BodyIsCut, ChangesNothing, DidNoMore, HeadBroke, IsTaleOf, Outcome, Owes, OwesCut, OwesPart, PieceBroke, TellingBroke, TellsFront, TellsOutcome, WasOwed}
 use Rattle.receipts.specs.Paying.Outcome.{CutOff, Replied}
 use Rattle.receipts.specs.Spans.{AreOfVersion, GivesBytes, GivesFound}
-use Rattle.receipts.proofs.GrowLemmas.{Grows, quiet_bodies, quiet_cuts, quiet_grows, quiet_sections, quiet_tales}
-use Rattle.receipts.proofs.OweLemmas.{body_lost}
+use Rattle.receipts.proofs.GrowLemmas.{Grows, quiet_bodies, quiet_cuts, quiet_grows, quiet_sections, quiet_tales, quiet_untold}
+use Rattle.receipts.proofs.OweLemmas.{few_blocks}
 
 -- a clash stays one
 met : (bytes : List ℕ) (log later : Log) → Grows log later → WasMet bytes log → WasMet bytes later
@@ -74,14 +75,51 @@ front set task reply bytes log more quiet x = record {
 }
 
 -- what was done stays done
+nothing : (log more : Log) → All IsQuiet more → All ChangesNothing (sections_of log) → All ChangesNothing (sections_of (log ++ more))
+nothing log more quiet none = subst (λ sections. All ChangesNothing sections) (sym (quiet_sections log more quiet)) none
+
 no_more : (set : SetPlan) (task : Task) (log more : Log) → All IsQuiet more → DidNoMore set task log → DidNoMore set task (log ++ more)
-no_more set task log more quiet (inl none) = inl (subst (λ sections. All ChangesNothing sections) (sym (quiet_sections log more quiet)) none)
+no_more set task log more quiet (inl none) = inl (nothing log more quiet none)
 no_more set task log more quiet (inr x) =
     inr (x.0, x.1, x.2 ++ more, ap (λ l. l ++ more) x.3 ∙ append_assoc x.1 x.2 more, x.4, quiet_sections x.2 more quiet ∙ x.5)
 
 part : (set : SetPlan) (task : Task) (tale : List Telling) (log more : Log) → All IsQuiet more → OwesPart set task tale log → OwesPart set task tale (log ++ more)
 part set task tale log more quiet (inl none) = inl (none.0, no_more set task log more quiet none.1)
 part set task tale log more quiet (inr x) = inr (x.0, x.1, x.2, x.3, front set task x.0 x.1 log more quiet x.4)
+
+-- what broke stays broken
+head_broke : (set : SetPlan) (task : Task) (reply : Reply) (log more : Log) → All IsQuiet more → HeadBroke set task reply log
+    → HeadBroke set task reply (log ++ more)
+head_broke set task reply log more quiet x = record {
+  before = x.before;
+  rest = x.rest ++ more;
+  parts = ap (λ l. l ++ more) x.parts ∙ append_assoc x.before (Told (TheHead reply) (Some cut_of.WriteFault) ∷ x.rest) more;
+  first = x.first;
+  last = All-append IsUntold x.rest more x.last (quiet_untold more quiet);
+  owed = x.owed;
+  no_bytes = quiet_bodies x.rest more quiet ∙ x.no_bytes;
+  no_sections = quiet_sections x.rest more quiet ∙ x.no_sections;
+}
+
+piece_broke : (set : SetPlan) (task : Task) (tale : List Telling) (log more : Log) → All IsQuiet more → PieceBroke set task tale log
+    → PieceBroke set task tale (log ++ more)
+piece_broke set task tale log more quiet x = record {
+  before = x.before;
+  piece = x.piece;
+  rest = x.rest ++ more;
+  parts = ap (λ l. l ++ more) x.parts ∙ append_assoc x.before (Told (Piece x.piece) (Some cut_of.WriteFault) ∷ x.rest) more;
+  last = All-append IsUntold x.rest more x.last (quiet_untold more quiet);
+  reply = x.reply;
+  bytes = x.bytes;
+  tale_is = x.tale_is;
+  few = x.few;
+  front = front set task x.reply (x.bytes ++ x.piece) log more quiet x.front;
+}
+
+broke : (set : SetPlan) (task : Task) (tale : List Telling) (log more : Log) → All IsQuiet more → TellingBroke set task tale log
+    → TellingBroke set task tale (log ++ more)
+broke set task tale log more quiet (inl x) = inl (x.0, x.1, head_broke set task x.1 log more quiet x.2)
+broke set task tale log more quiet (inr x) = inr (piece_broke set task tale log more quiet x)
 
 body_cut : (set : SetPlan) (task : Task) (whys : List Why) (tale : List Telling) (log more : Log) → All IsQuiet more
     → BodyIsCut set task whys tale log → BodyIsCut set task whys tale (log ++ more)
@@ -94,16 +132,18 @@ body_cut set task whys tale log more quiet x = record {
   some = x.some;
   less = x.less;
   front = front set task _ x.bytes log more quiet x.front;
-  lost = body_lost set x.version x.span _ whys log (log ++ more) (quiet_grows log more quiet) x.lost;
+  wanted = x.wanted;
+  is_wanted = x.is_wanted;
+  few = few_blocks set x.wanted _ whys log (log ++ more) (quiet_grows log more quiet) x.few;
   uncut = quiet_cuts log more quiet ∙ x.uncut;
 }
 
 owes_cut : (set : SetPlan) (task : Task) (why : Cut) (tale : List Telling) (log more : Log) → All IsQuiet more
     → OwesCut set task why tale log → OwesCut set task why tale (log ++ more)
-owes_cut set task cut_of.ReadFault tale log more quiet x = (x.0, quiet_cuts log more quiet ∙ x.1, no_more set task log more quiet x.2)
+owes_cut set task cut_of.ReadFault tale log more quiet x = (x.0, quiet_cuts log more quiet ∙ x.1, nothing log more quiet x.2)
 owes_cut set task (cut_of.BodyCut read stated) tale log more quiet x =
-    (x.0, quiet_cuts log more quiet ∙ x.1, x.2 ∙ sym (ap length (quiet_bodies log more quiet)), x.3, x.4, no_more set task log more quiet x.5)
-owes_cut set task cut_of.WriteFault tale log more quiet x = (part set task tale log more quiet x.0, quiet_cuts log more quiet ∙ x.1)
+    (x.0, quiet_cuts log more quiet ∙ x.1, x.2 ∙ sym (ap length (quiet_bodies log more quiet)), x.3, x.4, nothing log more quiet x.5)
+owes_cut set task cut_of.WriteFault tale log more quiet x = (broke set task tale log more quiet x.0, quiet_cuts log more quiet ∙ x.1)
 owes_cut set task (cut_of.ShardCut whys) tale log more quiet x = body_cut set task whys tale log more quiet x
 owes_cut set task cut_of.NoMemory tale log more quiet x = (
   part set task tale log more quiet x.0,

@@ -3,6 +3,7 @@ use Rattle.std.specs.Prelude.{ℕ, List, [], ◌∷◌, map, Option, Some, None}
 use Rattle.std.specs.List.{flat_map}
 use Rattle.audit_trail.specs.declared.entry.Entry.{Entry}
 use Rattle.call_types.specs.declared.feed.Cut.{Cut}
+use Rattle.call_types.specs.declared.feed.Cut.TheVariants.{BodyCut, NoMemory, ReadFault, ShardCut, WriteFault}
 use Rattle.call_types.specs.declared.refusal.Refusal.{Refusal}
 use Rattle.desk_base.specs.Telling.{Telling}
 use Rattle.receipts.specs.declared.barred.Barred.{Barred}
@@ -75,6 +76,19 @@ told_in (Fed bytes cut) = []
 told_in (Told telling None) = telling ∷ []
 told_in (Told telling (Some cut)) = []
 
+-- a telling that was tried: one that was told, or in the midst of which the sink failed
+abbrev pub tried_in : Event → List Telling
+tried_in (Turned slot made shown) = []
+tried_in (BarredFrom slot why) = []
+tried_in (Called drive seen) = []
+tried_in (Fed bytes cut) = []
+tried_in (Told telling None) = telling ∷ []
+tried_in (Told telling (Some ReadFault)) = []
+tried_in (Told telling (Some (BodyCut read stated))) = []
+tried_in (Told telling (Some WriteFault)) = telling ∷ []
+tried_in (Told telling (Some (ShardCut whys))) = []
+tried_in (Told telling (Some NoMemory)) = []
+
 abbrev pub cut_in : Event → List Cut
 cut_in (Turned slot made shown) = []
 cut_in (BarredFrom slot why) = []
@@ -99,6 +113,10 @@ body_of log = flat_map taken_in log
 -- what was told
 abbrev pub tale_of : Log → List Telling
 tale_of log = flat_map told_in log
+
+-- what was tried to be told
+abbrev pub tried_of : Log → List Telling
+tried_of log = flat_map tried_in log
 
 -- the failures of feed and teller
 abbrev pub cuts_of : Log → List Cut

@@ -11,8 +11,9 @@ use Rattle.call_types.specs.declared.feed.Cut.TheVariants.{BodyCut, NoMemory, Re
 use Rattle.call_types.specs.declared.names.Mode.{Mode}
 use Rattle.call_types.specs.declared.names.Span.{Span}
 use Rattle.call_types.specs.declared.names.VersionName.{VersionName}
+use Rattle.call_types.specs.declared.reply.BucketRow.{BucketRow}
 use Rattle.call_types.specs.declared.reply.Reply.{Reply}
-use Rattle.call_types.specs.declared.reply.Reply.TheVariants.{Found}
+use Rattle.call_types.specs.declared.reply.Reply.TheVariants.{Buckets, Found}
 use Rattle.call_types.specs.declared.version.Version.{Version}
 use Rattle.desk_base.specs.Answering.{Task, TellsPart, bytes_after}
 use Rattle.desk_base.specs.Telling.{Telling}
@@ -22,7 +23,7 @@ use Rattle.desk_base.specs.declared.call.Call.TheVariants.{ListBuckets, CreateBu
 use Rattle.drive_base.specs.declared.plan.SetPlan.{SetPlan}
 use Rattle.stamp_id.specs.declared.stamp.ChangeId.{ChangeId}
 use Rattle.version_list.specs.Answers.{IsServed}
-use Rattle.receipts.specs.Events.{IsQuiet, Log, Note, body_of, cuts_of, notes_of, sections_of, tale_of}
+use Rattle.receipts.specs.Events.{IsQuiet, Log, Note, body_of, cuts_of, notes_of, sections_of, tale_of, tried_of}
 use Rattle.receipts.specs.Looks.{HasEntry}
 use Rattle.receipts.specs.Owes.{OwesReply}
 use Rattle.receipts.specs.Paying.{ChangesNothing, EndsAs, Outcome, Pays, Receipt, TellsOutcome}
@@ -63,7 +64,7 @@ QuietKeepsPay = (set : SetPlan) (task : Task) (cut : Option Cut) (log more : Log
 abbrev pub OutcomesAreOne : Type 0
 OutcomesAreOne = (cut : Option Cut) (log : Log) (a b : Outcome) → EndsAs cut a → EndsAs cut b → TellsOutcome a log → TellsOutcome b log → a ≡ b
 
--- what is told as a desk must, by what cuts the call
+-- what is told as a desk must, the telling that broke included, by what cuts the call
 abbrev pub TellsAs : Call → Option Cut → List Telling → Type 0
 TellsAs call None tale = (reply : Reply) × (pieces : List (List ℕ)) × (length (concat pieces) ≡ bytes_after reply call)
     × (tale ≡ TheHead reply ∷ map Piece pieces)
@@ -75,7 +76,7 @@ TellsAs call (Some (ShardCut whys)) tale = (reply : Reply) × (pieces : List (Li
 TellsAs call (Some NoMemory) tale = TellsPart call tale
 
 abbrev pub PayIsTold : Type 0
-PayIsTold = (set : SetPlan) (task : Task) (cut : Option Cut) (log : Log) → Pays set task cut log → TellsAs task.call cut (tale_of log)
+PayIsTold = (set : SetPlan) (task : Task) (cut : Option Cut) (log : Log) → Pays set task cut log → TellsAs task.call cut (tried_of log)
 
 -- one of the notes is of a section that did such a call at a register, and was replied so
 pub record IsDoneIn (slot : ℕ) (name : List ℕ) (IsCall : Brief → Type 0) (told : Reply) (notes : List Note) : Type 0 where
@@ -93,7 +94,7 @@ pub record IsLookedAtIn (slot : ℕ) (name : List ℕ) (notes : List Note) : Typ
 
 -- the sections of a call that is served did it, and were replied what is told of it: for a read, of the whole body
 abbrev pub ShowsAct : SetPlan → Call → ℕ → List ℕ → Reply → List Note → Type 0
-ShowsAct set ListBuckets now body reply notes = ⊥
+ShowsAct set ListBuckets now body reply notes = (rows : List BucketRow) × (reply ≡ Buckets rows) × All (λ row. IsLookedAtIn (bucket_slot row.name) (bucket_register row.name) notes) rows
 ShowsAct set (CreateBucket bucket) now body reply notes =
     IsDoneIn (bucket_slot bucket) (bucket_register bucket) (λ call. (change : Option ChangeId) × (call ≡ brief.MakeBucket bucket change now)) reply notes
 ShowsAct set (HeadBucket bucket) now body reply notes = IsLookedAtIn (bucket_slot bucket) (bucket_register bucket) notes
@@ -120,10 +121,17 @@ abbrev pub ReceiptShowsAct : Type 0
 ReceiptShowsAct = (set : SetPlan) (task : Task) (body : List ℕ) (reply : Reply) (bytes : List ℕ) (notes : List Note)
     → Receipt set task body (Replied reply bytes) notes → IsServed reply → ShowsAct set task.call task.now body reply notes
 
--- a call that is cut before its body is whole changed nothing
+-- a call is cut by its feed
+abbrev pub IsOfFeed : Cut → Type 0
+IsOfFeed ReadFault = Unit {0}
+IsOfFeed (BodyCut read stated) = Unit {0}
+IsOfFeed WriteFault = ⊥
+IsOfFeed (ShardCut whys) = ⊥
+IsOfFeed NoMemory = ⊥
+
+-- a call that is cut by its feed changed nothing
 abbrev pub CutBodyChangesNothing : Type 0
-CutBodyChangesNothing = (set : SetPlan) (task : Task) (read stated : ℕ) (log : Log) → Pays set task (Some (BodyCut read stated)) log
-    → All ChangesNothing (sections_of log)
+CutBodyChangesNothing = (set : SetPlan) (task : Task) (cut : Cut) (log : Log) → IsOfFeed cut → Pays set task (Some cut) log → All ChangesNothing (sections_of log)
 
 -- the notes of a receipt whose reply was told whole are those by which the reply was owed
 abbrev pub NotesAreOwed : Type 0

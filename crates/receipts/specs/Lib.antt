@@ -1,3 +1,4 @@
+pub mod BucketLists
 pub mod Bucketing
 pub mod Clashes
 pub mod Committing

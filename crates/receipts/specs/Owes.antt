@@ -8,6 +8,7 @@ use Rattle.desk_base.specs.Calls.{stated_length}
 use Rattle.desk_base.specs.declared.call.Call.{Call}
 use Rattle.desk_base.specs.declared.call.Call.TheVariants.{ListBuckets, CreateBucket, HeadBucket, GetVersioning, PutVersioning, Put, Get, Head, Delete, List2, ListVersions, Create, Part, Complete, Abort}
 use Rattle.drive_base.specs.declared.plan.SetPlan.{SetPlan}
+use Rattle.receipts.specs.BucketLists.{ListBucketsOwes}
 use Rattle.receipts.specs.Bucketing.{CreateBucketOwes, GetVersioningOwes, HeadBucketOwes, PutVersioningOwes}
 use Rattle.receipts.specs.Deleting.{DeleteOwes}
 use Rattle.receipts.specs.Events.{Log, body_of, sections_of}
@@ -24,7 +25,7 @@ IsWhole call log = length (body_of log) ≡ stated_length call
 
 -- the reply that is owed to a call at a moment. A body is taken to its end before, but for a call that is not served, after which the connection closes
 abbrev pub OwesCall : SetPlan → Call → ℕ → Reply → Log → Type 0
-OwesCall set ListBuckets now reply log = Later reply log
+OwesCall set ListBuckets now reply log = IsWhole ListBuckets log × ListBucketsOwes reply log
 OwesCall set (CreateBucket bucket) now reply log = IsWhole (CreateBucket bucket) log × CreateBucketOwes bucket now reply log
 OwesCall set (HeadBucket bucket) now reply log = IsWhole (HeadBucket bucket) log × HeadBucketOwes bucket reply log
 OwesCall set (GetVersioning bucket) now reply log = IsWhole (GetVersioning bucket) log × GetVersioningOwes bucket reply log

@@ -20,7 +20,8 @@ use Rattle.drive_base.specs.declared.plan.SetPlan.{SetPlan}
 use Rattle.receipts.specs.Events.{IsUntold, Log, Note, Section, body_of, cuts_of, notes_of, sections_of, tale_of}
 use Rattle.receipts.specs.Events.Event.{Told}
 use Rattle.receipts.specs.Owes.{OwesReply}
-use Rattle.receipts.specs.Reading.{BodyIsLost}
+use Rattle.receipts.specs.Letters.{FewBlocks, Wanted}
+use Rattle.receipts.specs.Reading.{IsWanted}
 use Rattle.receipts.specs.Spans.{GivesBytes}
 
 -- how a call ends: with a whole reply and the bytes behind its head, or cut, with what was told by then
@@ -84,7 +85,36 @@ abbrev pub OwesPart : SetPlan → Task → List Telling → Log → Type 0
 OwesPart set task tale log = ((tale ≡ []) × DidNoMore set task log) ⊎ ((reply : Reply) × (bytes : List ℕ) × IsTaleOf reply bytes tale
     × (length bytes ≤ bytes_after reply task.call) × TellsFront set task reply bytes log)
 
--- the body of a version was cut after some of its bytes: too few drives gave the next one, by these letters
+-- the sink failed in the midst of the head of a reply that was owed. Before it nothing was told, and after it nothing is told, nothing is taken of the body
+-- and no section has a note
+pub record HeadBroke (set : SetPlan) (task : Task) (reply : Reply) (log : Log) : Type 0 where
+  pub before : Log
+  pub rest : Log
+  pub parts : log ≡ before ++ Told (TheHead reply) (Some WriteFault) ∷ rest
+  pub first : All IsUntold before
+  pub last : All IsUntold rest
+  pub owed : OwesReply set task reply before
+  pub no_bytes : body_of rest ≡ []
+  pub no_sections : sections_of rest ≡ []
+
+-- or in the midst of the next bytes of its body, and after them nothing is told
+pub record PieceBroke (set : SetPlan) (task : Task) (tale : List Telling) (log : Log) : Type 0 where
+  pub before : Log
+  pub piece : List ℕ
+  pub rest : Log
+  pub parts : log ≡ before ++ Told (Piece piece) (Some WriteFault) ∷ rest
+  pub last : All IsUntold rest
+  pub reply : Reply
+  pub bytes : List ℕ
+  pub tale_is : IsTaleOf reply bytes tale
+  pub few : length (bytes ++ piece) ≤ bytes_after reply task.call
+  pub front : TellsFront set task reply (bytes ++ piece) log
+
+-- a telling broke, and with what was told before it is the front of an owed reply
+abbrev pub TellingBroke : SetPlan → Task → List Telling → Log → Type 0
+TellingBroke set task tale log = ((tale ≡ []) × (reply : Reply) × HeadBroke set task reply log) ⊎ PieceBroke set task tale log
+
+-- the body of a version was cut after some of its bytes: too few drives gave a block of the next one, by these letters
 pub record BodyIsCut (set : SetPlan) (task : Task) (whys : List Why) (tale : List Telling) (log : Log) : Type 0 where
   pub version : Version
   pub span : Span
@@ -94,16 +124,18 @@ pub record BodyIsCut (set : SetPlan) (task : Task) (whys : List Why) (tale : Lis
   pub some : 0 < length bytes
   pub less : length bytes < bytes_after (Found version span id) task.call
   pub front : TellsFront set task (Found version span id) bytes log
-  pub lost : BodyIsLost set version span (span.at + length bytes) whys log
+  pub wanted : Wanted
+  pub is_wanted : IsWanted version.what span wanted
+  pub few : FewBlocks set wanted (span.at + length bytes) whys log
   pub uncut : cuts_of log ≡ []
 
 -- what is owed of a call that is cut: the failure of feed or teller that cut it, or the letters of the drives; what was told is the front of an owed reply,
 -- and nothing was done that no reply tells
 abbrev pub OwesCut : SetPlan → Task → Cut → List Telling → Log → Type 0
-OwesCut set task ReadFault tale log = (tale ≡ []) × (cuts_of log ≡ ReadFault ∷ []) × DidNoMore set task log
+OwesCut set task ReadFault tale log = (tale ≡ []) × (cuts_of log ≡ ReadFault ∷ []) × All ChangesNothing (sections_of log)
 OwesCut set task (BodyCut read stated) tale log = (tale ≡ []) × (cuts_of log ≡ BodyCut read stated ∷ [])
-    × (read ≡ length (body_of log)) × (stated ≡ stated_length task.call) × (read < stated) × DidNoMore set task log
-OwesCut set task WriteFault tale log = OwesPart set task tale log × (cuts_of log ≡ WriteFault ∷ [])
+    × (read ≡ length (body_of log)) × (stated ≡ stated_length task.call) × (read < stated) × All ChangesNothing (sections_of log)
+OwesCut set task WriteFault tale log = TellingBroke set task tale log × (cuts_of log ≡ WriteFault ∷ [])
 OwesCut set task (ShardCut whys) tale log = BodyIsCut set task whys tale log
 OwesCut set task NoMemory tale log = OwesPart set task tale log × ((cuts_of log ≡ []) ⊎ (cuts_of log ≡ NoMemory ∷ []))
 

@@ -1,8 +1,9 @@
-use Rattle.std.proofs.Common.{◌∙◌, ◌++◌, [], ap, subst, sym}
+use Rattle.std.proofs.Common.{◌<◌, ◌∙◌, ◌++◌, ℕ, [], ap, inl, refl, subst, sym, arith}
 use Rattle.receipts.specs.Events.{notes_of}
 use Rattle.receipts.specs.Paying.{Pays}
 use Rattle.op_steps.specs.Claims.{no_claim}
 use Rattle.op_steps.specs.Notes.{notes_by}
+use Rattle.op_steps.proofs.TellLemmas.{none_pays}
 use Rattle.op_steps.proofs.run.call_op.Goals as goal
 
 pub returns-clause-done : goal.returns-clause-done
@@ -17,3 +18,13 @@ returns-clause-done g c = λ slot holds.
       ran = got.3;
       notes = got.4 ∙ ap (λ items. notes_by items ++ notes_of got.1) (c.reserve.ensures.items ∙ c.new-stubs.ensures.items);
     }
+
+pub returns-then-is_err-clause-done : goal.returns-then-is_err-clause-done
+returns-then-is_err-clause-done g c = λ slot holds. record {
+  left = no_claim slot;
+  log = [];
+  lets_go = inl refl;
+  pays = none_pays (g.O.Op.set c.args.op.now) (g.O.Op.task c.args.op.now) [] refl refl (inl (λ k d l. let below : k < 0 = l in absurd (omega arith)));
+  ran = refl;
+  notes = ap notes_by (c.reserve.ensures.items ∙ c.new-stubs.ensures.items);
+}

@@ -1,0 +1,98 @@
+-- What a ListBuckets owes.
+use Rattle.std.specs.Prelude.{◌≡◌, ◌≢◌, ◌⊎◌, ℕ, ◌<◌, List, [], ◌∷◌, ◌++◌, All, Contains, length, None, Some}
+use Rattle.std.specs.List.Sorted.{IsStrictlySortedBy}
+use Rattle.std.specs.declared.cmp.Ordering.{Ordering}
+use Rattle.std.specs.declared.cmp.Ordering.TheVariants.{Less}
+use Rattle.audit_trail.specs.declared.entry.Deed.TheVariants.{Kept}
+use Rattle.bucket_book.specs.Content.{content_of}
+use Rattle.bucket_book.specs.Name.{IsBucketName}
+use Rattle.bucket_book.specs.Table.{IsCanonical}
+use Rattle.bucket_book.specs.declared.record.BucketRecord.{BucketRecord}
+use Rattle.call_types.specs.declared.reply.BucketRow.{BucketRow}
+use Rattle.call_types.specs.declared.reply.Reply.{Reply}
+use Rattle.call_types.specs.declared.reply.Reply.TheVariants.{Buckets}
+use Rattle.drive_base.specs.Names.{IsBefore, byte_order}
+use Rattle.receipts.specs.Events.{Log, Section, sections_of}
+use Rattle.receipts.specs.Events.Shown.{NamesShown}
+use Rattle.receipts.specs.Looks.{HasEntry, IsIdle, LooksAt, TellsRefusal, TellsSpent}
+use Rattle.receipts.specs.Registers.{bucket_register, bucket_slot}
+
+-- a page of names of a slot's registers, from one on, so many at most
+pub record Page : Type 0 where
+  pub from : List ℕ
+  pub most : ℕ
+  pub names : List (List ℕ)
+
+-- a section listed the names of a slot's registers, and was shown this page
+pub record ListsPage (slot : ℕ) (page : Page) (section : Section) : Type 0 where
+  pub entry : HasEntry slot [] Kept section.note
+  pub unrefused : section.note.refusal ≡ None
+  pub shown : section.shown ≡ NamesShown page.from page.most page.names
+
+-- a page would have a name, if it were shown: the name isn't before its begin, and the page isn't full before the name
+pub record Reaches (page : Page) (name : List ℕ) : Type 0 where
+  pub begins : byte_order name page.from ≢ Less
+  pub ends : length page.names ≡ page.most → All (λ given. IsBefore given name) page.names → ⊥
+
+-- a section listed names of a bucket's slot, by a page that reaches the name of the bucket's register
+pub record AsksFor (bucket : List ℕ) (page : Page) (section : Section) : Type 0 where
+  pub lists : ListsPage (bucket_slot bucket) page section
+  pub reaches : Reaches page (bucket_register bucket)
+
+-- a bucket was asked for, and where its name was shown its register was looked at later
+pub record IsAskedFor (bucket : List ℕ) (sections : List Section) : Type 0 where
+  pub page : Page
+  pub before : List Section
+  pub asked : Section
+  pub after : List Section
+  pub parts : sections ≡ before ++ asked ∷ after
+  pub asks : AsksFor bucket page asked
+  pub looks : Contains page.names (bucket_register bucket) → (content : List ℕ) × (look : Section) × Contains after look × LooksAt bucket content look
+
+-- a look found the bucket of a row
+pub record FindsRow (row : BucketRow) (section : Section) : Type 0 where
+  pub there : BucketRecord
+  pub canonical : IsCanonical there
+  pub looks : LooksAt row.name (content_of (Some there)) section
+  pub created : row.created ≡ there.created
+
+-- the order of rows: that of their names
+abbrev pub row_order : BucketRow → BucketRow → Ordering
+row_order a b = byte_order a.name b.name
+
+-- a section did nothing of its own, at a register or at none
+abbrev pub DoesNothing : Section → Type 0
+DoesNothing section = (slot : ℕ) × (name : List ℕ) × HasEntry slot name Kept section.note
+
+-- each bucket was asked for; the rows, which rise by their names, are those of the buckets that looks found; and no section did anything of its own
+pub record BucketsAreListed (rows : List BucketRow) (sections : List Section) : Type 0 where
+  pub asked : (bucket : List ℕ) → IsBucketName bucket → IsAskedFor bucket sections
+  pub rising : IsStrictlySortedBy row_order rows
+  pub found : All (λ row. (look : Section) × Contains sections look × FindsRow row look) rows
+  pub given : (row : BucketRow) (look : Section) → Contains sections look → FindsRow row look → Contains rows row
+  pub idle : All DoesNothing sections
+
+-- the last of the sections was refused, and none did anything of its own
+pub record ListingIsRefused (reply : Reply) (sections : List Section) : Type 0 where
+  pub before : List Section
+  pub last : Section
+  pub parts : sections ≡ before ++ last ∷ []
+  pub idle_before : All DoesNothing before
+  pub slot : ℕ
+  pub in_store : slot < 64
+  pub name : List ℕ
+  pub idle : IsIdle slot name last.note
+  pub refuses : TellsRefusal slot last.note reply
+
+-- or the next one could not be done
+pub record ListingIsBarred (reply : Reply) (log : Log) : Type 0 where
+  pub idle : All DoesNothing (sections_of log)
+  pub slot : ℕ
+  pub in_store : slot < 64
+  pub barred : TellsSpent slot reply log
+
+-- what a ListBuckets is answered
+abbrev pub ListBucketsOwes : Reply → Log → Type 0
+ListBucketsOwes reply log = ((rows : List BucketRow) × (reply ≡ Buckets rows) × BucketsAreListed rows (sections_of log))
+    ⊎ ListingIsRefused reply (sections_of log)
+    ⊎ ListingIsBarred reply log
