@@ -27,6 +27,7 @@ removed_so name (Ok done) old new tells counts leaves = (
   Wrote,
   record {
     was_so = counts;
+    removes = λ says. says;
     goes_on = record { tells = tells; count = omega (arith, counts) };
     files = λ told. inr (leaves told).1;
   },
@@ -35,6 +36,7 @@ removed_so name (Err Absent) old new tells counts leaves = (
   Missing name,
   record {
     was_so = (counts, λ told. (leaves told).0);
+    removes = λ says. says;
     goes_on = record { tells = tells; count = omega (arith, counts) };
     files = λ told. inl (leaves told).1;
   },
@@ -43,6 +45,7 @@ removed_so name (Err Failed) old new tells counts leaves = (
   Faulted old.count new.count,
   record {
     was_so = (refl, refl, counts);
+    removes = λ says. says;
     goes_on = record { tells = tells; count = counts.0 };
     files = leaves;
   },

@@ -1,5 +1,5 @@
 -- What an op changes of its own claim among those of others, where it is to remove other ids.
-use Rattle.std.proofs.Common.{◌≡◌, ◌≢◌, ◌⊎◌, ◌∙◌, ◌<◌, ℕ, zero, List, ◌∷◌, ◌++◌, Contains, cond, option_to_list, option_map, inl, inr, refl, sym, ap, subst, arith}
+use Rattle.std.proofs.Common.{◌≡◌, ◌≢◌, ◌⊎◌, ◌∙◌, ◌<◌, ℕ, zero, Some, List, ◌∷◌, ◌++◌, Contains, cond, option_to_list, option_map, inl, inr, refl, sym, ap, subst, arith}
 use Rattle.std.specs.List.{flat_map}
 use Rattle.std.proofs.lemmas.Bool.Decides.{eqb_tells}
 use Rattle.std.proofs.lemmas.Grind.{flat_map-append}
@@ -27,6 +27,21 @@ in_midst front rest x y z there = elim (Contains-append_cases front (y ∷ rest)
     | inl same ↦ inl same
     | inr later ↦ inr (Contains-append_right front (x ∷ rest) z (rest_there x rest z later))
   ]
+]
+
+-- a put or a pin that some claim has is had still, where the claim in the midst keeps it
+pub flight_stays : (front rest : List Claim) (a b : Claim) (f : Flying) → (a.flight ≡ Some f → b.flight ≡ Some f)
+    → (c : Claim) × Contains (among front a rest) c × (c.flight ≡ Some f) → (c : Claim) × Contains (among front b rest) c × (c.flight ≡ Some f)
+flight_stays front rest a b f keeps x = elim (in_midst front rest b a x.0 x.1) [
+  | inl same ↦ (b, Contains-append_right front (b ∷ rest) b (zero, omega arith, refl), keeps (subst (λ (c : Claim). c.flight ≡ Some f) (sym same) x.2))
+  | inr other ↦ (x.0, other, x.2)
+]
+
+pub pin_stays : (front rest : List Claim) (a b : Claim) (p : Pinned) → (a.pin ≡ Some p → b.pin ≡ Some p)
+    → (c : Claim) × Contains (among front a rest) c × (c.pin ≡ Some p) → (c : Claim) × Contains (among front b rest) c × (c.pin ≡ Some p)
+pin_stays front rest a b p keeps x = elim (in_midst front rest b a x.0 x.1) [
+  | inl same ↦ (b, Contains-append_right front (b ∷ rest) b (zero, omega arith, refl), keeps (subst (λ (c : Claim). c.pin ≡ Some p) (sym same) x.2))
+  | inr other ↦ (x.0, other, x.2)
 ]
 
 -- the claims of a slot, with one that is of the slot among them

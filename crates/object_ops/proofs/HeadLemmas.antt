@@ -33,6 +33,7 @@ use Rattle.receipts.specs.Spans.{GivesBytes}
 use Rattle.receipts.specs.declared.barred.Barred.{Barred}
 use Rattle.receipts.specs.declared.barred.Barred.TheVariants as barred
 use Rattle.receipts.proofs.PayLemmas.{quiet_pays}
+use Rattle.receipts.proofs.RegisterLemmas.{key_slot_below}
 use Rattle.op_steps.specs.Claims.{Claim, no_claim}
 use Rattle.op_steps.specs.Moves.{TellMoves, TurnMoves}
 use Rattle.op_steps.specs.Notes.{noted}
@@ -236,11 +237,12 @@ starts_left started_of.LacksMemory state pin is = subst (λ s. left_of s < 3) (s
 
 -- what an op stands for that has done nothing yet
 abbrev pub Stands : HeadOp → Type 0
-Stands op = (slot : ℕ) × StandsFor op (no_claim slot) []
+Stands op = (slot : ℕ) × (slot < 64) × StandsFor op (no_claim slot) []
 
 pub begins : (set : SetPlan) (at : Key) (pick : Pick) (now : ℕ) (result : Result HeadOp NoRoom) → IfOk result (IsNewHead set at pick now) → IfOk result Stands
 begins set at pick now (Ok op) is = (
   key_slot op.at,
+  key_slot_below op.at,
   subst (λ state. HeadStands op.set (head_task op) op.at state op.pin (no_claim (key_slot op.at)) []) (sym is.state_is) ((is.pin_is, refl), refl),
 )
 begins set at pick now (Err fault) is = tt

@@ -1,7 +1,13 @@
 pub mod CallLemmas
 pub mod ClaimLemmas
+pub mod DeleteLemmas
+pub mod DeleteOpLemmas
+pub mod DeletionLemmas
+pub mod DueLemmas
 pub mod ElsewhereLemmas
 pub mod HeadLemmas
+pub mod KeyCommitLemmas
+pub mod LeftLemmas
 pub mod LookingLemmas
 pub mod OrderLemmas
 pub mod ReadingBars

@@ -1,5 +1,5 @@
 -- What a log says of the bucket, whose one section is the look at it.
-use Rattle.std.proofs.Common.{◌≡◌, ◌⊎◌, ◌<◌, ◌∙◌, ℕ, zero, suc, List, [], ◌∷◌, All, Option, Some, None, Result, Ok, Err, MatchOption, option_and_then, inl, inr, refl, sym, ap, subst, arith}
+use Rattle.std.proofs.Common.{◌≡◌, ◌∙◌, ℕ, zero, suc, List, [], ◌∷◌, All, Option, Some, None, Result, Err, MatchOption, option_and_then, inl, inr, refl, sym, ap, subst, arith}
 use Rattle.audit_trail.specs.declared.entry.Deed.TheVariants.{Kept}
 use Rattle.audit_trail.specs.declared.entry.Entry.{Entry}
 use Rattle.bucket_book.specs.Content.{IsBucketOf, content_of}
@@ -16,12 +16,11 @@ use Rattle.slot_core.specs.declared.fault.SlotFault.TheVariants.{AuditFailed, Ke
 use Rattle.slot_core.specs.declared.stub.Stub.{Stub}
 use Rattle.receipts.specs.Bucketing.{BucketIsThere}
 use Rattle.receipts.specs.Events.{Shown, sections_of}
-use Rattle.receipts.specs.Events.Event.{BarredFrom, Turned}
+use Rattle.receipts.specs.Events.Event.{Turned}
 use Rattle.receipts.specs.Events.Shown.{ContentShown, NoneShown}
 use Rattle.receipts.specs.Looks.{EndsAtLook, HasEntry, IsIdle, IsOfSection, LooksAt}
 use Rattle.receipts.specs.Paying.{ChangesNothing, LeavesAll}
 use Rattle.receipts.specs.Registers.{bucket_register, bucket_slot}
-use Rattle.receipts.specs.declared.barred.Barred.TheVariants.{Spent}
 use Rattle.op_steps.specs.Looking.{LookSays, shown_by}
 use Rattle.op_steps.specs.Notes.{note_of, noted, refusal_by}
 use Rattle.op_steps.specs.Store.{SlotSeen}
@@ -163,7 +162,3 @@ looks_so ghosts name was now answer look old new says shows = record {
   says = λ bucket named index. look_says bucket was.numbers answer look.stub look.looked index says.turns.stub_is
       (subst (λ n. Says look.stub (SaysKept n)) named says.says) shows;
 }
-
--- one that can't be done, since the slot's turns are spent
-pub spent_look : (bucket : List ℕ) → EndsAtLook bucket (RefusedReply Refusal.SeqSpent) (BarredFrom (bucket_slot bucket) Spent ∷ [])
-spent_look bucket = inr (inr (record { sections = refl; barred = record { spent = (zero, omega arith, refl); told = refl } }))

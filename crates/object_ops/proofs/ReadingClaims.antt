@@ -3,13 +3,13 @@ use Rattle.std.proofs.Common.{◌≡◌, ◌≢◌, ◌≤◌, ◌∙◌, ℕ, L
 use Rattle.std.specs.List.{flat_map}
 use Rattle.std.proofs.lemmas.Bool.Decides.{eqb_tells}
 use Rattle.std.proofs.lemmas.Grind.{flat_map-append}
-use Rattle.std.proofs.lemmas.List.Elements.{Contains-append_left, Contains-append_right, Contains-append_cases, filter-append}
+use Rattle.std.proofs.lemmas.List.Elements.{Contains-append_left, Contains-append_right, Contains-append_cases, Contains-push_cases, filter-append}
 use Rattle.drive_base.specs.View.{DriveView}
 use Rattle.drive_base.specs.declared.plan.SetPlan.{SetPlan}
 use Rattle.stamp_id.specs.declared.version.VersionId.{VersionId}
 use Rattle.slot_history.specs.Standing.{Flying, Records}
 use Rattle.slot_history.specs.State.{State, TakesOut}
-use Rattle.slot_history.proofs.TakenLemmas.{first_there, left_apart, none_there, rest_there, taken_or_left, there_cases}
+use Rattle.slot_history.proofs.TakenLemmas.{first_there, left_apart, left_there, none_there, rest_there, taken_or_left, there_cases}
 use Rattle.slot_data.specs.Disks.{Disks}
 use Rattle.slot_data.specs.Holding.{Hands, Holding, Known, Pinned, Purpose}
 use Rattle.slot_data.specs.Holding.Purpose.{ForComplete, ForHeal, ForRead}
@@ -20,6 +20,7 @@ use Rattle.slot_data.proofs.ListedLemmas.{put_last}
 use Rattle.slot_core.specs.Sections.{MayLetGo, PinGoes}
 use Rattle.op_steps.specs.Claims.{AllApart, Claim, HoldsAt, IsMet, among, claims_at, disks_of, flights_in, hands_of, is_at, no_claim, pins_in}
 use Rattle.object_ops.specs.Reading.{pinned_claim}
+use Rattle.object_ops.proofs.ClaimLemmas.{flight_stays, pin_stays}
 use Rattle.object_ops.proofs.ReadingLists.{flat_has, flat_there, none_some, of_some, out_apart, out_distinct, put_apart}
 
 -- ---- the claims of a slot, of which one is this
@@ -172,6 +173,15 @@ module _ (set : SetPlan) (index last later : ℕ) (held : Holding) (p : Pinned) 
               left_apart (λ (q : Pinned). q.ticket) p (held.pins ++ p ∷ []) held.pins (put_last held.pins p) stands.pins.differ t.pin
               ((met_old t.claim t.there).pin t.pin t.pin_is) (t.ticket_is ∙ same)));
         });
+        flights_are = λ f there. subst (λ (l : List Claim). (c : Claim) × Contains l c × (c.flight ≡ Some f)) (sym is)
+            (flight_stays F R (no_claim index) (pinned_claim index p) f (λ none. absurd (none_some f none))
+            (subst (λ (l : List Claim). (c : Claim) × Contains l c × (c.flight ≡ Some f)) was (d.flights_are f there)));
+        pins_are = λ q there. subst (λ (l : List Claim). (c : Claim) × Contains l c × (c.pin ≡ Some q)) (sym is)
+            (elim (Contains-push_cases held.pins p q there) [
+              | inl old ↦ pin_stays F R (no_claim index) (pinned_claim index p) q (λ none. absurd (none_some q none))
+                  (subst (λ (l : List Claim). (c : Claim) × Contains l c × (c.pin ≡ Some q)) was (d.pins_are q old))
+              | inr same ↦ (pinned_claim index p, own_there F (pinned_claim index p) R, ap Some same)
+            ]);
       }
 
 -- ---- a pin ends
@@ -263,6 +273,26 @@ module _ (set : SetPlan) (index last later : ℕ) (held holding : Holding) (p : 
         | inr none ↦ absurd (none.0 p listed refl)
       ]
 
+  -- the puts are as before, and the pins are those but the one that ended
+  flight_was : (f : Flying) → Contains holding.flights f → Contains held.flights f
+  flight_was f there = elim goes [
+    | inl g ↦ subst (λ (h : Holding). Contains h.flights f) g.4 there
+    | inr none ↦ absurd (none.0 p listed refl)
+  ]
+
+  pin_was : (q : Pinned) → Contains holding.pins q → Contains held.pins q
+  pin_was q there = elim goes [
+    | inl g ↦ left_there g.0 held.pins g.1 g.3 q (subst (λ (h : Holding). Contains h.pins q) g.4 there)
+    | inr none ↦ absurd (none.0 p listed refl)
+  ]
+
+  pin_gone : (q : Pinned) → Contains holding.pins q → Some p ≡ Some q → ⊥
+  pin_gone q there own = elim goes [
+    | inl g ↦ left_apart (λ (x : Pinned). x.ticket) g.0 held.pins g.1 g.3 d.stands.pins.differ q (subst (λ (h : Holding). Contains h.pins q) g.4 there)
+        (of_some (λ (x : Pinned). x.ticket ≡ g.0.ticket) p q own (sym g.2))
+    | inr none ↦ absurd (none.0 p listed refl)
+  ]
+
   met_none : IsMet set holding unseen disks (no_claim index)
   met_none = record {
     flight = λ f none. absurd (none_some f none);
@@ -293,4 +323,10 @@ module _ (set : SetPlan) (index last later : ℕ) (held holding : Holding) (p : 
           flights = subst AreDistinct (flights_with F R index p ∙ sym (flights_without F R index)) apart_old.flights;
           pins = subst AreDistinct (sym (pins_without F R index)) (out_distinct (pins_in F) p.ticket (pins_in R) distinct);
         });
+        flights_are = λ f there. subst (λ (l : List Claim). (c : Claim) × Contains l c × (c.flight ≡ Some f)) (sym is)
+            (flight_stays F R (pinned_claim index p) (no_claim index) f (λ none. absurd (none_some f none))
+            (subst (λ (l : List Claim). (c : Claim) × Contains l c × (c.flight ≡ Some f)) was (d.flights_are f (flight_was f there))));
+        pins_are = λ q there. subst (λ (l : List Claim). (c : Claim) × Contains l c × (c.pin ≡ Some q)) (sym is)
+            (pin_stays F R (pinned_claim index p) (no_claim index) q (λ own. absurd (pin_gone q there own))
+            (subst (λ (l : List Claim). (c : Claim) × Contains l c × (c.pin ≡ Some q)) was (d.pins_are q (pin_was q there))));
       }

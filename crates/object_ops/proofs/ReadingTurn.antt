@@ -1,5 +1,5 @@
 -- The begin and the end of a read, as steps of an op that has the pin between them.
-use Rattle.std.proofs.Common.{◌≡◌, ◌∙◌, ℕ, Bool, List, Option, Some, None, Result, Ok, Err, refl, sym, subst, subst₂, arith}
+use Rattle.std.proofs.Common.{◌≡◌, ◌∙◌, ℕ, Bool, List, Contains, Option, Some, None, Result, Ok, Err, refl, sym, subst, subst₂, arith}
 use Rattle.audit_trail.specs.declared.entry.Entry.{Entry}
 use Rattle.call_types.specs.declared.names.Key.{Key}
 use Rattle.drive_base.specs.Files.{Files}
@@ -61,6 +61,7 @@ module _ {D : Type 0} (ghosts : Ghosts D) where
         records_after = left.after;
         state_after = left.now;
         stands = left.stands;
+        stay = left.stay;
         moves = subst (λ e. EntryMoves was.numbers.index e (ShowsBy e NoneShown) records state left.after left.now) (sym (same_entry stub))
             (moves_none was.numbers.index (entry_of stub) records left.after state left.now left.moves);
         holds = λ unseen front rest d.
@@ -115,6 +116,8 @@ module _ {D : Type 0} (ghosts : Ghosts D) where
                 (let rises = last_rises was.numbers now.numbers x.turns.numbers in omega (arith, rises, above));
             met = λ c there. subst (λ (h : Holding). IsMet was.numbers.set h unseen (views ghosts old) c) (sym x.holds) (d.met c there);
             apart = d.apart;
+            flights_are = λ f there. d.flights_are f (subst (λ (h : Holding). Contains h.flights f) x.holds there);
+            pins_are = λ p there. d.pins_are p (subst (λ (h : Holding). Contains h.pins p) x.holds there);
           });
     },
   )
@@ -140,6 +143,7 @@ module _ {D T : Type 0} (tells : D → Bool) (files : D → Files) where
         records_after = left.after;
         state_after = left.now;
         stands = left.stands;
+        stay = left.stay;
         moves = moves_none was.numbers.index None records left.after state left.now left.moves;
         holds = λ unseen front rest d.
             subst₂ (λ s i. HoldsAt s i (last_of now.numbers) now.holding unseen disks (among front (no_claim was.numbers.index) rest) left.after left.now)

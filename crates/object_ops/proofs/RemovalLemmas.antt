@@ -33,7 +33,7 @@ use Rattle.object_ops.specs.DataNames.{name_by}
 use Rattle.object_ops.specs.Removing.{AreDue, FileOn, IsDue, RemoveCall, ids_of}
 use Rattle.object_ops.specs.declared.removal.DataFile.{DataFile}
 use Rattle.object_ops.specs.declared.removal.DataFile.TheVariants.{Manifest, Shard}
-use Rattle.object_ops.proofs.ClaimLemmas.{apart_on, at_other, at_own, each_on, hands_on, own_in_hand}
+use Rattle.object_ops.proofs.ClaimLemmas.{apart_on, at_other, at_own, each_on, flight_stays, hands_on, own_in_hand, pin_stays}
 use Rattle.object_ops.proofs.ElsewhereLemmas.{removed_elsewhere}
 use Rattle.object_ops.proofs.TrashLemmas.{met_taken}
 
@@ -255,6 +255,12 @@ module _ (numbers : SlotNumbers) (holding : Holding) (records : Records) (state 
         met = λ c there. each_on one_before one_behind claim (ids_of less) (IsMet numbers.set holding unseen new) (met_taken numbers.set holding unseen new claim (ids_of less)) met c
             (subst (λ (l : List Claim). Contains l c) then there);
         apart = subst AllApart (sym then) (apart_on one_before one_behind claim (ids_of less) (subst AllApart mine d.apart));
+        flights_are = λ f there. subst (λ (l : List Claim). (c : Claim) × Contains l c × (c.flight ≡ Some f)) (sym then)
+            (flight_stays one_before one_behind claim (with_taken claim (ids_of less)) f (λ is. is)
+            (subst (λ (l : List Claim). (c : Claim) × Contains l c × (c.flight ≡ Some f)) mine (d.flights_are f there)));
+        pins_are = λ p there. subst (λ (l : List Claim). (c : Claim) × Contains l c × (c.pin ≡ Some p)) (sym then)
+            (pin_stays one_before one_behind claim (with_taken claim (ids_of less)) p (λ is. is)
+            (subst (λ (l : List Claim). (c : Claim) × Contains l c × (c.pin ≡ Some p)) mine (d.pins_are p there)));
       }
 
   -- and of each other one
@@ -272,6 +278,8 @@ module _ (numbers : SlotNumbers) (holding : Holding) (records : Records) (state 
         loose = λ k id inside in_use of above. loose_after numbers.set unseen left less old new d.tell one due k id (d.loose k id inside in_use of above);
         met = λ c there. met_after numbers.set unseen left less old new d.tell one due holding c apart (d.met c (subst (λ (l : List Claim). Contains l c) same there));
         apart = subst AllApart (sym same) d.apart;
+        flights_are = λ f there. subst (λ (l : List Claim). (c : Claim) × Contains l c × (c.flight ≡ Some f)) (sym same) (d.flights_are f there);
+        pins_are = λ p there. subst (λ (l : List Claim). (c : Claim) × Contains l c × (c.pin ≡ Some p)) (sym same) (d.pins_are p there);
       }
 
   pub holds_after : DataHolds numbers holding unseen new (among front later rest) records state
@@ -319,6 +327,7 @@ removal_is_call set slot left less old new claim all own taken one =
       long = one.long;
       others = one.others;
       slot = refl;
+      written = λ unseen front rest mine says at kept_mine. one.call.removes says;
       holds = λ unseen front rest mine s at kept_mine kept.
           holds_after s.numbers s.holding s.records s.state unseen front rest claim left less old new one
           (subst (λ (p : SetPlan). (one.file.drive < p.drives) × (IsBitSet p.out one.file.drive → ⊥)) (sym kept.set_is) (due.within, due.in_use))

@@ -1,5 +1,5 @@
 -- Trash is taken: a step without a note, after which an op has ids in hand.
-use Rattle.std.proofs.Common.{◌≡◌, ◌<◌, ℕ, Bool, List, [], Contains, Option, None, Result, Ok, Err, append-nil, inr, refl, sym, ap, subst, subst₂, arith}
+use Rattle.std.proofs.Common.{◌≡◌, ◌<◌, ℕ, Bool, List, [], Contains, Option, None, Some, Result, Ok, Err, append-nil, inr, refl, sym, ap, subst, subst₂, arith}
 use Rattle.audit_trail.specs.declared.entry.Entry.{Entry}
 use Rattle.drive_base.specs.Files.{Files}
 use Rattle.drive_base.specs.View.{DriveView}
@@ -27,7 +27,7 @@ use Rattle.op_steps.proofs.DataLemmas.{last_rises}
 use Rattle.op_steps.specs.Store.{LanesStand, SlotSeen}
 use Rattle.object_ops.specs.Clearing.{IsPlannedOf, TakesTrash, taken_of, with_taken}
 use Rattle.object_ops.specs.Removing.{FileOn, ids_of}
-use Rattle.object_ops.proofs.ClaimLemmas.{apart_on, at_own, each_on, hands_on}
+use Rattle.object_ops.proofs.ClaimLemmas.{apart_on, at_own, each_on, flight_stays, hands_on, pin_stays}
 use Rattle.object_ops.proofs.OrderLemmas.{planned_taken}
 
 -- puts and pins stay where trash is taken
@@ -94,6 +94,7 @@ module _ {D : Type 0} (tells : D → Bool) (files : D → Files) where
         records_after = left.after;
         state_after = left.now;
         stands = left.stands;
+        stay = left.stay;
         moves = quiet_moves index stub records left.after state left.now x.stubless left.moves;
         holds = λ unseen front rest d.
             let mine = at_own index front rest claim own in
@@ -118,6 +119,12 @@ module _ {D : Type 0} (tells : D → Bool) (files : D → Files) where
                   (λ e here. met_on was.numbers.set was.holding now.holding unseen disks e flights pins (d.met e (subst (λ (l : List Claim). Contains l e) (sym mine) here))) c
                   (subst (λ (l : List Claim). Contains l c) later there);
               apart = subst AllApart (sym later) (apart_on before behind claim ids (subst AllApart mine d.apart));
+              flights_are = λ f there. subst (λ (l : List Claim). (c : Claim) × Contains l c × (c.flight ≡ Some f)) (sym later)
+                  (flight_stays before behind claim (with_taken claim ids) f (λ is. is) (subst (λ (l : List Claim). (c : Claim) × Contains l c × (c.flight ≡ Some f)) mine
+                  (d.flights_are f (subst (λ (l : List Flying). Contains l f) flights there))));
+              pins_are = λ p there. subst (λ (l : List Claim). (c : Claim) × Contains l c × (c.pin ≡ Some p)) (sym later)
+                  (pin_stays before behind claim (with_taken claim ids) p (λ is. is) (subst (λ (l : List Claim). (c : Claim) × Contains l c × (c.pin ≡ Some p)) mine
+                  (d.pins_are p (subst (λ (l : List Pinned). Contains l p) pins there))));
             } in
             subst₂ (λ s i. HoldsAt s i (last_of now.numbers) now.holding unseen disks (among front (with_taken claim ids) rest) left.after left.now)
             (sym x.turns.numbers.set) (sym x.turns.numbers.index) inner;

@@ -1,9 +1,10 @@
 pub mod Clearing
 pub mod DataNames
+pub mod Deletes
+pub mod Deletions
 pub mod Head
 pub mod HeadBegin
 pub mod HeadStands
-pub mod Logs
 pub mod Looking
 pub mod Reading
 pub mod ReadingStart

@@ -1,4 +1,4 @@
--- What a call that reads a key holds between two steps, and what its log has by then.
+-- What a call that reads a key holds between two steps, and what the log of any call on an object has before its reply.
 use Rattle.std.specs.Prelude.{◌≡◌, ◌⊎◌, ℕ, List, [], ◌∷◌, All, Option, Some, None, Result, Ok, Err}
 use Rattle.call_types.specs.declared.names.Key.{Key}
 use Rattle.call_types.specs.declared.names.Mode.{Mode}

@@ -7,7 +7,7 @@ use Rattle.drive_base.specs.Files.{with_placed}
 use Rattle.drive_base.specs.View.{DriveView, GoesOn}
 use Rattle.drive_base.specs.declared.plan.SetPlan.{SetPlan}
 use Rattle.receipts.specs.Events.{Seen}
-use Rattle.op_steps.specs.Moves.{WasSo}
+use Rattle.op_steps.specs.Moves.{SaysUnwritten, WasSo}
 use Rattle.object_ops.specs.declared.removal.DataFile.{DataFile}
 use Rattle.object_ops.specs.declared.removal.DataFile.TheVariants.{Manifest, Shard}
 use Rattle.object_ops.specs.declared.removal.Removal.{Removal}
@@ -56,4 +56,5 @@ ids_of files = map (λ (file : FileOn). file.id) files
 pub record RemoveCall (name : List ℕ) (seen : Seen) (old new : DriveView) : Type 0 where
   pub was_so : WasSo seen old new
   pub goes_on : GoesOn old new
+  pub removes : SaysUnwritten seen → ⊥
   pub files : IsTrue old.tells → (new.files ≡ old.files) ⊎ (new.files ≡ with_placed old.files name None)

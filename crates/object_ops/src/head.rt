@@ -15,7 +15,7 @@ use crate::head_op::HeadOp;
 use crate::head_state::HeadState;
 use crate::looking::{Looked, look_at_bucket};
 use crate::reading_start::{Started, length_of, started_of};
-use crate::reading_tell::tell_head;
+use crate::telling::tell_head;
 use audit_trail::Audit;
 use call_types::{Cut, Feed, Mode, Refusal, Reply, Span};
 use desk_base::Teller;

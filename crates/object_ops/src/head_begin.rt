@@ -1,6 +1,6 @@
 //! How the op of a HeadObject begins.
 
-ghost use Rattle.std.specs.Prelude.{◌≡◌, ℕ, [], IfOk};
+ghost use Rattle.std.specs.Prelude.{◌≡◌, ◌<◌, ℕ, [], IfOk};
 ghost use Rattle.desk_base.specs.Calls.{IsKey};
 ghost use Rattle.op_steps.specs.Claims.{no_claim};
 ghost use Rattle.object_ops.specs.HeadBegin.{IsHead, IsNewHead};
@@ -22,7 +22,7 @@ impl HeadOp {
         ensures set { IfOk result (λ op. ⟦<HeadOp as Op>⟧.set op ≡ set) }
         ensures task { IfOk result (λ op. ⟦<HeadOp as Op>⟧.task op ≡ record { call = call.now; now = now }) }
         ensures taken { IfOk result (λ op. ⟦<HeadOp as Op>⟧.taken op ≡ 0) }
-        ensures begins { IfOk result (λ op. (slot : ℕ) × ⟦<HeadOp as Op>⟧.stands op (no_claim slot) []) }
+        ensures begins { IfOk result (λ op. (slot : ℕ) × (slot < 64) × ⟦<HeadOp as Op>⟧.stands op (no_claim slot) []) }
     {
         match call {
             Call::Head { at, pick } => HeadOp::of(alloc, set, at, *pick, now),

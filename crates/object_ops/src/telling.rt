@@ -1,4 +1,4 @@
-//! The tellings of calls that read a key.
+//! Heads that are told.
 
 ghost use Rattle.std.specs.Prelude.{◌≡◌};
 ghost use Rattle.desk_base.specs.Telling.Telling.{Head as TheHead};

@@ -1,0 +1,39 @@
+use Rattle.std.proofs.Common.{◌≡◌}
+use Rattle.std.proofs.lemmas.Str.{IsUtf8-had}
+use Rattle.op_steps.specs.Store.{slot_seen}
+use Rattle.object_ops.specs.Deletions.{bucket_in, key_in}
+use Rattle.object_ops.proofs.DeletionLemmas.{deletion_lawful, deletion_named}
+use Rattle.object_ops.proofs.DeleteOpLemmas.{commit_so}
+use Rattle.object_ops.proofs.LeftLemmas.{commit_left}
+use Rattle.object_ops.proofs.delete_op.DeleteOp.commit.Goals as goal
+
+pub returns-clause-turns : goal.returns-clause-turns
+returns-clause-turns g c =
+    let op = c.args.self.now in
+    let commit = c.commit-turn.ensures in
+    commit_so op.set op.at op.pick op.now g.D.Drive op.clearing c.begin.new.self op.state c.after_commit.result c.in-Committing.deed
+    (slot_seen g.A.Audit.entries g.A.Audit.count c.args.slot.now) (slot_seen g.A.Audit.entries g.A.Audit.count c.commit-turn.new.self)
+    c.commit-turn.result.answer c.commit-turn.result.stub c.args.disks.now c.commit-turn.new.disks c.in-Committing.is c.begin.ensures.queue c.requires.next
+    (λ fits. record {
+      fits = fits;
+      turns = commit.turns;
+      says = commit.says;
+      holds = commit.holds;
+      leaves = commit.leaves fits;
+      read = record { long = c.commit-turn.auto.disks; files = commit.disk_files; tells = commit.disk_tells; counts = commit.disk_counts };
+    })
+    commit.cause c.after_commit.ensures
+
+pub returns-clause-left : goal.returns-clause-left
+returns-clause-left g c =
+    let op = c.args.self.now in
+    commit_left op.set op.clearing c.begin.new.self op.state c.after_commit.result c.in-Committing.deed c.commit-turn.result.answer c.in-Committing.is
+    c.begin.ensures.takes c.begin.ensures.queue c.after_commit.ensures
+
+pub commit-turn-requires-clause-lawful : goal.commit-turn-requires-clause-lawful
+commit-turn-requires-clause-lawful g c = let deed = c.in-Committing.deed in deletion_lawful deed.commit deed.deletes
+
+pub commit-turn-requires-clause-named : goal.commit-turn-requires-clause-named
+commit-turn-requires-clause-named g c =
+    let deed = c.in-Committing.deed in
+    deletion_named deed.commit deed.deletes (IsUtf8-had (bucket_in deed.commit) deed.bucket_text) (IsUtf8-had (key_in deed.commit) deed.key_text)

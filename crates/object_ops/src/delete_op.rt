@@ -1,0 +1,39 @@
+//! The op of a DeleteObject.
+
+ghost use Rattle.std.specs.Prelude.{◌≡◌, ◌≤◌, IsUtf8, length, string_bytes};
+ghost use Rattle.slot_history.specs.Names.{bucket_name, key_name, key_slot};
+ghost use Rattle.version_list.specs.State.{IsMoment};
+ghost use Rattle.object_ops.specs.Clearing.{files_left};
+ghost use Rattle.object_ops.specs.Removing.{AreDue};
+
+use crate::clearing::Clearing;
+use crate::delete_state::DeleteState;
+use call_types::{Key, Pick};
+use drive_base::SetPlan;
+
+/// DeleteObject, step by step: a look at the bucket, the commit of the deletion at the key's register, and the reply. Then trash of the slot is taken, and its
+/// files are removed.
+#[derive(Drop)]
+pub struct DeleteOp {
+    /// The set of the store.
+    pub(crate) set: SetPlan,
+    /// The key.
+    pub(crate) at: Key,
+    /// The version that is named.
+    pub(crate) pick: Pick,
+    /// The name of the bucket's register.
+    pub(crate) name: String,
+    /// The Unix second of the call.
+    pub(crate) now: u64,
+    /// How far it is.
+    pub(crate) state: DeleteState,
+    /// What is left of the trash.
+    pub(crate) clearing: Clearing,
+    pub ghost named: { string_bytes name ≡ bucket_name at.bucket },
+    pub ghost short: { length (string_bytes name) ≤ 1129 },
+    pub ghost bucket_text: { ∥ IsUtf8 at.bucket ∥₁ },
+    pub ghost key_text: { ∥ IsUtf8 at.key ∥₁ },
+    pub ghost key_short: { length (key_name at) ≤ 1129 },
+    pub ghost moment: { IsMoment now },
+    pub ghost due: { AreDue set (key_slot at) (files_left clearing) },
+}

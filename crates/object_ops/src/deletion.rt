@@ -1,0 +1,18 @@
+//! Deletions of versions of keys that can be committed.
+
+ghost use Rattle.std.specs.Prelude.{◌≡◌, ◌≤◌, IsUtf8, length, true};
+ghost use Rattle.slot_core.specs.Committing.{name_of};
+ghost use Rattle.object_ops.specs.Deletions.{bucket_in, is_deletion, key_in};
+
+use slot_core::Commit;
+
+/// A deletion that can be committed: its register has a lawful name.
+#[derive(Drop)]
+pub struct Deletion {
+    /// The deed.
+    pub(crate) commit: Commit,
+    pub ghost deletes: { is_deletion commit ≡ true },
+    pub ghost bucket_text: { ∥ IsUtf8 (bucket_in commit) ∥₁ },
+    pub ghost key_text: { ∥ IsUtf8 (key_in commit) ∥₁ },
+    pub ghost short: { length (name_of commit) ≤ 1129 },
+}
