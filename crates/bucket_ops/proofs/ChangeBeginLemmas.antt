@@ -1,5 +1,5 @@
 -- A change that has done nothing yet stands for the empty log.
-use Rattle.std.proofs.Common.{◌≡◌, ◌⊎◌, ◌<◌, ℕ, true, false, Bool, List, [], ◌∷◌, All, IfOk, Ok, Err, Result, take, vec_len, inl, inr, refl, subst, sym, ap, ◌∙◌, arith}
+use Rattle.std.proofs.Common.{◌≡◌, ◌<◌, ℕ, Bool, List, [], IfOk, Ok, Err, Result, take, inl, inr, refl, subst, sym, ap, ◌∙◌, arith}
 use Rattle.drive_base.specs.declared.plan.SetPlan.{SetPlan}
 use Rattle.fault_base.specs.declared.memory.NoMemory.{NoMemory}
 use Rattle.slot_core.specs.declared.commit.Commit.TheVariants.{MakeBucket}

@@ -1,57 +1,44 @@
 -- What is owed to a call that changes a bucket, after its commit.
-use Rattle.std.proofs.Common.{◌≡◌, ◌⊎◌, ◌<◌, ◌∙◌, ℕ, zero, suc, true, false, Bool, List, [], ◌∷◌, ◌++◌, All, Option, Some, None, Result, Ok, Err, MatchOption, append-nil, length, option_and_then, inl, inr, refl, sym, ap, subst, arith}
-use Rattle.std.proofs.lemmas.List.Elements.{All-append}
+use Rattle.std.proofs.Common.{◌≡◌, ◌⊎◌, ◌∙◌, ℕ, Bool, List, [], ◌∷◌, ◌++◌, Option, Some, None, Result, Ok, Err, MatchOption, option_and_then, inl, inr, refl, sym, ap, subst}
 use Rattle.audit_trail.specs.declared.entry.Deed.{Deed}
 use Rattle.audit_trail.specs.declared.entry.Deed.TheVariants.{Done, Kept, Refused as RefusedDeed}
 use Rattle.audit_trail.specs.declared.entry.Entry.{Entry}
 use Rattle.bucket_book.specs.Laws.{ContentIsInjective}
 use Rattle.bucket_book.specs.declared.step.BucketAct.{BucketAct}
-use Rattle.bucket_book.specs.declared.step.BucketAct.TheVariants as act
 use Rattle.call_types.specs.Refusals.{refusal_of}
 use Rattle.call_types.specs.declared.act.Brief.{Brief}
 use Rattle.call_types.specs.declared.act.Brief.TheVariants.{Answer}
-use Rattle.call_types.specs.declared.feed.Cut.TheVariants.{NoMemory as NoMemoryCut}
-use Rattle.call_types.specs.declared.names.Mode.{Mode}
 use Rattle.call_types.specs.declared.refusal.Refusal.{Refusal}
 use Rattle.call_types.specs.declared.refusal.Refusal.TheVariants as refused
 use Rattle.call_types.specs.declared.reply.Reply.{Reply}
 use Rattle.call_types.specs.declared.reply.Reply.TheVariants as told
 use Rattle.call_types.specs.declared.why.Why.{Why}
-use Rattle.desk_base.specs.Calls.{stated_length}
 use Rattle.drive_base.specs.Files.{Files}
-use Rattle.drive_base.specs.declared.plan.SetPlan.{SetPlan}
 use Rattle.register_core.specs.declared.faults.QuorumFault.{QuorumFault}
 use Rattle.register_core.specs.declared.faults.QuorumFault.TheVariants.{NoMemory as NoMemoryQuorum, ReadQuorum, Undecided, WriteQuorum}
 use Rattle.stamp_id.specs.declared.stamp.ChangeId.{ChangeId}
 use Rattle.stamp_id.specs.declared.version.VersionId.{VersionId}
-use Rattle.slot_core.specs.CommitCauses.{CommitCause, FoundSo, LookRefused, WroteSo, deed_in, own_deed}
+use Rattle.slot_core.specs.CommitCauses.{CommitCause, FoundSo, WroteSo, deed_in, own_deed}
 use Rattle.slot_core.specs.Committing.{SaysCommit, call_of, name_of}
 use Rattle.slot_core.specs.Planning.{IsBucketDeed}
 use Rattle.slot_core.specs.Stubs.{IsStub, Says, StubOfEntry, Writes, WritesNone, entry_of}
 use Rattle.slot_core.specs.Views.{SlotNumbers}
 use Rattle.slot_core.specs.declared.commit.Commit.{Commit}
-use Rattle.slot_core.specs.declared.commit.Commit.TheVariants.{MakeBucket, SetMode}
 use Rattle.slot_core.specs.declared.commit.Committed.{Committed}
 use Rattle.slot_core.specs.declared.fault.SlotFault.{SlotFault}
 use Rattle.slot_core.specs.declared.fault.SlotFault.TheVariants.{AuditFailed, Key, NoMemory, NotInFlight, Quorum, SeqSpent}
 use Rattle.slot_core.specs.declared.stub.Stub.{Stub}
-use Rattle.receipts.specs.Bucketing.{BeginsBucket, BucketActOwes, ChangesBucket, RefusesBucket}
-use Rattle.receipts.specs.Dues.{IsDueBucket}
-use Rattle.receipts.specs.Events.{Log, Note, Section, body_of, cuts_of, sections_of}
+use Rattle.receipts.specs.Bucketing.{BucketActOwes, ChangesBucket, RefusesBucket}
+use Rattle.receipts.specs.Events.{Log, sections_of}
 use Rattle.receipts.specs.Events.Event.{Turned}
 use Rattle.receipts.specs.Events.Shown.{NoneShown}
-use Rattle.receipts.specs.Looks.{HasEntry, IsIdle, IsOfSection, TellsRefusal}
-use Rattle.receipts.specs.Owes.{OwesCall}
+use Rattle.receipts.specs.Looks.{HasEntry, IsOfSection, TellsRefusal}
 use Rattle.receipts.specs.Registers.{bucket_register, bucket_slot}
-use Rattle.receipts.proofs.JoinLemmas.{bodies_join, cuts_join, sections_join}
+use Rattle.receipts.proofs.JoinLemmas.{sections_join}
 use Rattle.op_steps.specs.Notes.{note_of, noted, refusal_by}
-use Rattle.op_steps.specs.Ready.{IsReady}
-use Rattle.op_steps.proofs.TellLemmas.{none_pays, none_told, one_untold}
-use Rattle.bucket_ops.specs.Changes.{AfterCommit, HasChanged, HasTaken, IsDeedOf, MayCommit, change_call, change_task}
-use Rattle.bucket_ops.specs.Taking.{taken_of}
+use Rattle.bucket_ops.specs.Changes.{AfterCommit}
 use Rattle.bucket_ops.specs.declared.change_state.ChangeState.{ChangeState}
 use Rattle.bucket_ops.specs.declared.change_state.ChangeState.TheVariants.{Committing, Over, Reading, Telling}
-use Rattle.bucket_ops.specs.declared.document.Document.{Document}
 use Rattle.bucket_ops.proofs.DueLemmas.{found_due, wrote_due}
 
 -- the reply that a call is about to tell, and whether it is over

@@ -1,13 +1,11 @@
 -- The steps of a change of a bucket, as an op does them.
-use Rattle.std.proofs.Common.{◌≡◌, ◌⊎◌, ◌<◌, ◌≤◌, ◌+◌, ◌∙◌, ℕ, zero, suc, true, false, Bool, List, [], ◌∷◌, ◌++◌, All, Option, Some, None, Result, Ok, Err, append-nil, length, take, vec_len, inl, inr, refl, sym, ap, subst, arith}
+use Rattle.std.proofs.Common.{◌≡◌, ◌<◌, ◌∙◌, ℕ, zero, true, false, Bool, List, [], ◌∷◌, ◌++◌, All, Option, None, Result, Ok, Err, append-nil, length, vec_len, inl, inr, refl, sym, ap, subst, arith}
 use Rattle.std.proofs.lemmas.List.{length-take-le}
 use Rattle.std.proofs.lemmas.List.Elements.{All-append, Contains-append_right}
 use Rattle.bucket_book.specs.Laws.{ContentIsInjective}
 use Rattle.bucket_book.specs.declared.step.BucketAct.{BucketAct}
 use Rattle.bucket_book.specs.declared.step.BucketAct.TheVariants as act
 use Rattle.call_types.specs.Refusals.{refusal_of}
-use Rattle.call_types.specs.declared.feed.Cut.{Cut}
-use Rattle.call_types.specs.declared.feed.Cut.TheVariants as cuts
 use Rattle.call_types.specs.declared.refusal.Refusal.TheVariants as refused
 use Rattle.call_types.specs.declared.reply.Reply.{Reply}
 use Rattle.call_types.specs.declared.reply.Reply.TheVariants as told
@@ -15,38 +13,35 @@ use Rattle.desk_base.specs.Calls.{stated_length}
 use Rattle.drive_base.specs.Files.{Files}
 use Rattle.drive_base.specs.declared.plan.SetPlan.{SetPlan}
 use Rattle.register_core.specs.declared.faults.QuorumFault.TheVariants.{NoMemory as NoMemoryQuorum, ReadQuorum, Undecided, WriteQuorum}
-use Rattle.stamp_id.specs.declared.stamp.ChangeId.{ChangeId}
-use Rattle.s3_docs.specs.Documents.{IsDocument, IsPlace}
+use Rattle.s3_docs.specs.Documents.{IsDocument}
 use Rattle.s3_docs.specs.Machine.Value.{Versioning}
 use Rattle.s3_docs.specs.declared.prologue.Root.TheVariants.{VersioningConfiguration}
 use Rattle.slot_core.specs.CommitCauses.{CommitCause, deed_in}
-use Rattle.slot_core.specs.Committing.{SaysCommit, call_of, name_of}
+use Rattle.slot_core.specs.Committing.{call_of, name_of}
 use Rattle.slot_core.specs.Planning.{IsBucketDeed}
-use Rattle.slot_core.specs.Stubs.{Says, StubOfEntry, entry_of}
+use Rattle.slot_core.specs.Stubs.{entry_of}
 use Rattle.slot_core.specs.Views.{SlotNumbers}
 use Rattle.slot_core.specs.declared.commit.Commit.{Commit}
-use Rattle.slot_core.specs.declared.commit.Commit.TheVariants.{MakeBucket, SetMode}
+use Rattle.slot_core.specs.declared.commit.Commit.TheVariants.{SetMode}
 use Rattle.slot_core.specs.declared.commit.Committed.{Committed}
 use Rattle.slot_core.specs.declared.fault.SlotFault.{SlotFault}
 use Rattle.slot_core.specs.declared.fault.SlotFault.TheVariants.{AuditFailed, Key, NoMemory, NotInFlight, Quorum, SeqSpent}
 use Rattle.slot_core.specs.declared.stub.Stub.{Stub}
 use Rattle.receipts.specs.Bucketing.{BucketActOwes}
 use Rattle.receipts.specs.Events.{Event, IsUntold, Log, body_of, cut_in, cuts_of, section_in, sections_of, taken_in}
-use Rattle.receipts.specs.Events.Event.{BarredFrom, Fed, Turned}
+use Rattle.receipts.specs.Events.Event.{BarredFrom, Turned}
 use Rattle.receipts.specs.Events.Shown.{NoneShown}
 use Rattle.receipts.specs.Owes.{OwesCall}
-use Rattle.receipts.specs.Paying.{ChangesNothing, DidNoMore, Pays}
+use Rattle.receipts.specs.Paying.{ChangesNothing, DidNoMore}
 use Rattle.receipts.specs.Registers.{bucket_register, bucket_slot}
-use Rattle.receipts.specs.declared.barred.Barred.{Barred}
 use Rattle.receipts.specs.declared.barred.Barred.TheVariants as barred
 use Rattle.receipts.proofs.JoinLemmas.{bodies_join, cuts_join, sections_join}
 use Rattle.op_steps.specs.Notes.{noted}
 use Rattle.op_steps.specs.Ready.{IsReady}
 use Rattle.op_steps.proofs.TellLemmas.{none_pays, none_told, one_untold}
-use Rattle.bucket_ops.specs.Changes.{AfterCommit, HasChanged, HasTaken, IsDeedOf, MayCommit, barred_state, change_call, change_task}
-use Rattle.bucket_ops.specs.Taking.{taken_of}
+use Rattle.bucket_ops.specs.Changes.{AfterCommit, HasChanged, IsDeedOf, MayCommit, change_call, change_task}
 use Rattle.bucket_ops.specs.declared.change_state.ChangeState.{ChangeState}
-use Rattle.bucket_ops.specs.declared.change_state.ChangeState.TheVariants.{Committing, Over, Reading, Telling}
+use Rattle.bucket_ops.specs.declared.change_state.ChangeState.TheVariants.{Telling}
 use Rattle.bucket_ops.specs.declared.document.Document.{Document}
 use Rattle.bucket_ops.proofs.ChangeLemmas.{Commits, commit_owes, with_turn}
 

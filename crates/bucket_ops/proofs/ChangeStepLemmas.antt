@@ -1,10 +1,7 @@
 -- The steps of the op of a change.
-use Rattle.std.proofs.Common.{◌≡◌, ◌⊎◌, ◌<◌, ◌∙◌, ℕ, zero, true, false, Bool, List, [], ◌∷◌, ◌++◌, Contains, MatchOption, Option, Some, None, Result, vec_len, length, inl, inr, refl, sym, ap, subst, arith}
-use Rattle.std.proofs.lemmas.List.Elements.{Contains-append_right}
-use Rattle.std.specs.Io.KnownBytes.{IsAtEnd}
+use Rattle.std.proofs.Common.{◌≡◌, ◌∙◌, ℕ, true, false, Bool, List, [], ◌∷◌, ◌++◌, Option, None, Result, vec_len, refl, sym, ap, subst}
 use Rattle.bucket_book.specs.Laws.{ContentIsInjective}
 use Rattle.call_types.specs.declared.feed.Cut.{Cut}
-use Rattle.call_types.specs.declared.feed.Cut.TheVariants as cuts
 use Rattle.call_types.specs.declared.reply.Reply.{Reply}
 use Rattle.call_types.specs.declared.reply.Reply.TheVariants.{Found}
 use Rattle.desk_base.specs.Answering.{bytes_after}
@@ -20,31 +17,28 @@ use Rattle.slot_core.specs.declared.commit.Commit.{Commit}
 use Rattle.slot_core.specs.declared.commit.Committed.{Committed}
 use Rattle.slot_core.specs.declared.fault.SlotFault.{SlotFault}
 use Rattle.slot_core.specs.declared.stub.Stub.{Stub}
-use Rattle.receipts.specs.Events.{Log, body_of, tale_of}
-use Rattle.receipts.specs.Events.Event.{BarredFrom, Fed, Turned}
+use Rattle.receipts.specs.Events.{Log}
+use Rattle.receipts.specs.Events.Event.{BarredFrom}
 use Rattle.receipts.specs.Events.Shown.{NoneShown}
-use Rattle.receipts.specs.Paying.{Pays}
-use Rattle.receipts.specs.Paying.Outcome.{CutOff}
 use Rattle.receipts.specs.Registers.{bucket_slot}
 use Rattle.receipts.specs.Spans.{GivesBytes}
 use Rattle.receipts.specs.declared.barred.Barred.{Barred}
 use Rattle.receipts.specs.declared.barred.Barred.TheVariants as barred
 use Rattle.op_steps.specs.Committing.{CommitIsTurn, CommitSays}
-use Rattle.op_steps.specs.Moves.{FeedCause, FeedMoves, TellMoves}
-use Rattle.op_steps.specs.Notes.{noted}
-use Rattle.op_steps.specs.Store.{FeedSeen, SlotSeen, TellerSeen}
-use Rattle.op_steps.specs.Words.{BarredSo, FeedsSo, IsSection, TellsSo, TurnsSo}
+use Rattle.op_steps.specs.Moves.{TellMoves}
+use Rattle.op_steps.specs.Store.{SlotSeen, TellerSeen}
+use Rattle.op_steps.specs.Words.{BarredSo, IsSection, TellsSo, TurnsSo}
 use Rattle.op_steps.specs.declared.next.OpNext.{OpNext}
 use Rattle.op_steps.specs.declared.next.OpNext.TheVariants.{Data, Done, Feed, Section, Tell}
 use Rattle.op_steps.proofs.TellLemmas.{none_pays, none_told, told_pays}
-use Rattle.bucket_ops.specs.Changes.{AfterCommit, AfterDocument, ChangeStands, HasChanged, HasTaken, IsDeedOf, MayCommit, barred_state, change_call, change_task, step_of}
-use Rattle.bucket_ops.specs.Taking.{IsFedFrom, TakesSome, taken_of}
+use Rattle.bucket_ops.specs.Changes.{AfterCommit, ChangeStands, HasChanged, IsDeedOf, MayCommit, barred_state, change_call, change_task, step_of}
+use Rattle.bucket_ops.specs.Taking.{taken_of}
 use Rattle.bucket_ops.specs.declared.change_state.BucketDeed.{BucketDeed}
 use Rattle.bucket_ops.specs.declared.change_state.ChangeState.{ChangeState}
 use Rattle.bucket_ops.specs.declared.change_state.ChangeState.TheVariants.{Committing, Over, Reading, Telling}
 use Rattle.bucket_ops.specs.declared.document.Document.{Document}
-use Rattle.bucket_ops.proofs.ChangeLemmas.{Commits, with_turn}
-use Rattle.bucket_ops.proofs.ChangeOpLemmas.{body_with, change_done, cuts_with, deed_named, owes_barred, sections_with, still_nothing, untold_with}
+use Rattle.bucket_ops.proofs.ChangeLemmas.{Commits}
+use Rattle.bucket_ops.proofs.ChangeOpLemmas.{change_done, cuts_with, deed_named, owes_barred, sections_with, still_nothing, untold_with}
 
 -- the slot of a section
 abbrev slot_in : OpNext → ℕ

@@ -1,5 +1,5 @@
 -- That the reply to a change of a bucket is due, by what its commit says.
-use Rattle.std.proofs.Common.{◌≡◌, ◌≢◌, ◌∙◌, ℕ, Bool, List, Option, Some, None, IsSome, Result, refl, sym, subst}
+use Rattle.std.proofs.Common.{◌≡◌, ◌∙◌, ℕ, Bool, List, Option, Some, None, IsSome, Result, refl, sym, subst}
 use Rattle.audit_trail.specs.declared.entry.Deed.{Deed}
 use Rattle.bucket_book.specs.Laws.{ContentIsInjective}
 use Rattle.bucket_book.specs.Step.{Step}

@@ -1,30 +1,26 @@
 -- The steps by which the document of a change is taken.
-use Rattle.std.proofs.Common.{◌≡◌, ◌<◌, ◌≤◌, ◌+◌, ◌∙◌, ℕ, true, false, Bool, List, [], ◌∷◌, ◌++◌, All, Option, Some, None, append-nil, length, take, vec_len, inl, inr, refl, sym, ap, subst, arith}
+use Rattle.std.proofs.Common.{◌≡◌, ◌∙◌, ℕ, true, false, Bool, List, [], ◌∷◌, ◌++◌, Option, Some, None, length, take, vec_len, inr, refl, sym, ap, subst, arith}
 use Rattle.std.proofs.Math.Seq.{take-length}
 use Rattle.std.proofs.lemmas.Bool.Decides.{nat_tests}
 use Rattle.std.proofs.lemmas.List.{length-take-le}
 use Rattle.std.specs.Prelude.{is_some, nat_eq}
 use Rattle.call_types.specs.declared.feed.Cut.{Cut}
 use Rattle.call_types.specs.declared.feed.Cut.TheVariants as cuts
-use Rattle.call_types.specs.declared.reply.Reply.{Reply}
-use Rattle.desk_base.specs.Calls.{stated_length}
 use Rattle.drive_base.specs.declared.plan.SetPlan.{SetPlan}
 use Rattle.s3_docs.specs.Documents.{IsPlace}
 use Rattle.s3_docs.specs.declared.prologue.Root.TheVariants.{VersioningConfiguration}
-use Rattle.receipts.specs.Events.{Log, body_of, cut_in, cuts_of, sections_of, tale_of}
+use Rattle.receipts.specs.Events.{Log, body_of, cuts_of, sections_of, tale_of}
 use Rattle.receipts.specs.Events.Event.{Fed}
-use Rattle.receipts.specs.Owes.{OwesCall}
 use Rattle.receipts.specs.Paying.{Pays}
 use Rattle.receipts.specs.Paying.Outcome.{CutOff}
 use Rattle.receipts.specs.Registers.{bucket_slot}
 use Rattle.op_steps.specs.Moves.{FeedCause}
-use Rattle.op_steps.specs.Ready.{IsReady}
 use Rattle.op_steps.specs.Store.{FeedSeen}
-use Rattle.op_steps.specs.Words.{FeedsSo, IsSection}
+use Rattle.op_steps.specs.Words.{FeedsSo}
 use Rattle.op_steps.specs.declared.next.OpNext.{OpNext}
 use Rattle.op_steps.specs.declared.next.OpNext.TheVariants.{Data, Done, Feed, Section, Tell}
 use Rattle.op_steps.proofs.TellLemmas.{none_pays, none_told}
-use Rattle.bucket_ops.specs.Changes.{AfterDocument, ChangeStands, HasChanged, HasTaken, MayCommit, change_call, change_task, step_of}
+use Rattle.bucket_ops.specs.Changes.{AfterDocument, ChangeStands, HasChanged, HasTaken, change_task, step_of}
 use Rattle.bucket_ops.specs.Taking.{IsFedFrom, TakesSome, taken_of}
 use Rattle.bucket_ops.specs.declared.change_state.ChangeState.{ChangeState}
 use Rattle.bucket_ops.specs.declared.change_state.ChangeState.TheVariants.{Committing, Over, Reading, Telling}

@@ -6,6 +6,15 @@ pub mod ChangeStepLemmas
 pub mod DocumentLemmas
 pub mod DueLemmas
 pub mod FeedLemmas
+pub mod ListBeginLemmas
+pub mod ListLemmas
+pub mod ListStepLemmas
 pub mod LookLemmas
+pub mod NameLemmas
 pub mod OpLemmas
+pub mod OrderLemmas
+pub mod PageLemmas
+pub mod RowLemmas
+pub mod SectionLemmas
+pub mod SeekLemmas
 pub mod TellLemmas

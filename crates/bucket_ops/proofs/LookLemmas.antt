@@ -1,9 +1,7 @@
 -- What is owed to a call that looks at a bucket, after its look.
-use Rattle.std.proofs.Common.{◌≡◌, ◌⊎◌, ◌<◌, ◌∙◌, ℕ, zero, suc, true, false, Bool, List, [], ◌∷◌, ◌++◌, All, Contains, Option, Some, None, Result, Ok, Err, MatchOption, length, option_and_then, inl, inr, refl, sym, ap, subst, arith}
+use Rattle.std.proofs.Common.{◌≡◌, ◌<◌, ◌∙◌, ℕ, zero, suc, true, false, Bool, List, [], ◌∷◌, All, Option, Some, None, Result, Ok, Err, MatchOption, option_and_then, inl, inr, refl, sym, ap, subst, arith}
 use Rattle.audit_trail.specs.declared.entry.Deed.TheVariants.{Kept}
 use Rattle.audit_trail.specs.declared.entry.Entry.{Entry}
-use Rattle.bucket_book.specs.Content.{content_of}
-use Rattle.call_types.specs.declared.feed.Cut.{Cut}
 use Rattle.call_types.specs.declared.feed.Cut.TheVariants.{NoMemory}
 use Rattle.call_types.specs.declared.refusal.Refusal.{Refusal}
 use Rattle.call_types.specs.declared.reply.Reply.{Reply}
@@ -17,10 +15,10 @@ use Rattle.slot_core.specs.Views.{SlotNumbers}
 use Rattle.slot_core.specs.declared.fault.SlotFault.{SlotFault}
 use Rattle.slot_core.specs.declared.fault.SlotFault.TheVariants.{AuditFailed, Key, NoMemory as NoMemoryFault, NotInFlight, Quorum, SeqSpent}
 use Rattle.slot_core.specs.declared.stub.Stub.{Stub}
-use Rattle.receipts.specs.Events.{Event, IsUntold, Log, Section, Shown, cuts_of, sections_of, tale_of}
+use Rattle.receipts.specs.Events.{Shown, sections_of}
 use Rattle.receipts.specs.Events.Event.{BarredFrom, Turned}
 use Rattle.receipts.specs.Events.Shown.{ContentShown, NoneShown}
-use Rattle.receipts.specs.Looks.{EndsAtLook, HasEntry, IsIdle, IsOfSection, LooksAt, TellsRefusal}
+use Rattle.receipts.specs.Looks.{EndsAtLook, HasEntry, IsIdle}
 use Rattle.receipts.specs.Owes.{OwesCall}
 use Rattle.receipts.specs.Paying.{ChangesNothing, LeavesAll, Pays}
 use Rattle.receipts.specs.Registers.{bucket_register, bucket_slot}
@@ -28,7 +26,7 @@ use Rattle.receipts.specs.declared.barred.Barred.TheVariants.{Spent, NoMemory as
 use Rattle.op_steps.specs.Looking.{shown_by}
 use Rattle.op_steps.specs.Notes.{note_of, noted, refusal_by}
 use Rattle.op_steps.proofs.TellLemmas.{none_pays, one_untold}
-use Rattle.bucket_ops.specs.Looks.{AfterLook, HasDone, LookReply, look_call, look_reply}
+use Rattle.bucket_ops.specs.Looks.{AfterLook, HasDone, LookReply, look_call}
 use Rattle.bucket_ops.specs.declared.state.State.{State}
 use Rattle.bucket_ops.specs.declared.state.State.TheVariants.{Looking, Over, Telling}
 

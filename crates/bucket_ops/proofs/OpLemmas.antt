@@ -1,5 +1,5 @@
 -- The steps of a look, as an op does them.
-use Rattle.std.proofs.Common.{◌≡◌, ◌∙◌, ℕ, Bool, List, [], ◌∷◌, ◌++◌, Option, Some, None, Result, ap, refl, subst, sym}
+use Rattle.std.proofs.Common.{◌≡◌, ℕ, Bool, List, [], ◌∷◌, ◌++◌, Option, Result, ap, subst, sym}
 use Rattle.call_types.specs.declared.feed.Cut.{Cut}
 use Rattle.call_types.specs.declared.reply.Reply.{Reply}
 use Rattle.desk_base.specs.Answering.{Task}
@@ -17,7 +17,6 @@ use Rattle.receipts.specs.Events.Event.{BarredFrom, Turned}
 use Rattle.receipts.specs.Registers.{bucket_register, bucket_slot}
 use Rattle.receipts.specs.declared.barred.Barred.{Barred}
 use Rattle.receipts.specs.declared.barred.Barred.TheVariants as barred
-use Rattle.op_steps.specs.Claims.{Claim, no_claim}
 use Rattle.op_steps.specs.Looking.{LookIsTurn, LookSays, shown_by}
 use Rattle.op_steps.specs.Moves.{TellMoves}
 use Rattle.op_steps.specs.Store.{TellerSeen}

@@ -27,7 +27,6 @@ use Rattle.op_steps.specs.Notes.{refusal_by}
 use Rattle.op_steps.specs.Ready.{IsReady}
 use Rattle.op_steps.specs.declared.next.OpNext.{OpNext}
 use Rattle.op_steps.specs.declared.next.OpNext.TheVariants as next
-use Rattle.bucket_ops.specs.declared.change_state.BucketDeed.{BucketDeed}
 use Rattle.bucket_ops.specs.declared.change_state.ChangeState.{ChangeState}
 use Rattle.bucket_ops.specs.declared.change_state.ChangeState.TheVariants.{Committing, Over, Reading, Telling}
 use Rattle.bucket_ops.specs.declared.document.Document.{Document}

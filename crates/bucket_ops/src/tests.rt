@@ -58,7 +58,7 @@ impl Teller for Ear {
 }
 
 /// Four fresh drives, of which the first ones are lost, so many.
-fn drives(alloc: Global, lost: usize) -> Result<Vec<MemDrive>, AllocError> {
+pub(crate) fn drives(alloc: Global, lost: usize) -> Result<Vec<MemDrive>, AllocError> {
     let mut drives = Vec::new(alloc);
     for k in 0..4usize {
         let mut drive = MemDrive::new(alloc);
@@ -94,7 +94,7 @@ fn opened(
 }
 
 /// Drops a stub.
-fn forget(_stub: Option<Stub>) {}
+pub(crate) fn forget(_stub: Option<Stub>) {}
 
 /// Does the section of an op that comes next, on a slot over fresh lanes of which so many are lost.
 fn turns<O: Op>(

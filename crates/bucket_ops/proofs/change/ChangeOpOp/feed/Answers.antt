@@ -1,4 +1,4 @@
-use Rattle.std.proofs.Common.{◌≡◌, ◌∙◌, subst, sym}
+use Rattle.std.proofs.Common.{◌∙◌, subst, sym}
 use Rattle.bucket_ops.specs.Changes.{AfterDocument}
 use Rattle.bucket_ops.proofs.FeedLemmas.{cut_any, is_whole, last_any}
 use Rattle.bucket_ops.proofs.change.ChangeOpOp.feed.Goals as goal

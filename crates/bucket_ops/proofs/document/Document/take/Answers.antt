@@ -1,4 +1,4 @@
-use Rattle.std.proofs.Common.{◌≡◌, ◌∙◌, ◌<◌, ◌≤◌, ◌+◌, ◌-◌, ◌++◌, Ok, ap, drop, length, take, sym, subst, subst₂, arith}
+use Rattle.std.proofs.Common.{◌∙◌, ◌++◌, ap, drop, take, arith}
 use Rattle.std.proofs.Math.Seq.{take-add}
 use Rattle.std.proofs.lemmas.List.{length-drop, length-take-le}
 use Rattle.bucket_ops.proofs.document.Document.take.Goals as goal

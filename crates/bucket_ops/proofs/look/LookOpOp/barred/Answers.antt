@@ -1,4 +1,4 @@
-use Rattle.std.proofs.Common.{◌≡◌, subst, sym}
+use Rattle.std.proofs.Common.{subst, sym}
 use Rattle.op_steps.specs.Words.{BarredSo}
 use Rattle.receipts.specs.Registers.{bucket_slot}
 use Rattle.bucket_ops.specs.Looks.{StandsSo, look_call, step_of}

@@ -1,4 +1,4 @@
-use Rattle.std.proofs.Common.{◌≡◌, ◌∙◌}
+use Rattle.std.proofs.Common.{◌∙◌}
 use Rattle.op_steps.specs.Store.{slot_seen}
 use Rattle.bucket_ops.proofs.OpLemmas.{section_so}
 use Rattle.bucket_ops.proofs.look.LookOpOp.section.Goals as goal

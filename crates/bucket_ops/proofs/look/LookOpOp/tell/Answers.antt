@@ -1,4 +1,4 @@
-use Rattle.std.proofs.Common.{◌≡◌, subst, sym}
+use Rattle.std.proofs.Common.{subst, sym}
 use Rattle.op_steps.specs.Store.{teller_of}
 use Rattle.op_steps.specs.Words.{TellsSo}
 use Rattle.receipts.specs.Registers.{bucket_slot}

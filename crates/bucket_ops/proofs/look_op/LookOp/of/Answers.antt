@@ -1,4 +1,4 @@
-use Rattle.bucket_ops.proofs.BeginLemmas.{name_is_utf8}
+use Rattle.bucket_ops.proofs.NameLemmas.{name_is_utf8}
 use Rattle.bucket_ops.proofs.look_op.LookOp.of.Goals as goal
 
 pub bucket_name-requires : goal.bucket_name-requires
