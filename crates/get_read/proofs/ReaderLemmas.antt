@@ -80,12 +80,12 @@ all_told false told calls = no_turn told calls
 all_told true told calls = one_turn told calls
 
 -- why a search is refused
-search_cause : (fault : ReadFaultKind) (asked : Asked) (next : Search) (told : Told) (given : ℕ) → next.asked ≡ asked
+search_cause : (fault : ReadFaultKind) (asked : Asked) (next : Search) (told : Told) (given : ℕ) → next.asked ≡ asked → given ≡ 0
     → SearchAnswers (Err fault) next (all_calls told) → IsRefusedIn asked fault told given
-search_cause (InvalidRange n) asked next told given same answers = answers
-search_cause (ShardQuorum whys) asked next told given same answers =
-    inl (subst (λ (a : Asked). NoneServesIn (set_of a) a.wanted.print a.id a.wanted.reach whys (all_calls told)) same answers)
-search_cause NoMemory asked next told given same answers = tt
+search_cause (InvalidRange n) asked next told given same none answers = answers
+search_cause (ShardQuorum whys) asked next told given same none answers =
+    inl (subst (λ (a : Asked). NoneServesIn (set_of a) a.wanted.print a.id a.wanted.reach whys (all_calls told)) same answers, none)
+search_cause NoMemory asked next told given same none answers = tt
 
 module _ {D : Type 0} (ghosts : Ghosts D) where
   -- a state after a step, by what is known of it
@@ -121,8 +121,8 @@ module _ {D : Type 0} (ghosts : Ghosts D) where
       → SearchSteps ghosts search next (Err fault) before after → StepsFrom ghosts asked (Searching search) (Refused fault) piece (Err fault) before after
   search_refused asked search next piece fault before after same steps =
       let are : AreCalls ghosts (set_of asked).out steps.calls before after = subst (λ (a : Asked). AreCalls ghosts (set_of a).out steps.calls before after) same steps.are in
-      let why : (told : Told) (given : ℕ) → IsSearchOf search (all_calls told) → IsRefusedIn asked fault (told_after false told steps.calls) given =
-      λ told given is. search_cause fault asked next (told_after false told steps.calls) given (steps.asked ∙ same)
+      let why : (told : Told) (given : ℕ) → given ≡ 0 → IsSearchOf search (all_calls told) → IsRefusedIn asked fault (told_after false told steps.calls) given =
+      λ told given none is. search_cause fault asked next (told_after false told steps.calls) given (steps.asked ∙ same) none
       (subst (SearchAnswers (Err fault) next) (sym (no_turn told steps.calls)) (steps.goes_on (all_calls told) is)) in
       record {
         calls = steps.calls;
@@ -130,7 +130,7 @@ module _ {D : Type 0} (ghosts : Ghosts D) where
         made = steps.made;
         stays = tt;
         goes_on = λ told given so.
-            let cause = why told (length given) so.is.2 in
+            let cause = why told (length given) so.is.1 so.is.2 in
             (stands_after false asked (Searching search) (Refused fault) told steps.calls before after given so are cause, cause);
       }
 

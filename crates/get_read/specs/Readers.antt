@@ -101,11 +101,12 @@ pub record IsFetchOf (fetching : FetchingRecord) (told : Told) : Type 0 where
   pub stripe : IsStripeOf (set_of fetching.asked) is_part.part fetching.work (all_calls told) told.since
   pub ahead : AreAhead (set_of fetching.asked) is_part.part fetching.ahead (all_calls told)
 
--- why a reader refuses, after so many bytes were given: no drive gave a manifest that serves, or too few gave a block of the stripe that has the next byte
+-- why a reader refuses, after so many bytes were given: no drive gave a manifest that serves, before any byte was given, or too few gave a block of the stripe that
+-- has the next byte
 abbrev pub IsRefusedIn : Asked → ReadFaultKind → Told → ℕ → Type 0
 IsRefusedIn asked (InvalidRange _) told given = ⊥
 IsRefusedIn asked (ShardQuorum whys) told given =
-    NoneServesIn (set_of asked) asked.wanted.print asked.id asked.wanted.reach whys (all_calls told)
+    (NoneServesIn (set_of asked) asked.wanted.print asked.id asked.wanted.reach whys (all_calls told) × (given ≡ 0))
     ⊎ FewBlocksIn (set_of asked) asked.wanted.print asked.id asked.wanted.reach (asked.span.at + given) whys told.before told.since
 IsRefusedIn asked NoMemory told given = Unit {0}
 

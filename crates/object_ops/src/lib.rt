@@ -1,7 +1,7 @@
 //! The calls on objects, step by step.
 //!
-//! Each op begins with the look at its bucket (`looking`). A [`HeadOp`] then begins a read of the key, tells what that found, and ends the read. A [`DeleteOp`]
-//! commits the deletion, tells its reply, and ends with the removal of what is trash then (`clearing`). Each is an [`Op`](op_steps::Op): each of its logs pays
+//! Each op begins with the look at its bucket (`looking`). A [`HeadOp`] then begins a read of the key, tells what that found, and ends the read; a [`GetOp`] reads
+//! the body between, piece by piece, and tells its head once the first piece is at hand. A [`DeleteOp`] commits the deletion, tells its reply, and ends with the removal of what is trash then (`clearing`). Each is an [`Op`](op_steps::Op): each of its logs pays
 //! what its call owes. The crate stands on `op_steps` for steps and what they owe, on `slot_core` for sections of slots, on `bucket_book` for the records of
 //! buckets, on `slot_history` for the names of registers, on `slot_data` for the data of slots, and on `body_print` for the names of its files.
 #![tactic(auto)]
@@ -13,18 +13,29 @@ mod delete_op;
 mod delete_state;
 mod deleting;
 mod deletion;
+mod get;
+mod get_begin;
+mod get_op;
+mod get_sections;
+mod get_state;
+mod get_tell;
 mod head;
 mod head_begin;
 mod head_op;
 mod head_state;
 mod looking;
+mod reading;
+mod reading_plan;
 mod reading_start;
 mod removal;
 mod removing;
 mod telling;
 
 pub use delete_op::DeleteOp;
+pub use get_op::GetOp;
 pub use head_op::HeadOp;
 
+#[cfg(test)]
+mod get_tests;
 #[cfg(test)]
 mod tests;

@@ -1,0 +1,112 @@
+-- How much is left of a GetObject falls with its steps, and where a read is under way there is a pin.
+use Rattle.std.proofs.Common.{◌≡◌, ◌<◌, ◌+◌, ◌*◌, ◌^◌, ◌∙◌, ℕ, Bool, true, false, List, Option, Some, None, subst, sym, refl, ap, arith}
+use Rattle.std.specs.Prelude.{if◌then◌else◌, nat_lt}
+use Rattle.call_types.specs.declared.feed.Cut.{Cut}
+use Rattle.call_types.specs.declared.names.RangeAsk.{RangeAsk}
+use Rattle.call_types.specs.declared.names.VersionName.{VersionName}
+use Rattle.call_types.specs.declared.version.Version.{Version}
+use Rattle.call_types.specs.declared.why.Why.{Why}
+use Rattle.drive_base.specs.declared.plan.SetPlan.{SetPlan}
+use Rattle.slot_core.specs.declared.handles.Pin.{Pin}
+use Rattle.object_ops.specs.Get.{Looks, Plans, fetched_state, lacks_pin, left_of, needs_pin}
+use Rattle.object_ops.specs.GetSteps.{Begins, told_state}
+use Rattle.object_ops.specs.ReadingPlan.{PlansSo, drives_of}
+use Rattle.object_ops.specs.ReadingStep.{StepsFall, TellsNext}
+use Rattle.object_ops.specs.declared.get_sections.Begun.{Begun}
+use Rattle.object_ops.specs.declared.get_state.GetState.{GetState}
+use Rattle.object_ops.specs.declared.get_state.GetState.TheVariants.{Ending, Fetching, Giving}
+use Rattle.object_ops.specs.declared.looking.Looked.{Looked}
+use Rattle.object_ops.specs.declared.looking.Looked.TheVariants as looked_of
+use Rattle.object_ops.specs.declared.reading.Reading.{Reading}
+use Rattle.object_ops.specs.declared.reading.Stepped.{Stepped}
+use Rattle.object_ops.specs.declared.reading.Stepped.TheVariants.{Gives, Goes, LacksMemory, Refused}
+use Rattle.object_ops.specs.declared.reading_plan.Planned.{Planned}
+use Rattle.object_ops.specs.declared.reading_plan.Planned.TheVariants as planned_of
+use Rattle.object_ops.specs.declared.reading_start.Started.{Started}
+use Rattle.object_ops.specs.declared.reading_start.Started.TheVariants as started_of
+
+abbrev is_so : Bool → Type 0
+is_so true = Unit {0}
+is_so false = ⊥
+
+not_both : {Z : Type 0} → true ≡ false → Z
+not_both wrong = absurd (subst is_so wrong tt)
+
+-- where an op needs its pin it has one
+pub has_pin : (state : GetState) (held : Option Pin) → lacks_pin state held ≡ false → needs_pin state ≡ true → held ≡ None → ⊥
+has_pin state held has needs none = not_both (sym needs ∙ subst (λ (p : Option Pin). lacks_pin state p ≡ false) none has)
+
+-- a read that has its pin has it in each later state
+pub held_on : (old new : GetState) (held : Option Pin) → lacks_pin old held ≡ false → needs_pin old ≡ true → lacks_pin new held ≡ false
+held_on old new None has needs = not_both (sym needs ∙ has)
+held_on old new (Some pin) has needs = refl
+
+-- ---- what is left
+
+pub looks_left : (looked : Looked) (state : GetState) (reading : Option Reading) → Looks looked state → left_of state reading < 3 * 2 ^ 64 + 9
+looks_left (looked_of.There mode) state reading is = subst (λ s. left_of s reading < 3 * 2 ^ 64 + 9) (sym is) (omega arith)
+looks_left (looked_of.Refused why) state reading is = subst (λ s. left_of s reading < 3 * 2 ^ 64 + 9) (sym is) (omega arith)
+looks_left looked_of.LacksMemory state reading is = subst (λ s. left_of s reading < 3 * 2 ^ 64 + 9) (sym is) (omega arith)
+
+module _ (set : SetPlan) (ask : RangeAsk) where
+  plans_left : (made : Planned) (version : Version) (id : Option VersionName) (state : GetState) (reading : Option Reading) → PlansSo set version id ask made → Plans made state reading
+      → left_of state reading < 3 * 2 ^ 64 + 8
+  plans_left (planned_of.Tells told) version id state reading so is = subst (λ s. left_of s reading < 3 * 2 ^ 64 + 8) (sym is.0) (omega arith)
+  plans_left (planned_of.Reads r) version id state reading so is = subst (λ s. left_of s reading < 3 * 2 ^ 64 + 8) (sym is.0)
+      (subst (λ o. left_of Fetching o < 3 * 2 ^ 64 + 8) (sym is.1) (omega (arith, so.1.few)))
+  plans_left planned_of.LacksMemory version id state reading so is = subst (λ s. left_of s reading < 3 * 2 ^ 64 + 8) (sym is.0) (omega arith)
+
+  pub begins_left : (started : Started) (begun : Begun) → Begins set ask started begun → left_of begun.state begun.reading < 3 * 2 ^ 64 + 8
+  begins_left (started_of.Found version id pin) begun is = plans_left is.1.0 version id begun.state begun.reading is.1.1 is.1.2
+  begins_left (started_of.Refused why) begun is = subst (λ s. left_of s begun.reading < 3 * 2 ^ 64 + 8) (sym is.1) (omega arith)
+  begins_left started_of.LacksMemory begun is = subst (λ s. left_of s begun.reading < 3 * 2 ^ 64 + 8) (sym is.1) (omega arith)
+
+  -- what is read is over the set
+  plans_of : (made : Planned) (version : Version) (id : Option VersionName) (state : GetState) (reading : Option Reading) → PlansSo set version id ask made → Plans made state reading
+      → drives_of set reading ≡ set.drives
+  plans_of (planned_of.Tells told) version id state reading so is = ap (drives_of set) is.1
+  plans_of (planned_of.Reads r) version id state reading so is = ap (drives_of set) is.1 ∙ ap (λ (s : SetPlan). s.drives) so.0.set_is
+  plans_of planned_of.LacksMemory version id state reading so is = ap (drives_of set) is.1
+
+  pub begins_of : (started : Started) (begun : Begun) → Begins set ask started begun → drives_of set begun.reading ≡ set.drives
+  begins_of (started_of.Found version id pin) begun is = plans_of is.1.0 version id begun.state begun.reading is.1.1 is.1.2
+  begins_of (started_of.Refused why) begun is = ap (drives_of set) is.2
+  begins_of started_of.LacksMemory begun is = ap (drives_of set) is.2
+
+  pub begins_held : (started : Started) (begun : Begun) → Begins set ask started begun → lacks_pin begun.state begun.pin ≡ false
+  begins_held (started_of.Found version id pin) begun is = subst (λ p. lacks_pin begun.state p ≡ false) (sym is.0) refl
+  begins_held (started_of.Refused why) begun is = subst (λ p. lacks_pin begun.state p ≡ false) (sym is.0) (subst (λ s. needs_pin s ≡ false) (sym is.1) refl)
+  begins_held started_of.LacksMemory begun is = subst (λ p. lacks_pin begun.state p ≡ false) (sym is.0) (subst (λ s. needs_pin s ≡ false) (sym is.1) refl)
+
+-- after a step of a reading
+giving_most : (t : Bool) (n : ℕ) (r : Reading) → r.told ≡ t → r.calls < n → left_of Giving (Some r) < 3 * n + 3
+giving_most true n r is few = rw is (omega (arith, few))
+giving_most false n r is few = rw is (omega (arith, few))
+
+refused_left : (t : Bool) (whys : List Why) (n : ℕ) (r : Reading) → left_of (fetched_state (Refused whys) t) (Some r) < 3 * n + 3
+refused_left true whys n r = omega arith
+refused_left false whys n r = omega arith
+
+pub fetched_left : (stepped : Stepped) (old new : Reading) → StepsFall stepped old.calls new.calls
+    → left_of (fetched_state stepped new.told) (Some new) < left_of Fetching (Some old)
+fetched_left Goes old new falls = omega (arith, falls)
+fetched_left Gives old new falls = giving_most new.told old.calls new refl falls
+fetched_left (Refused whys) old new falls = refused_left new.told whys old.calls new
+fetched_left LacksMemory old new falls = omega arith
+
+-- after a telling
+left_by : (b : Bool) (old new : Reading) → old.told ≡ true → new.calls ≡ old.calls
+    → left_of (if b then Fetching else Ending None) (Some new) < left_of Giving (Some old)
+left_by true old new is calls = rw is (omega (arith, calls))
+left_by false old new is calls = rw is (omega arith)
+
+told_left_by : (t : Bool) (n : ℕ) (cut : Option Cut) (old new : Reading) → old.told ≡ t → new.told ≡ true → new.calls ≡ old.calls
+    → left_of (told_state n t cut) (Some new) < left_of Giving (Some old)
+told_left_by true n None old new is told calls = left_by (nat_lt 0 n) old new is calls
+told_left_by false n None old new is told calls = rw (is, told) (omega (arith, calls))
+told_left_by true n (Some cut) old new is told calls = rw is (omega arith)
+told_left_by false n (Some cut) old new is told calls = rw is (omega arith)
+
+pub told_left : (cut : Option Cut) (old new : Reading) → TellsNext old new
+    → left_of (told_state new.left old.told cut) (Some new) < left_of Giving (Some old)
+told_left cut old new tells = told_left_by old.told new.left cut old new refl tells.told_is tells.calls_is

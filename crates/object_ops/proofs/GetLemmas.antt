@@ -1,0 +1,282 @@
+-- The steps of a GetObject, as an op does them.
+use Rattle.std.proofs.Common.{◌≡◌, ◌<◌, ◌∙◌, ℕ, Bool, true, false, List, [], ◌∷◌, ◌++◌, Option, Some, None, Result, Ok, Err, IfOk, inl, inr, ap, refl, subst, sym, arith}
+use Rattle.call_types.specs.declared.feed.Cut.{Cut}
+use Rattle.call_types.specs.declared.feed.Cut.TheVariants.{NoMemory}
+use Rattle.call_types.specs.declared.names.Key.{Key}
+use Rattle.call_types.specs.declared.names.Mode.{Mode}
+use Rattle.call_types.specs.declared.names.Pick.{Pick}
+use Rattle.call_types.specs.declared.names.RangeAsk.{RangeAsk}
+use Rattle.call_types.specs.declared.names.VersionName.{VersionName}
+use Rattle.call_types.specs.declared.refusal.Refusal.{Refusal}
+use Rattle.call_types.specs.declared.refusal.Refusal.TheVariants.{InvalidRange, SeqSpent}
+use Rattle.call_types.specs.declared.reply.Reply.{Reply}
+use Rattle.call_types.specs.declared.reply.Reply.TheVariants as reply_of
+use Rattle.call_types.specs.declared.version.Version.{Version}
+use Rattle.desk_base.specs.Answering.{Task}
+use Rattle.drive_base.specs.Files.{Files}
+use Rattle.drive_base.specs.View.{DriveView, views}
+use Rattle.drive_base.specs.declared.drive.Drive.{Ghosts}
+use Rattle.drive_base.specs.declared.plan.SetPlan.{SetPlan}
+use Rattle.fault_base.specs.declared.memory.NoMemory.{NoMemory as NoRoom}
+use Rattle.slot_core.specs.Sections.{SaysRead}
+use Rattle.slot_core.specs.Stubs.{Says}
+use Rattle.slot_core.specs.declared.fault.SlotFault.{SlotFault}
+use Rattle.slot_core.specs.declared.handles.Pin.{Pin}
+use Rattle.slot_core.specs.declared.reading.ReadStart.{ReadStart}
+use Rattle.slot_core.specs.declared.stub.Stub.{Stub}
+use Rattle.receipts.specs.Events.{IsQuiet, Log}
+use Rattle.receipts.specs.Events.Event.{BarredFrom, Turned}
+use Rattle.receipts.specs.Events.Shown.{NoneShown}
+use Rattle.receipts.specs.Paying.{Pays}
+use Rattle.receipts.specs.Reading.{GetOwes, HeadOwes, ReadsKey}
+use Rattle.receipts.specs.Registers.{bucket_register, bucket_slot, key_slot}
+use Rattle.receipts.specs.Spans.{whole_of}
+use Rattle.receipts.specs.declared.barred.Barred.{Barred}
+use Rattle.receipts.specs.declared.barred.Barred.TheVariants as barred
+use Rattle.receipts.proofs.PayLemmas.{quiet_pays}
+use Rattle.receipts.proofs.RegisterLemmas.{key_slot_below}
+use Rattle.op_steps.specs.Claims.{Claim, no_claim}
+use Rattle.op_steps.specs.Moves.{TurnMoves}
+use Rattle.op_steps.specs.Notes.{noted}
+use Rattle.op_steps.specs.Store.{SlotSeen}
+use Rattle.op_steps.specs.Words.{BarredSo, IsSection, LetsGo, TurnsSo}
+use Rattle.object_ops.specs.Get.{GetStands, IsBare, Looks, Plans, barred_after, step_of}
+use Rattle.object_ops.specs.GetBegin.{IsNewGet}
+use Rattle.object_ops.specs.GetStands.{StandsFor, get_task}
+use Rattle.object_ops.specs.GetSteps.{Begins}
+use Rattle.object_ops.specs.Looking.{LooksSo}
+use Rattle.object_ops.specs.Reading.{HasPin, HoldsNone, HoldsPin, HoldsStart, IsFresh, IsPinClaim, pinned_claim}
+use Rattle.object_ops.specs.ReadingPlan.{IsEmpty, IsInvalid, IsOfSpan, IsUnread, PlansSo}
+use Rattle.object_ops.specs.ReadingStart.{StartsSo}
+use Rattle.object_ops.specs.ReadingTold.{HasTold, IsFetching}
+use Rattle.object_ops.specs.declared.get_op.GetOp.{GetOp}
+use Rattle.object_ops.specs.declared.get_sections.Begun.{Begun}
+use Rattle.object_ops.specs.declared.get_state.GetState.{GetState}
+use Rattle.object_ops.specs.declared.get_state.GetState.TheVariants.{Beginning, Ending, Fetching, Giving, Looking, Over, Telling}
+use Rattle.object_ops.specs.declared.looking.Look.{Look}
+use Rattle.object_ops.specs.declared.looking.Looked.{Looked}
+use Rattle.object_ops.specs.declared.looking.Looked.TheVariants as looked_of
+use Rattle.object_ops.specs.declared.reading.Reading.{Reading}
+use Rattle.object_ops.specs.declared.reading_plan.Planned.{Planned}
+use Rattle.object_ops.specs.declared.reading_plan.Planned.TheVariants as planned_of
+use Rattle.object_ops.specs.declared.reading_start.Started.{Started}
+use Rattle.object_ops.specs.declared.reading_start.Started.TheVariants as started_of
+use Rattle.object_ops.proofs.ReadingBars.{bar_fresh, bar_lets_go, key_bars, slot_in}
+use Rattle.object_ops.proofs.ReadingCalls.{logged_all}
+use Rattle.object_ops.proofs.ReadingLook.{AfterLook, bars, looks}
+use Rattle.object_ops.proofs.ReadingPays.{head_owed, ready, the_task}
+use Rattle.object_ops.proofs.ReadingSpans.{none_logged, none_of_version}
+use Rattle.object_ops.proofs.ReadingStart.{AfterStart, IsDueBy, starts}
+use Rattle.object_ops.proofs.ReadingTell.{fresh_pays, one_all}
+use Rattle.object_ops.proofs.ReadingTurn.{BeginSays, EndSays, begin_turn, end_turn}
+
+module _ (set : SetPlan) (at : Key) (pick : Pick) (ask : RangeAsk) (now : ℕ) where
+  abbrev task : Task
+  task = the_task set at pick ask now
+
+  abbrev Stands : GetState → Option Pin → Option Reading → Claim → Log → Type 0
+  Stands state pin reading claim log = GetStands set task at pick ask state pin reading claim log
+
+  holds_none : (pin : Option Pin) (claim : Claim) → HoldsNone (key_slot at) pin claim → HoldsPin (key_slot at) pin claim
+  holds_none pin claim none = subst (λ p. HoldsPin (key_slot at) p claim) (sym none.0) none.1
+
+  lets_go : (claim : Claim) (log : Log) → claim ≡ no_claim (key_slot at) → LetsGo claim log
+  lets_go claim log none = inl (subst (λ (c : Claim). c ≡ no_claim c.slot) (sym none) refl)
+
+  -- a refusal is told alone
+  refusal_bare : (why : Refusal) (log : Log) → IsFresh log → GetOwes set at pick ask (reply_of.Refused why) log → IsBare set task (reply_of.Refused why) log
+  refusal_bare why log fresh owed = record { ready = ready set at pick ask now (reply_of.Refused why) log fresh owed; none_after = refl; gives = λ more. refl }
+
+  -- after the look
+  look_stands : (looked : Looked) (later : GetState) (pin : Option Pin) (reading : Option Reading) (claim : Claim) (log : Log) → Looks looked later
+      → HoldsNone (key_slot at) pin claim → AfterLook at.bucket looked log → Stands later pin reading claim log
+  look_stands (looked_of.There mode) later pin reading claim log is none x = subst (λ s. Stands s pin reading claim log) (sym is) (none, x)
+  look_stands (looked_of.Refused why) later pin reading claim log is none x = subst (λ s. Stands s pin reading claim log) (sym is)
+      (holds_none pin claim none, refusal_bare why log x.0 (inl (inl x.1)))
+  look_stands looked_of.LacksMemory later pin reading claim log is none x = subst (λ s. Stands s pin reading claim log) (sym is)
+      (lets_go claim log none.1, fresh_pays set task log x)
+
+  -- ---- after the begin of the read
+
+  -- a reply without bytes
+  invalid_bare : (version : Version) (id : Option VersionName) (told : Reply) (log : Log) → IsFresh log
+      → ReadsKey at pick (reply_of.Found version (whole_of version) id) log → IsInvalid version ask told → IsBare set task told log
+  invalid_bare version id told log fresh reads x = subst (λ r. IsBare set task r log) (sym x.told)
+      (refusal_bare (InvalidRange x.invalid.0) log fresh (inr (record {
+        whole = reply_of.Found version (whole_of version) id;
+        reads = reads;
+        tells = inr (record { invalid = x.invalid; plans = x.plans; told = refl });
+      })))
+
+  empty_bare : (version : Version) (id : Option VersionName) (told : Reply) (log : Log) → IsFresh log
+      → ReadsKey at pick (reply_of.Found version (whole_of version) id) log → IsEmpty version id ask told → IsBare set task told log
+  empty_bare version id told log fresh reads x = subst (λ r. IsBare set task r log) (sym x.told) (record {
+    ready = head_owed set at pick ask now version x.span id [] log x.plans (record { fresh = fresh; reads = reads; none = refl });
+    none_after = sym x.empty;
+    gives = λ more. none_of_version set version.what x.span x.wanted more x.is_wanted;
+  })
+
+  -- a reading of which nothing is read
+  unread : (version : Version) (id : Option VersionName) (r : Reading) (log : Log) → IsFresh log
+      → ReadsKey at pick (reply_of.Found version (whole_of version) id) log → IsOfSpan set ask version id r → IsUnread r
+      → IsFetching set task at pick ask r log
+  unread version id r log fresh reads is x = record {
+    version = version;
+    id = id;
+    of_span = is;
+    told = record { before = []; since = [] };
+    given = [];
+    account = x.none;
+    all_logged = none_logged log;
+    logged = logged_all (record { before = []; since = [] }) log refl (none_logged log);
+    counted = omega (arith, x.left);
+    more = omega (arith, x.left, x.some);
+    some = λ told. absurd (not_both r.told x.untold told);
+    has_told = subst (λ t. HasTold set task at pick version r.span id t [] log) (sym x.untold) (record { fresh = fresh; reads = reads; none = refl });
+  }
+    where
+      is_false : Bool → Type 0
+      is_false true = ⊥
+      is_false false = Unit {0}
+
+      not_both : (b : Bool) → b ≡ false → b ≡ true → ⊥
+      not_both b off on = subst is_false (sym off ∙ on) tt
+
+  -- what was planned
+  plan_stands : (version : Version) (id : Option VersionName) (made : Planned) (later : GetState) (pin : Pin) (reading : Option Reading) (claim : Claim) (log : Log)
+      → PlansSo set version id ask made → Plans made later reading → IsPinClaim (key_slot at) pin claim → IsFresh log
+      → ReadsKey at pick (reply_of.Found version (whole_of version) id) log → Stands later (Some pin) reading claim log
+  plan_stands version id (planned_of.Tells told) later pin reading claim log (inl invalid) is holds fresh reads =
+      subst (λ s. Stands s (Some pin) reading claim log) (sym is.0) (holds, invalid_bare version id told log fresh reads invalid)
+  plan_stands version id (planned_of.Tells told) later pin reading claim log (inr empty) is holds fresh reads =
+      subst (λ s. Stands s (Some pin) reading claim log) (sym is.0) (holds, empty_bare version id told log fresh reads empty)
+  plan_stands version id (planned_of.Reads r) later pin reading claim log so is holds fresh reads =
+      subst (λ s. Stands s (Some pin) reading claim log) (sym is.0)
+      (subst (λ o. Stands Fetching (Some pin) o claim log) (sym is.1) (holds, unread version id r log fresh reads so.0 so.1))
+  plan_stands version id planned_of.LacksMemory later pin reading claim log so is holds fresh reads =
+      subst (λ s. Stands s (Some pin) reading claim log) (sym is.0) (holds, fresh_pays set task log fresh)
+
+  -- a refusal of the read is told as it is
+  refused_owed : (why : Refusal) (log : Log) → HeadOwes at pick (reply_of.Refused why) log → GetOwes set at pick ask (reply_of.Refused why) log
+  refused_owed why log (inl before) = inl before
+  refused_owed why log (inr reads) = inr (record { whole = reply_of.Refused why; reads = reads; tells = refl })
+
+  start_stands : (started : Started) (answer : Result ReadStart SlotFault) (mode : Mode) (begun : Begun) (claim : Claim) (log : Log)
+      → Begins set ask started begun → StartsSo mode answer started → HoldsStart (key_slot at) answer claim → AfterStart at pick started log
+      → Stands begun.state begun.pin begun.reading claim log
+  start_stands (started_of.Found version id own) (Ok start) mode begun claim log is so holds x =
+      subst (λ p. Stands begun.state p begun.reading claim log) (sym is.0)
+      (plan_stands version id is.1.0 begun.state own begun.reading claim log is.1.1 is.1.2 (subst (λ p. IsPinClaim (key_slot at) p claim) (sym so.2) holds) x.0 x.1)
+  start_stands (started_of.Found version id own) (Err fault) mode begun claim log is so holds x = absurd so
+  start_stands (started_of.Refused why) (Ok start) mode begun claim log is so holds x = absurd so
+  start_stands (started_of.Refused why) (Err fault) mode begun claim log is so holds x =
+      subst (λ s. Stands s begun.pin begun.reading claim log) (sym is.1)
+      (subst (λ p. HoldsPin (key_slot at) p claim) (sym is.0) holds, refusal_bare why log x.0 (refused_owed why log x.1))
+  start_stands started_of.LacksMemory (Ok start) mode begun claim log is so holds x = absurd so
+  start_stands started_of.LacksMemory (Err fault) mode begun claim log is so holds x =
+      subst (λ s. Stands s begun.pin begun.reading claim log) (sym is.1) (lets_go claim log holds, fresh_pays set task log x)
+
+  -- ---- a section that can't be done
+
+  pub barred_so : (state : GetState) (pin : Option Pin) (reading : Option Reading) (why : Barred)
+      → BarredSo (GetStands set task at pick ask state pin reading) (GetStands set task at pick ask (barred_after state why) pin reading) (step_of state at) why
+  barred_so Looking pin reading barred.Spent claim log k next x = (
+    holds_none pin claim x.0,
+    subst (λ l. IsBare set task (reply_of.Refused SeqSpent) (l ++ BarredFrom k barred.Spent ∷ [])) (sym x.1)
+        (subst (λ i. IsBare set task (reply_of.Refused SeqSpent) (BarredFrom i barred.Spent ∷ [])) (ap slot_in next)
+        (refusal_bare SeqSpent _ (bar_fresh (bucket_slot at.bucket) barred.Spent) (inl (inl (bars at.bucket))))),
+  )
+  barred_so Looking pin reading barred.NoMemory claim log k next x = (
+    lets_go claim _ x.0.1,
+    subst (λ l. Pays set task (Some NoMemory) (l ++ BarredFrom k barred.NoMemory ∷ [])) (sym x.1)
+        (fresh_pays set task (BarredFrom k barred.NoMemory ∷ []) (bar_fresh k barred.NoMemory)),
+  )
+  barred_so (Beginning mode) pin reading barred.Spent claim log k next x = (
+    holds_none pin claim x.0,
+    let bar = key_bars at mode log k barred.Spent x.1 in
+        refusal_bare SeqSpent _ bar.0 (inl (inr (inr (bar.1 refl (ap slot_in next))))),
+  )
+  barred_so (Beginning mode) pin reading barred.NoMemory claim log k next x = (
+    lets_go claim _ x.0.1,
+    let bar = key_bars at mode log k barred.NoMemory x.1 in
+        fresh_pays set task _ bar.0,
+  )
+  barred_so (Telling reply) pin reading why claim log k next x = absurd (subst IsSection (sym next) tt)
+  barred_so Fetching pin reading why claim log k next x = absurd (subst IsSection (sym next) tt)
+  barred_so Giving pin reading why claim log k next x = absurd (subst IsSection (sym next) tt)
+  barred_so (Ending cut) pin reading why claim log k next x = (
+    bar_lets_go (key_slot at) k pin claim log why (ap slot_in next) x.0,
+    quiet_pays set task cut log (BarredFrom k why ∷ []) (one_all IsQuiet (BarredFrom k why) tt) x.1,
+  )
+  barred_so (Over cut) pin reading why claim log k next x = absurd (subst IsSection (sym next) tt)
+
+  -- ---- the sections
+
+  module _ {D : Type 0} (tells : D → Bool) (files : D → Files) (was after : SlotSeen D) where
+    -- the look
+    pub look_so : (name : List ℕ) (pin : Option Pin) (reading : Option Reading) (state later : GetState) (look : Look) (old new : List DriveView) → state ≡ Looking
+        → was.numbers.index ≡ bucket_slot at.bucket → name ≡ bucket_register at.bucket → LooksSo tells files name was after look old new
+        → Looks look.looked later
+        → TurnsSo tells files (GetStands set task at pick ask state pin reading) (GetStands set task at pick ask later pin reading) look.stub was after old new
+    look_so name pin reading state later look old new is index named says goes claim log y =
+        let x = subst (λ s. Stands s pin reading claim log) is y in (
+          claim,
+          says.shown,
+          subst (λ l. Stands later pin reading claim (l ++ Turned was.numbers.index (noted look.stub) says.shown ∷ [])) (sym x.1)
+              (look_stands look.looked later pin reading claim _ goes x.0
+              (looks at.bucket look.looked was.numbers.index look.stub says.shown (says.says at.bucket named index))),
+          says.turns claim,
+        )
+
+  module _ {D : Type 0} (ghosts : Ghosts D) (was after : SlotSeen D) where
+    -- the begin of the read
+    pub begin_so : (mode : Mode) (held : Option Pin) (reading : Option Reading) (state : GetState) (begun : Begun) (answer : Result ReadStart SlotFault)
+        (started : Started) (stub : Option Stub) (old new : List D) → state ≡ Beginning mode → was.numbers.index ≡ key_slot at
+        → BeginSays ghosts was after at answer stub old new
+        → Says stub (SaysRead at mode pick answer) → IsDueBy mode pick answer → StartsSo mode answer started → Begins set ask started begun
+        → TurnsSo ghosts.tells ghosts.files (GetStands set task at pick ask state held reading)
+        (GetStands set task at pick ask begun.state begun.pin begun.reading) stub was after (views ghosts old) (views ghosts new)
+    begin_so mode held reading state begun answer started stub old new is index says said due so goes claim log y =
+        let x = subst (λ s. Stands s held reading claim log) is y in
+        let turn = begin_turn ghosts was after at answer stub old new says in (
+          turn.0,
+          NoneShown,
+          start_stands started answer mode begun turn.0 _ goes so (subst (λ i. HoldsStart i answer turn.0) index turn.1)
+              (starts at mode pick was.numbers log x.1 index answer stub started says.turns.stub_is said due so),
+          subst (λ c. TurnMoves ghosts.tells ghosts.files was after (noted stub) NoneShown c turn.0 (views ghosts old) (views ghosts new))
+              (ap no_claim index ∙ sym x.0.1) turn.2,
+        )
+
+  module _ {D T : Type 0} (tells : D → Bool) (files : D → Files) (was after : SlotSeen D) where
+    -- the end of the read
+    pub end_so : (cut : Option Cut) (pin : Pin) (held left : Option Pin) (reading : Option Reading) (state : GetState) (answer : Result T SlotFault) (stub : Option Stub)
+        (disks : List DriveView)
+        → state ≡ Ending cut → held ≡ Some pin → was.numbers.index ≡ key_slot at → stub ≡ None → EndSays tells files was after pin.ticket answer stub
+        → TurnsSo tells files (GetStands set task at pick ask state held reading) (GetStands set task at pick ask (Over cut) left reading) stub was after disks disks
+    end_so cut pin held left reading state answer stub disks is held_is index none says claim log y =
+        let x = subst (λ p. HasPin (key_slot at) p claim × Pays set task cut log) held_is (subst (λ s. Stands s held reading claim log) is y) in
+        let says_none : EndSays tells files was after x.0.pinned.ticket answer None =
+        subst (λ t. EndSays tells files was after t answer None) (sym x.0.ticket) (subst (λ s. EndSays tells files was after pin.ticket answer s) none says) in (
+          no_claim (key_slot at),
+          NoneShown,
+          subst (λ s. Stands (Over cut) left reading (no_claim (key_slot at)) (log ++ Turned was.numbers.index (noted s) NoneShown ∷ [])) (sym none)
+              (inl refl, quiet_pays set task cut log (Turned was.numbers.index None NoneShown ∷ []) (one_all IsQuiet (Turned was.numbers.index None NoneShown) tt) x.1),
+          subst (λ s. TurnMoves tells files was after (noted s) NoneShown claim (no_claim (key_slot at)) disks disks) (sym none)
+              (subst (λ c. TurnMoves tells files was after None NoneShown c (no_claim (key_slot at)) disks disks)
+              (ap (λ i. pinned_claim i x.0.pinned) index ∙ sym x.0.claim_is)
+              (subst (λ i. TurnMoves tells files was after None NoneShown (pinned_claim was.numbers.index x.0.pinned) (no_claim i) disks disks) index
+              (end_turn tells files was after x.0.pinned answer disks x.0.purpose says_none))),
+        )
+
+-- what an op stands for that has done nothing yet
+abbrev pub StandsAtFirst : GetOp → Type 0
+StandsAtFirst op = (slot : ℕ) × (slot < 64) × StandsFor op (no_claim slot) []
+
+pub begins : (set : SetPlan) (at : Key) (pick : Pick) (ask : RangeAsk) (now : ℕ) (result : Result GetOp NoRoom) → IfOk result (IsNewGet set at pick ask now)
+    → IfOk result StandsAtFirst
+begins set at pick ask now (Ok op) is = (
+  key_slot op.at,
+  key_slot_below op.at,
+  subst (λ state. GetStands op.set (get_task op) op.at op.pick op.ask state op.pin op.reading (no_claim (key_slot op.at)) []) (sym is.state_is) ((is.pin_is, refl), refl),
+)
+begins set at pick ask now (Err fault) is = tt

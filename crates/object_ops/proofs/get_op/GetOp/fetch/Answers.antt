@@ -1,0 +1,28 @@
+use Rattle.std.proofs.Common.{◌∙◌, None, ap, sym}
+use Rattle.object_ops.specs.Get.{needs_pin}
+use Rattle.object_ops.specs.ReadingPlan.{drives_of}
+use Rattle.object_ops.specs.declared.get_state.GetState.TheVariants.{Ending}
+use Rattle.object_ops.proofs.GetLeft.{held_on}
+use Rattle.object_ops.proofs.GetTelling.{fetch_as}
+use Rattle.object_ops.proofs.get_op.GetOp.fetch.Goals as goal
+
+pub invariant_of-self-in-None : goal.invariant_of-self-in-None
+invariant_of-self-in-None g c =
+    let op = c.args.self.now in
+    record {
+      named = op.named;
+      held = held_on op.state (Ending None) op.pin op.held (ap needs_pin c.requires.state);
+      same_drives = ap (drives_of op.set) c.reading_out.ensures.none;
+      short = op.short;
+      bucket_text = op.bucket_text;
+      key_text = op.key_text;
+      key_short = op.key_short;
+    }
+
+pub returns-in-Some-clause-calls : goal.returns-in-Some-clause-calls
+returns-in-Some-clause-calls g c =
+    let op = c.args.self.now in
+    let step = c.step-stepped in
+    fetch_as op.set op.at op.pick op.ask op.now g.D.Drive c.in-Some.reading step.new.self step.result op.state c.fetched_state.result op.pin op.reading
+    c.args.disks.now step.new.disks c.requires.state (sym c.reading_out.ensures.out ∙ c.in-Some.is) c.fetched_state.ensures step.ensures.stays step.ensures.steps
+    step.ensures.read c.requires.disks step.auto.disks

@@ -1,0 +1,67 @@
+-- What was read and told of a version's body, by the log.
+use Rattle.std.specs.Prelude.{◌≡◌, ◌+◌, ◌<◌, ◌≤◌, Bool, true, false, List, [], ◌++◌, ℕ, Option, length}
+use Rattle.call_types.specs.declared.names.Key.{Key}
+use Rattle.call_types.specs.declared.names.Pick.{Pick}
+use Rattle.call_types.specs.declared.names.RangeAsk.{RangeAsk}
+use Rattle.call_types.specs.declared.names.Span.{Span}
+use Rattle.call_types.specs.declared.names.VersionName.{VersionName}
+use Rattle.call_types.specs.declared.reply.Reply.TheVariants.{Found}
+use Rattle.call_types.specs.declared.version.Version.{Version}
+use Rattle.desk_base.specs.Answering.{Task}
+use Rattle.drive_base.specs.declared.plan.SetPlan.{SetPlan}
+use Rattle.get_read.specs.Readers.{IsAccountOf, Told, all_calls}
+use Rattle.receipts.specs.Events.{Log, cuts_of, tale_of}
+use Rattle.receipts.specs.Paying.{IsTaleOf, WasOwed}
+use Rattle.receipts.specs.Reading.{ReadsKey}
+use Rattle.receipts.specs.Spans.{whole_of}
+use Rattle.object_ops.specs.Reading.{IsFresh}
+use Rattle.object_ops.specs.ReadingLog.{AreLogged, IsLogged}
+use Rattle.object_ops.specs.ReadingPlan.{IsOfSpan}
+use Rattle.object_ops.specs.declared.reading.Reading.{Reading}
+
+-- the key was read, and nothing told yet
+pub record TellsNone (at : Key) (pick : Pick) (version : Version) (id : Option VersionName) (bytes : List ℕ) (log : Log) : Type 0 where
+  pub fresh : IsFresh log
+  pub reads : ReadsKey at pick (Found version (whole_of version) id) log
+  pub none : bytes ≡ []
+
+-- the head was told when it was owed, and behind it these bytes
+pub record TellsBytes (set : SetPlan) (task : Task) (version : Version) (span : Span) (id : Option VersionName) (bytes : List ℕ) (log : Log) : Type 0 where
+  pub tale : IsTaleOf (Found version span id) bytes (tale_of log)
+  pub was_owed : WasOwed set task (Found version span id) log
+  pub uncut : cuts_of log ≡ []
+
+-- by whether the head was told
+abbrev pub HasTold : SetPlan → Task → Key → Pick → Version → Span → Option VersionName → Bool → List ℕ → Log → Type 0
+HasTold set task at pick version span id false bytes log = TellsNone at pick version id bytes log
+HasTold set task at pick version span id true bytes log = TellsBytes set task version span id bytes log
+
+-- a call of a data drive is due: all that its reader gave was told, the calls of the reader are in the log, and a head that was told has bytes behind it
+pub record IsFetching (set : SetPlan) (task : Task) (at : Key) (pick : Pick) (ask : RangeAsk) (reading : Reading) (log : Log) : Type 0 where
+  pub version : Version
+  pub id : Option VersionName
+  pub of_span : IsOfSpan set ask version id reading
+  pub told : Told
+  pub given : List ℕ
+  pub account : IsAccountOf reading.reader told given
+  pub all_logged : AreLogged (all_calls told) log
+  pub logged : IsLogged told log
+  pub counted : length given + reading.left ≡ reading.span.length
+  pub more : 0 < reading.left
+  pub some : reading.told ≡ true → 0 < length given
+  pub has_told : HasTold set task at pick version reading.span id reading.told given log
+
+-- a piece is at hand: all that its reader gave before was told
+pub record IsGiving (set : SetPlan) (task : Task) (at : Key) (pick : Pick) (ask : RangeAsk) (reading : Reading) (log : Log) : Type 0 where
+  pub version : Version
+  pub id : Option VersionName
+  pub of_span : IsOfSpan set ask version id reading
+  pub told : Told
+  pub bytes : List ℕ
+  pub account : IsAccountOf reading.reader told (bytes ++ reading.reader.piece.items)
+  pub all_logged : AreLogged (all_calls told) log
+  pub turned : told.since ≡ []
+  pub counted : length bytes + reading.left ≡ reading.span.length
+  pub some : 0 < length reading.reader.piece.items
+  pub fits : length reading.reader.piece.items ≤ reading.left
+  pub has_told : HasTold set task at pick version reading.span id reading.told bytes log

@@ -1,0 +1,59 @@
+//! How the op of a GetObject begins.
+
+ghost use Rattle.std.specs.Prelude.{◌≡◌, ◌<◌, ℕ, [], IfOk};
+ghost use Rattle.desk_base.specs.Calls.{IsKey};
+ghost use Rattle.op_steps.specs.Claims.{no_claim};
+ghost use Rattle.object_ops.specs.GetBegin.{IsGet, IsNewGet};
+
+use crate::get_op::GetOp;
+use crate::get_state::GetState;
+use call_types::{Key, Pick, RangeAsk};
+use desk_base::Call;
+use drive_base::SetPlan;
+use fault_base::NoMemory;
+use op_steps::Op;
+use slot_history::bucket_name;
+use std::alloc::Global;
+
+impl GetOp {
+    /// The op of a GetObject, made in this Unix second, on a store over this set. It has done nothing yet.
+    pub fn new(alloc: Global, set: SetPlan, call: &Call, now: u64) -> Result<GetOp, NoMemory>
+        requires { IsGet call.now }
+        ensures set { IfOk result (λ op. ⟦<GetOp as Op>⟧.set op ≡ set) }
+        ensures task { IfOk result (λ op. ⟦<GetOp as Op>⟧.task op ≡ record { call = call.now; now = now }) }
+        ensures taken { IfOk result (λ op. ⟦<GetOp as Op>⟧.taken op ≡ 0) }
+        ensures begins { IfOk result (λ op. (slot : ℕ) × (slot < 64) × ⟦<GetOp as Op>⟧.stands op (no_claim slot) []) }
+    {
+        match call {
+            Call::Get { at, pick, ask } => GetOp::of(alloc, set, at, *pick, *ask, now),
+            _ => Err(NoMemory),
+        }
+    }
+
+    /// The op of a GetObject of this key.
+    fn of(
+        alloc: Global,
+        set: SetPlan,
+        at: &Key,
+        pick: Pick,
+        ask: RangeAsk,
+        now: u64,
+    ) -> Result<GetOp, NoMemory>
+        requires { IsKey at.now }
+        ensures { IfOk result (IsNewGet set at.now pick ask now) }
+    {
+        let name = bucket_name(alloc, &at.bucket)?;
+        let key = at.clone()?;
+        Ok(GetOp {
+            set,
+            at: key,
+            pick,
+            ask,
+            name,
+            now,
+            state: GetState::Looking,
+            pin: None,
+            reading: None,
+        })
+    }
+}

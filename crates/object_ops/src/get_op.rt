@@ -1,0 +1,43 @@
+//! The op of a GetObject.
+
+ghost use Rattle.std.specs.Prelude.{◌≡◌, ◌≤◌, IsUtf8, false, length, string_bytes};
+ghost use Rattle.slot_history.specs.Names.{bucket_name, key_name};
+ghost use Rattle.object_ops.specs.Get.{lacks_pin};
+ghost use Rattle.object_ops.specs.ReadingPlan.{drives_of};
+
+use crate::get_state::GetState;
+use crate::reading::Reading;
+use call_types::{Key, Pick, RangeAsk};
+use drive_base::SetPlan;
+use slot_core::Pin;
+
+/// GetObject, step by step: a look at the bucket, the begin of a read of the key, the calls of the data drives with the reply between them, and the end of
+/// the read.
+#[derive(Drop)]
+pub struct GetOp {
+    /// The set of the store.
+    pub(crate) set: SetPlan,
+    /// The key.
+    pub(crate) at: Key,
+    /// The version that is asked for.
+    pub(crate) pick: Pick,
+    /// The part of its body that is asked for.
+    pub(crate) ask: RangeAsk,
+    /// The name of the bucket's register.
+    pub(crate) name: String,
+    /// The Unix second of the call.
+    pub(crate) now: u64,
+    /// How far it is.
+    pub(crate) state: GetState,
+    /// The pin of its read, while it has one.
+    pub(crate) pin: Option<Pin>,
+    /// The reading, while there is one.
+    pub(crate) reading: Option<Reading>,
+    pub ghost named: { string_bytes name ≡ bucket_name at.bucket },
+    pub ghost held: { lacks_pin state pin ≡ false },
+    pub ghost same_drives: { drives_of set reading ≡ set.drives },
+    pub ghost short: { length (string_bytes name) ≤ 1129 },
+    pub ghost bucket_text: { ∥ IsUtf8 at.bucket ∥₁ },
+    pub ghost key_text: { ∥ IsUtf8 at.key ∥₁ },
+    pub ghost key_short: { length (key_name at) ≤ 1129 },
+}
