@@ -1,7 +1,7 @@
 //! Tests of what no clause says: that calls on a key over memory drives are answered as S3 has it where lanes serve, with letters where too few do, and in
 //! which steps.
 
-ghost use Rattle.std.specs.Prelude.{◌≡◌, IfOk, length};
+ghost use Rattle.std.specs.Prelude.{◌≡◌, IfOk};
 ghost use Rattle.desk_base.specs.Calls.{IsKey};
 ghost use Rattle.slot_core.specs.Views.{numbers_of};
 ghost use Rattle.op_steps.specs.declared.next.OpNext.TheVariants as next;
@@ -93,17 +93,17 @@ type MemSlot = Slot<MemDrive, MemAudit>;
 fn opened(
     rt: &impl Abort,
     alloc: Global,
-    set: SetPlan,
+    set: &SetPlan,
     index: u8,
     lost: usize,
 ) -> Result<MemSlot, Fail>
-    ensures { IfOk result (λ slot. ((numbers_of slot).set ≡ set) × ((numbers_of slot).index ≡ index)) }
+    ensures { IfOk result (λ slot. ((numbers_of slot).set ≡ set.now) × ((numbers_of slot).index ≡ index)) }
 {
     let lanes = drives(alloc, lost)?;
     assert!(rt; lanes.len() == set.drives as usize);
     assert!(rt; index < 64);
     let audit = MemAudit::new(alloc);
-    let Ok(slot) = Slot::open(alloc, SlotParts { lanes, audit }, set, index, 3) else {
+    let Ok(slot) = Slot::open(alloc, SlotParts { lanes, audit }, *set, index, 3) else {
         return Err(Fail::new("the slot is not opened"));
     };
     Ok(slot)
@@ -118,9 +118,14 @@ fn was_done(turn: Turn<Committed>) -> bool {
 }
 
 /// Makes the bucket `pic`.
-fn make_bucket(rt: &impl Abort, alloc: Global, slot: &mut MemSlot, set: SetPlan) -> Result<(), Fail>
-    requires { (numbers_of slot.old).set ≡ set }
-    ensures set { (numbers_of slot.new).set ≡ set }
+fn make_bucket(
+    rt: &impl Abort,
+    alloc: Global,
+    slot: &mut MemSlot,
+    set: &SetPlan,
+) -> Result<(), Fail>
+    requires { (numbers_of slot.old).set ≡ set.now }
+    ensures set { (numbers_of slot.new).set ≡ set.now }
     ensures index { (numbers_of slot.new).index ≡ (numbers_of slot.old).index }
 {
     let mut disks = drives(alloc, 0)?;
@@ -133,38 +138,18 @@ fn make_bucket(rt: &impl Abort, alloc: Global, slot: &mut MemSlot, set: SetPlan)
     Ok(())
 }
 
-/// Begins a put of the key and gives it up, so that its id is trash of the slot.
-fn litter(rt: &impl Abort, alloc: Global, slot: &mut MemSlot) -> Result<(), Fail>
-    ensures set { (numbers_of slot.new).set ≡ (numbers_of slot.old).set }
-    ensures index { (numbers_of slot.new).index ≡ (numbers_of slot.old).index }
-{
-    let at = key(rt, alloc)?;
-    assert!(rt; slot.turns() < 1000);
-    let Turn { answer, stub } = slot.begin_put(alloc, &at);
-    forget(stub);
-    let Ok(flight) = answer else {
-        return Err(Fail::new("the put is not begun"));
-    };
-    assert!(rt; slot.turns() < 1000);
-    let Turn { stub, .. } = slot.drop_put(flight);
-    forget(stub);
-    Ok(())
-}
-
 /// Does the section of an op that comes next, on its slot.
 fn turns_on<O: Op>(
     rt: &impl Abort,
     alloc: Global,
     op: &mut O,
     slot: &mut MemSlot,
-    set: SetPlan,
+    set: &SetPlan,
 ) -> Result<(), Fail>
-    requires op { O.set op.old ≡ set }
-    requires slot { (numbers_of slot.old).set ≡ set }
+    requires op { O.set op.old ≡ set.now }
+    requires slot { (numbers_of slot.old).set ≡ set.now }
     requires step { O.step op.old ≡ next.Section (numbers_of slot.old).index }
-    ensures op { O.set op.new ≡ set }
-    ensures slot { (numbers_of slot.new).set ≡ set }
-    ensures index { (numbers_of slot.new).index ≡ (numbers_of slot.old).index }
+    ensures { O.set op.new ≡ set.now }
 {
     let mut disks = drives(alloc, 0)?;
     assert!(rt; disks.len() == set.drives as usize);
@@ -179,52 +164,32 @@ fn turns<O: Op>(
     rt: &impl Abort,
     alloc: Global,
     op: &mut O,
-    set: SetPlan,
+    set: &SetPlan,
     lost: usize,
 ) -> Result<(), Fail>
-    requires { O.set op.old ≡ set }
-    ensures { O.set op.new ≡ set }
+    requires { O.set op.old ≡ set.now }
+    ensures { O.set op.new ≡ set.now }
 {
     let OpNext::Section(index) = op.next() else {
         return Err(Fail::new("no section comes next"));
     };
     let mut slot = opened(rt, alloc, set, index, lost)?;
-    turns_on(rt, alloc, op, &mut slot, set)
+    turns_on(rt, alloc, op, &mut slot, set)?;
+    Ok(())
 }
 
 /// Does the look of an op at its bucket, which was made.
-fn finds<O: Op>(rt: &impl Abort, alloc: Global, op: &mut O, set: SetPlan) -> Result<(), Fail>
-    requires { O.set op.old ≡ set }
-    ensures { O.set op.new ≡ set }
+fn finds<O: Op>(rt: &impl Abort, alloc: Global, op: &mut O, set: &SetPlan) -> Result<(), Fail>
+    requires { O.set op.old ≡ set.now }
+    ensures { O.set op.new ≡ set.now }
 {
     let OpNext::Section(index) = op.next() else {
         return Err(Fail::new("no look comes next"));
     };
     let mut slot = opened(rt, alloc, set, index, 0)?;
     make_bucket(rt, alloc, &mut slot, set)?;
-    turns_on(rt, alloc, op, &mut slot, set)
-}
-
-/// Does the call of a data drive that comes next.
-fn removes<O: Op>(rt: &impl Abort, alloc: Global, op: &mut O, disks: &mut [MemDrive])
-    requires { length disks.old ≡ (O.set op.old).drives }
-    ensures set { O.set op.new ≡ O.set op.old }
-    ensures disks { length disks.new ≡ length disks.old }
-{
-    assert!(rt; op.next() == OpNext::Data);
-    op.data(alloc, disks);
-}
-
-/// Does the four calls of data drives that come next.
-fn removes_four<O: Op>(rt: &impl Abort, alloc: Global, op: &mut O, disks: &mut [MemDrive])
-    requires { length disks.old ≡ (O.set op.old).drives }
-    ensures set { O.set op.new ≡ O.set op.old }
-    ensures disks { length disks.new ≡ length disks.old }
-{
-    removes(rt, alloc, op, disks);
-    removes(rt, alloc, op, disks);
-    removes(rt, alloc, op, disks);
-    removes(rt, alloc, op, disks);
+    turns_on(rt, alloc, op, &mut slot, set)?;
+    Ok(())
 }
 
 /// What an op tells, where a telling comes next.
@@ -275,19 +240,48 @@ fn deletion(rt: &impl Abort, alloc: Global) -> Result<DeleteOp, Fail> {
 fn heads_nowhere(rt: &impl Abort, alloc: Global, lost: usize) -> Result<Heard, Fail> {
     let mut op = heading(rt, alloc)?;
     let set = op.set;
-    turns(rt, alloc, &mut op, set, lost)?;
+    turns(rt, alloc, &mut op, &set, lost)?;
     let heard = tells(alloc, &mut op);
     assert!(rt; is_over(&op));
     Ok(heard)
 }
 
-/// What is told to a HeadObject of a key that is not there in a bucket that is, where so many lanes of the key are lost: after two sections, and then it is over.
+/// What an op tells after two sections: the look at its bucket, which was made, and one of the key's slot, of which so many lanes are lost.
+fn serves<O: Op>(
+    rt: &impl Abort,
+    alloc: Global,
+    op: &mut O,
+    set: &SetPlan,
+    lost: usize,
+) -> Result<Heard, Fail>
+    requires { O.set op.old ≡ set.now }
+    ensures { O.set op.new ≡ set.now }
+{
+    finds(rt, alloc, op, set)?;
+    turns(rt, alloc, op, set, lost)?;
+    Ok(tells(alloc, op))
+}
+
+/// What an op tells so, after which one section more comes next.
+fn serves_on<O: Op>(
+    rt: &impl Abort,
+    alloc: Global,
+    op: &mut O,
+    set: &SetPlan,
+    lost: usize,
+) -> Result<Heard, Fail>
+    requires { O.set op.old ≡ set.now }
+{
+    let heard = serves(rt, alloc, op, set, lost)?;
+    turns(rt, alloc, op, set, lost)?;
+    Ok(heard)
+}
+
+/// What is told to a HeadObject of a key that is not there in a bucket that is, after which it is over.
 fn heads(rt: &impl Abort, alloc: Global, lost: usize) -> Result<Heard, Fail> {
     let mut op = heading(rt, alloc)?;
     let set = op.set;
-    finds(rt, alloc, &mut op, set)?;
-    turns(rt, alloc, &mut op, set, lost)?;
-    let heard = tells(alloc, &mut op);
+    let heard = serves(rt, alloc, &mut op, &set, lost)?;
     assert!(rt; is_over(&op));
     Ok(heard)
 }
@@ -296,43 +290,17 @@ fn heads(rt: &impl Abort, alloc: Global, lost: usize) -> Result<Heard, Fail> {
 fn deletes_nowhere(rt: &impl Abort, alloc: Global, lost: usize) -> Result<Heard, Fail> {
     let mut op = deletion(rt, alloc)?;
     let set = op.set;
-    turns(rt, alloc, &mut op, set, lost)?;
+    turns(rt, alloc, &mut op, &set, lost)?;
     let heard = tells(alloc, &mut op);
     assert!(rt; is_over(&op));
     Ok(heard)
 }
 
-/// What is told to a DeleteObject of a key that is not there in a bucket that is, where so many lanes of the key are lost: after two sections. One more takes
-/// trash, of which there is none, and then it is over.
+/// What is told to a DeleteObject of a key that is not there in a bucket that is. One section more takes trash, of which there is none, and then it is over.
 fn deletes(rt: &impl Abort, alloc: Global, lost: usize) -> Result<Heard, Fail> {
     let mut op = deletion(rt, alloc)?;
     let set = op.set;
-    finds(rt, alloc, &mut op, set)?;
-    turns(rt, alloc, &mut op, set, lost)?;
-    let heard = tells(alloc, &mut op);
-    turns(rt, alloc, &mut op, set, lost)?;
-    assert!(rt; is_over(&op));
-    Ok(heard)
-}
-
-/// What is told to a DeleteObject of a key that is not there, where one id is trash of the key's slot: its files are removed in eight calls, and then it is over.
-fn deletes_trash(rt: &impl Abort, alloc: Global) -> Result<Heard, Fail> {
-    let mut op = deletion(rt, alloc)?;
-    let set = op.set;
-    finds(rt, alloc, &mut op, set)?;
-    let OpNext::Section(index) = op.next() else {
-        return Err(Fail::new("no commit comes next"));
-    };
-    let mut slot = opened(rt, alloc, set, index, 0)?;
-    litter(rt, alloc, &mut slot)?;
-    turns_on(rt, alloc, &mut op, &mut slot, set)?;
-    let heard = tells(alloc, &mut op);
-    assert!(rt; op.next() == OpNext::Section(index));
-    turns_on(rt, alloc, &mut op, &mut slot, set)?;
-    let mut disks = drives(alloc, 1)?;
-    assert!(rt; disks.len() == set.drives as usize);
-    removes_four(rt, alloc, &mut op, disks.as_mut_slice());
-    removes_four(rt, alloc, &mut op, disks.as_mut_slice());
+    let heard = serves_on(rt, alloc, &mut op, &set, lost)?;
     assert!(rt; is_over(&op));
     Ok(heard)
 }
@@ -364,11 +332,5 @@ fn a_deletion_of_no_key(rt: HostRuntime) -> Result<(), Fail> {
     assert_eq!(rt; deletes(&rt, rt.alloc(), 0)?, Heard::Deleted);
     assert_eq!(rt; deletes(&rt, rt.alloc(), 2)?, Heard::Deleted);
     assert_eq!(rt; deletes(&rt, rt.alloc(), 3)?, Heard::LacksThree);
-    Ok(())
-}
-
-#[test]
-fn a_deletion_removes_trash(rt: HostRuntime) -> Result<(), Fail> {
-    assert_eq!(rt; deletes_trash(&rt, rt.alloc())?, Heard::Deleted);
     Ok(())
 }
