@@ -79,14 +79,14 @@ fn drives(alloc: Global) -> Result<Vec<MemDrive>, AllocError> {
 }
 
 /// A slot of this index over fresh lanes.
-fn opened(rt: &impl Abort, alloc: Global, set: SetPlan, index: u8) -> Result<MemSlot, Fail>
-    ensures { IfOk result (λ slot. ((numbers_of slot).set ≡ set) × ((numbers_of slot).index ≡ index)) }
+fn opened(rt: &impl Abort, alloc: Global, set: &SetPlan, index: u8) -> Result<MemSlot, Fail>
+    ensures { IfOk result (λ slot. ((numbers_of slot).set ≡ set.now) × ((numbers_of slot).index ≡ index)) }
 {
     let lanes = drives(alloc)?;
     assert!(rt; lanes.len() == set.drives as usize);
     assert!(rt; index < 64);
     let audit = MemAudit::new(alloc);
-    let Ok(slot) = Slot::open(alloc, SlotParts { lanes, audit }, set, index, 3) else {
+    let Ok(slot) = Slot::open(alloc, SlotParts { lanes, audit }, *set, index, 3) else {
         return Err(Fail::new("the slot is not opened"));
     };
     Ok(slot)
@@ -105,11 +105,11 @@ fn make_bucket(
     rt: &impl Abort,
     alloc: Global,
     slot: &mut MemSlot,
-    set: SetPlan,
+    set: &SetPlan,
     disks: &mut [MemDrive],
 ) -> Result<(), Fail>
-    requires { (numbers_of slot.old).set ≡ set }
-    ensures set { (numbers_of slot.new).set ≡ set }
+    requires { (numbers_of slot.old).set ≡ set.now }
+    ensures set { (numbers_of slot.new).set ≡ set.now }
     ensures index { (numbers_of slot.new).index ≡ (numbers_of slot.old).index }
 {
     let bucket = Text::from_slice(alloc, "pic".as_bytes())?;
@@ -151,7 +151,7 @@ fn begin(rt: &impl Abort, alloc: Global, slot: &mut MemSlot) -> Result<Flight, F
 fn staged(
     rt: &impl Abort,
     alloc: Global,
-    set: SetPlan,
+    set: &SetPlan,
     disks: &mut [MemDrive],
     id: VersionId,
     body: &[u8],
@@ -160,15 +160,18 @@ fn staged(
 {
     assert!(rt; disks.len() == set.drives as usize);
     assert!(rt; body.len() < 1000);
-    let Ok(staged) = stage_whole(alloc, set, id, "k/pic/cat", body, None, disks) else {
+    let Ok(staged) = stage_whole(alloc, *set, id, "k/pic/cat", body, None, disks) else {
         return Err(Fail::new("the body is not staged"));
     };
     let kind = Text::from_slice(alloc, "text/plain".as_bytes())?;
+    let print = staged.print;
+    let length = staged.length;
+    let md5 = staged.etag;
     Ok(Act::Put {
         data_id: id,
-        print: staged.print,
-        length: staged.length,
-        md5: staged.etag,
+        print,
+        length,
+        md5,
         kind,
     })
 }
@@ -178,16 +181,17 @@ fn put(
     rt: &impl Abort,
     alloc: Global,
     slot: &mut MemSlot,
-    set: SetPlan,
+    set: &SetPlan,
     disks: &mut [MemDrive],
     body: &[u8],
 ) -> Result<(), Fail>
-    requires { (numbers_of slot.old).set ≡ set }
-    ensures set { (numbers_of slot.new).set ≡ set }
+    requires { (numbers_of slot.old).set ≡ set.now }
+    ensures set { (numbers_of slot.new).set ≡ set.now }
     ensures index { (numbers_of slot.new).index ≡ (numbers_of slot.old).index }
 {
     let flight = begin(rt, alloc, slot)?;
-    let act = staged(rt, alloc, set, disks, flight.id(), body)?;
+    let id = flight.id();
+    let act = staged(rt, alloc, set, disks, id, body)?;
     let at = key(rt, alloc)?;
     let mode = Mode::Never;
     let deed = Commit::Key { at, mode, act };
@@ -204,13 +208,13 @@ fn turns_on(
     alloc: Global,
     op: &mut GetOp,
     slot: &mut MemSlot,
-    set: SetPlan,
+    set: &SetPlan,
     disks: &mut [MemDrive],
 ) -> Result<(), Fail>
-    requires op { op.old.set ≡ set }
-    requires slot { (numbers_of slot.old).set ≡ set }
+    requires op { op.old.set ≡ set.now }
+    requires slot { (numbers_of slot.old).set ≡ set.now }
     requires step { ⟦<GetOp as Op>⟧.step op.old ≡ next.Section (numbers_of slot.old).index }
-    ensures { op.new.set ≡ set }
+    ensures { op.new.set ≡ set.now }
 {
     assert!(rt; disks.len() == set.drives as usize);
     assert!(rt; slot.turns() < 1000);
@@ -224,18 +228,19 @@ fn finds(
     rt: &impl Abort,
     alloc: Global,
     op: &mut GetOp,
-    set: SetPlan,
+    set: &SetPlan,
     disks: &mut [MemDrive],
 ) -> Result<(), Fail>
-    requires { op.old.set ≡ set }
-    ensures { op.new.set ≡ set }
+    requires { op.old.set ≡ set.now }
+    ensures { op.new.set ≡ set.now }
 {
     let OpNext::Section(index) = op.next() else {
         return Err(Fail::new("no look comes next"));
     };
     let mut slot = opened(rt, alloc, set, index)?;
     make_bucket(rt, alloc, &mut slot, set, disks)?;
-    turns_on(rt, alloc, op, &mut slot, set, disks)
+    turns_on(rt, alloc, op, &mut slot, set, disks)?;
+    Ok(())
 }
 
 /// Does the begin of its read, of an object of these bytes.
@@ -243,19 +248,20 @@ fn begins(
     rt: &impl Abort,
     alloc: Global,
     op: &mut GetOp,
-    set: SetPlan,
+    set: &SetPlan,
     disks: &mut [MemDrive],
     body: &[u8],
 ) -> Result<(), Fail>
-    requires { op.old.set ≡ set }
-    ensures { op.new.set ≡ set }
+    requires { op.old.set ≡ set.now }
+    ensures { op.new.set ≡ set.now }
 {
     let OpNext::Section(index) = op.next() else {
         return Err(Fail::new("no read comes next"));
     };
     let mut slot = opened(rt, alloc, set, index)?;
     put(rt, alloc, &mut slot, set, disks, body)?;
-    turns_on(rt, alloc, op, &mut slot, set, disks)
+    turns_on(rt, alloc, op, &mut slot, set, disks)?;
+    Ok(())
 }
 
 /// Loses the first drives, so many.
@@ -289,6 +295,14 @@ fn goes_on(
     }
 }
 
+/// A GetObject of the key, of this part of its body.
+fn getting(rt: &impl Abort, alloc: Global, ask: RangeAsk) -> Result<GetOp, Fail> {
+    let at = key(rt, alloc)?;
+    let pick = Pick::Current;
+    let set = SetPlan::new([7; 16], 4, 2);
+    Ok(GetOp::new(alloc, set, &Call::Get { at, pick, ask }, NOW)?)
+}
+
 /// What is heard of a GetObject of an object of these bytes, of which this part is asked for, where so many data drives are lost.
 fn hears(
     rt: &impl Abort,
@@ -297,13 +311,11 @@ fn hears(
     ask: RangeAsk,
     lost: usize,
 ) -> Result<Ear, Fail> {
-    let at = key(rt, alloc)?;
-    let pick = Pick::Current;
-    let set = SetPlan::new([7; 16], 4, 2);
-    let mut op = GetOp::new(alloc, set, &Call::Get { at, pick, ask }, NOW)?;
+    let mut op = getting(rt, alloc, ask)?;
+    let set = op.set;
     let mut disks = drives(alloc)?;
-    finds(rt, alloc, &mut op, set, disks.as_mut_slice())?;
-    begins(rt, alloc, &mut op, set, disks.as_mut_slice(), body)?;
+    finds(rt, alloc, &mut op, &set, disks.as_mut_slice())?;
+    begins(rt, alloc, &mut op, &set, disks.as_mut_slice(), body)?;
     lose(disks.as_mut_slice(), lost);
     let mut ear = Ear {
         head: Head::Nothing,
