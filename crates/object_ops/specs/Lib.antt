@@ -10,6 +10,12 @@ pub mod Head
 pub mod HeadBegin
 pub mod HeadStands
 pub mod Looking
+pub mod Put
+pub mod PutBegin
+pub mod PutFeeding
+pub mod PutStands
+pub mod PutWork
+pub mod Putting
 pub mod Reading
 pub mod ReadingLog
 pub mod ReadingPlan

@@ -1,9 +1,11 @@
 //! The calls on objects, step by step.
 //!
-//! Each op begins with the look at its bucket (`looking`). A [`HeadOp`] then begins a read of the key, tells what that found, and ends the read; a [`GetOp`] reads
-//! the body between, piece by piece, and tells its head once the first piece is at hand. A [`DeleteOp`] commits the deletion, tells its reply, and ends with the removal of what is trash then (`clearing`). Each is an [`Op`](op_steps::Op): each of its logs pays
-//! what its call owes. The crate stands on `op_steps` for steps and what they owe, on `slot_core` for sections of slots, on `bucket_book` for the records of
-//! buckets, on `slot_history` for the names of registers, on `slot_data` for the data of slots, and on `body_print` for the names of its files.
+//! Each op begins with the look at its bucket (`looking`). A [`HeadOp`] then begins a read of the key, tells what that found, and ends the read; a [`GetOp`]
+//! reads the body between, piece by piece, and tells its head once the first piece is at hand. A [`PutOp`] begins a put of the key, stages its body drive call
+//! by drive call, and commits or drops the put. It and a [`DeleteOp`], which commits the deletion, tell their reply then, and end with the removal of what is
+//! trash (`clearing`). Each is an [`Op`](op_steps::Op): each of its logs pays what its call owes. The crate stands on `op_steps` for steps and what they owe,
+//! on `slot_core` for sections of slots, on `put_stage` for the data of a put, on `bucket_book` for the records of buckets, on `slot_history` for the names of
+//! registers, on `slot_data` for the data of slots, and on `body_print` for the names of its files.
 #![tactic(auto)]
 
 mod clearing;
@@ -24,6 +26,15 @@ mod head_begin;
 mod head_op;
 mod head_state;
 mod looking;
+mod put;
+mod put_begin;
+mod put_feeding;
+mod put_op;
+mod put_state;
+mod put_steps;
+mod put_work;
+mod put_working;
+mod putting;
 mod reading;
 mod reading_plan;
 mod reading_start;
@@ -34,8 +45,11 @@ mod telling;
 pub use delete_op::DeleteOp;
 pub use get_op::GetOp;
 pub use head_op::HeadOp;
+pub use put_op::PutOp;
 
 #[cfg(test)]
 mod get_tests;
+#[cfg(test)]
+mod put_tests;
 #[cfg(test)]
 mod tests;

@@ -1,0 +1,107 @@
+-- The end of a put, as its section has it.
+use Rattle.std.proofs.Common.{◌≡◌, ◌∙◌, ◌<◌, ◌≤◌, ℕ, Bool, List, Option, Some, None, Result, Ok, Err, IsUtf8, length, refl, sym, ap, subst}
+use Rattle.call_types.specs.declared.feed.Cut.TheVariants as cut
+use Rattle.call_types.specs.declared.names.Key.{Key}
+use Rattle.call_types.specs.declared.refusal.Refusal.{Refusal}
+use Rattle.call_types.specs.declared.reply.Reply.TheVariants.{Refused}
+use Rattle.drive_base.specs.Files.{Files}
+use Rattle.drive_base.specs.View.{DriveView, views}
+use Rattle.drive_base.specs.declared.drive.Drive.{Ghosts}
+use Rattle.put_stage.specs.Stepping.{MayFinish}
+use Rattle.put_stage.specs.declared.stage.StageNext.TheVariants.{Finish}
+use Rattle.stamp_id.specs.declared.version.VersionId.{VersionId}
+use Rattle.slot_core.specs.CommitCauses.{CommitCause, deed_in}
+use Rattle.slot_core.specs.Committing.{CommitHolds, FitsFlight, IsLawfulDeed, IsNamedDeed, MayCommitData, SaysCommit, ShowsTrash, name_of}
+use Rattle.slot_core.specs.Stubs.{Says, entry_of}
+use Rattle.slot_core.specs.Turning.{Leaves, Turns}
+use Rattle.slot_core.specs.declared.commit.Commit.{Commit}
+use Rattle.slot_core.specs.declared.commit.Committed.{Committed}
+use Rattle.slot_core.specs.declared.fault.SlotFault.{SlotFault}
+use Rattle.slot_core.specs.declared.handles.Flight.{Flight}
+use Rattle.slot_core.specs.declared.stub.Stub.{Stub}
+use Rattle.slot_history.specs.Names.{key_name}
+use Rattle.receipts.specs.Registers.{key_slot}
+use Rattle.op_steps.specs.Looking.{AreOnlyRead}
+use Rattle.op_steps.specs.Store.{SlotSeen}
+use Rattle.op_steps.specs.Words.{TurnsSo}
+use Rattle.object_ops.specs.Put.{long_by}
+use Rattle.object_ops.specs.PutStands.{IsSamePut, PutStands, PutStandsAt, ask_of}
+use Rattle.object_ops.specs.Putting.{AfterCommit, Answers, Ends, put_deed, refusal_of_stage}
+use Rattle.object_ops.specs.declared.clearing.Clearing.{Clearing}
+use Rattle.object_ops.specs.declared.put_op.PutOp.{PutOp}
+use Rattle.object_ops.specs.declared.put_state.PutState.{PutState}
+use Rattle.object_ops.specs.declared.put_state.PutState.TheVariants.{Staging, Telling, Told}
+use Rattle.object_ops.specs.declared.put_work.Work.{Work}
+use Rattle.object_ops.specs.declared.putting.PutEnd.TheVariants.{Commits, GivesUp}
+use Rattle.object_ops.proofs.PutCommits.{PutSays}
+use Rattle.object_ops.proofs.PutEnds.{DropSays}
+use Rattle.object_ops.proofs.PutLefts.{all_read}
+use Rattle.object_ops.proofs.PutNext.{may_finish}
+use Rattle.object_ops.proofs.PutOpLemmas.{stands_on}
+use Rattle.object_ops.proofs.PutOver.{commit_so, lacks_so, refuse_so}
+
+staged_is : (a b : Work) → Staging a ≡ Staging b → a ≡ b
+staged_is a b e = cc
+
+-- its stage is over
+pub finishing : (one : PutState) (work : Work) → (w : Work) × (one ≡ Staging w) × (w.next ≡ Finish) → one ≡ Staging work → MayFinish work.stage
+finishing one work (w, is, ends) mine =
+    may_finish work.stage work.next work.is_next (subst (λ (v : Work). v.next ≡ Finish) (staged_is w work (sym is ∙ mine)) ends)
+
+-- what it commits can be committed
+pub lawful_end : (at : Key) (kind : List ℕ) (work : Work) (id : VersionId) (deed : Commit) → Ends at kind work.mode id work.stage (Commits deed) → length kind ≤ 255
+    → IsLawfulDeed deed
+lawful_end at kind work id deed (staged, is, answers) short = subst IsLawfulDeed (sym is) short
+
+pub named_end : (at : Key) (kind : List ℕ) (work : Work) (id : VersionId) (deed : Commit) → Ends at kind work.mode id work.stage (Commits deed)
+    → IsUtf8 at.bucket → IsUtf8 at.key → IsNamedDeed deed
+named_end at kind work id deed (staged, is, answers) bucket key = subst IsNamedDeed (sym is) (bucket, key)
+
+pub short_end : (at : Key) (kind : List ℕ) (work : Work) (id : VersionId) (deed : Commit) → Ends at kind work.mode id work.stage (Commits deed)
+    → length (key_name at) ≤ 1129 → length (name_of deed) ≤ 1129
+short_end at kind work id deed (staged, is, answers) short = subst (λ (d : Commit). length (name_of d) ≤ 1129) (sym is) short
+
+-- what a commit says of itself, by which its deed is a step
+pub record CommitSaid {D : Type 0} (ghosts : Ghosts D) (was now : SlotSeen D) (deed : Commit) (at : ℕ) (flight : Flight) (answer : Result Committed SlotFault)
+    (stub : Option Stub) (old new : List D) : Type 0 where
+  pub turns : Turns was.numbers now.numbers was.entries now.entries was.faults now.faults answer stub
+  pub says : Says stub (SaysCommit deed at answer)
+  pub holds : CommitHolds (Some flight) answer was.holding now.holding
+  pub leaves : FitsFlight deed (Some flight) → Leaves ghosts.tells ghosts.files was.numbers now.numbers was.holding now.holding was.lanes now.lanes stub
+      (ShowsTrash deed answer was.holding.trash now.holding.trash) (MayCommitData deed now.holding)
+  pub read : AreOnlyRead ghosts old new
+  pub cause : CommitCause ghosts.tells ghosts.files ghosts.count was.numbers now.numbers deed (Some flight.id) at answer (deed_in (entry_of stub)) was.lanes now.lanes old new
+
+module _ (op out : PutOp) (begun : Clearing) (work : Work) (is : op.state ≡ Staging work) (may : MayFinish work.stage)
+    (same : begun.queue.items ≡ op.clearing.queue.items) (same_put : IsSamePut op out) (same_read : out.read ≡ op.read) where
+  pub end_commits : {D : Type 0} (ghosts : Ghosts D) (id : VersionId) (deed : Commit) (answer : Result Committed SlotFault) (stub : Option Stub) (later : PutState)
+      (was after : SlotSeen D) (old new : List D) → id ≡ work.flight.id → was.numbers.set ≡ op.set → was.numbers.index ≡ key_slot op.at
+      → Ends out.at out.kind work.mode id work.stage (Commits deed) → CommitSaid ghosts was after deed out.now work.flight answer stub old new → AfterCommit answer later
+      → TurnsSo ghosts.tells ghosts.files (PutStands op) (PutStandsAt (ask_of out) out.read begun later) stub was after (views ghosts old) (views ghosts new)
+  end_commits ghosts id deed answer stub later was after old new id_is set_is own (staged, deed_is, answers) said told =
+      let wanted : deed ≡ put_deed op.at op.kind work.mode work.flight.id staged = deed_is ∙ (λ i. put_deed (same_put.at i) (same_put.kind i) work.mode (id_is i) staged) in
+      let mine = subst (λ n. CommitSaid ghosts was after (put_deed op.at op.kind work.mode work.flight.id staged) n work.flight answer stub old new) same_put.now
+      (subst (λ (d : Commit). CommitSaid ghosts was after d out.now work.flight answer stub old new) wanted said) in
+      subst (λ P. TurnsSo ghosts.tells ghosts.files (PutStands op) P stub was after (views ghosts old) (views ghosts new)) (stands_on op out begun later same_put same_read)
+      (commit_so (ask_of op) op.read ghosts op.clearing begun op.state later work staged was after answer stub old new is set_is may.whole same own answers
+      (record { turns = mine.turns; says = mine.says; holds = mine.holds; leaves = mine.leaves (work.flight, refl, refl); read = mine.read }) mine.cause told)
+
+  pub end_gives_up : {D T : Type 0} (tells : D → Bool) (files : D → Files) (id : VersionId) (why : Refusal) (answer : Result T SlotFault)
+      (was after : SlotSeen D) (disks : List DriveView) → op.read ≡ op.long → was.numbers.index ≡ key_slot op.at
+      → Ends out.at out.kind work.mode id work.stage (GivesUp why) → DropSays tells files was after work.flight.id answer None
+      → TurnsSo tells files (PutStands op) (PutStandsAt (ask_of out) out.read begun (Telling (Refused why))) None was after disks disks
+  end_gives_up tells files id why answer was after disks all own (refused, refuses, answers) says =
+      subst (λ P. TurnsSo tells files (PutStands op) P None was after disks disks) (stands_on op out begun (Telling (Refused why)) same_put same_read)
+      (refuse_so (ask_of op) op.read tells files op.clearing begun op.state work why refused was after answer disks is all may.whole same own refuses answers says)
+
+  pub end_lacks : {D T : Type 0} (tells : D → Bool) (files : D → Files) (answer : Result T SlotFault) (was after : SlotSeen D) (disks : List DriveView)
+      → was.numbers.index ≡ key_slot op.at → DropSays tells files was after work.flight.id answer None
+      → TurnsSo tells files (PutStands op) (PutStandsAt (ask_of out) out.read begun (Told (Some cut.NoMemory))) None was after disks disks
+  end_lacks tells files answer was after disks own says =
+      subst (λ P. TurnsSo tells files (PutStands op) P None was after disks disks) (stands_on op out begun (Told (Some cut.NoMemory)) same_put same_read)
+      (lacks_so (ask_of op) op.read tells files op.clearing begun op.state work was after answer disks is same own says)
+
+-- what is said of a put that is given up, which has no stub
+pub drop_says : {D T : Type 0} (tells : D → Bool) (files : D → Files) (was now : SlotSeen D) (id : VersionId) (answer : Result T SlotFault) (stub : Option Stub) → stub ≡ None
+    → DropSays tells files was now id answer stub → DropSays tells files was now id answer None
+drop_says tells files was now id answer stub none says = subst (λ (s : Option Stub). DropSays tells files was now id answer s) none says

@@ -1,0 +1,506 @@
+-- One call of a stage, as a step of a put.
+use Rattle.std.proofs.Common.{◌≡◌, ◌≢◌, ◌⊎◌, ◌∙◌, ◌<◌, ◌≤◌, ◌+◌, ℕ, zero, suc, Bool, true, false, IsTrue, List, [], ◌∷◌, ◌++◌, All, Some, cond, length, nat_eq, slice_index_or, string_bytes, inl, inr, refl, sym, ap, subst, subst₂, arith, lit<}
+use Rattle.std.specs.Prelude.{Result, Ok, Err, if◌then◌else◌}
+use Rattle.std.specs.Int.{IsBitSet}
+use Rattle.std.proofs.lemmas.Bool.Decides.{eqb_tells}
+use Rattle.std.proofs.lemmas.Bool.{cases_Bool, cases_lt}
+use Rattle.std.proofs.lemmas.List.Elements.{All-append}
+use Rattle.std.proofs.lemmas.List.{get_or-map, get_or-set_same, get_or_past}
+use Rattle.call_types.specs.declared.names.Key.{Key}
+use Rattle.call_types.specs.declared.names.Mode.{Mode}
+use Rattle.call_types.specs.declared.why.Why.{Why}
+use Rattle.call_types.specs.declared.why.Why.TheVariants.{Behind, Damaged, Failed, Good, Lacks}
+use Rattle.call_types.specs.declared.why.FileKind.TheVariants.{Format, Register, Manifest as ManifestKind, Shard as ShardKind}
+use Rattle.drive_base.specs.View.{DriveView, GoesOn, blank_view, view, view_at, views}
+use Rattle.drive_base.specs.declared.drive.Drive.{Ghosts}
+use Rattle.drive_base.specs.declared.plan.SetPlan.{SetPlan}
+use Rattle.drive_base.proofs.ViewLemmas.{length-views, view_at-views}
+use Rattle.body_print.specs.Names.{manifest_name}
+use Rattle.put_stage.specs.Cells.{DataCells, Spares, data_of}
+use Rattle.put_stage.specs.Left.{calls_left}
+use Rattle.put_stage.specs.Stepping.{IsAfter, LetterOf, Stepped}
+use Rattle.put_stage.specs.Taking.{HasTaken, manifest_in}
+use Rattle.put_stage.specs.Coding.{block_at}
+use Rattle.put_stage.specs.Working.{AtWork, HasBy, IsOfDrive, due_at, why_at}
+use Rattle.put_stage.specs.declared.stage.Load.{Load}
+use Rattle.put_stage.proofs.StepLemmas.{other_why, works_on_others}
+use Rattle.stamp_id.specs.declared.version.VersionId.{VersionId}
+use Rattle.slot_history.specs.Names.{key_name}
+use Rattle.slot_history.specs.Standing.{Flying}
+use Rattle.slot_core.specs.Views.{last_of}
+use Rattle.slot_core.specs.declared.handles.Flight.{Flight}
+use Rattle.slot_data.specs.Disks.{Disks, Keeps, kept_on}
+use Rattle.slot_data.specs.Holding.{Holding}
+use Rattle.receipts.specs.Events.{Event, IsQuiet, IsUntold, Log, Seen, body_of, sections_of}
+use Rattle.receipts.specs.Events.Event.{Called}
+use Rattle.receipts.specs.Letters.{IsInUse, StageLetter}
+use Rattle.receipts.specs.Paying.{ChangesNothing}
+use Rattle.receipts.proofs.GrowLemmas.{quiet_bodies, quiet_cuts, quiet_sections, quiet_untold}
+use Rattle.op_steps.specs.Claims.{Claim, DataHolds, DisksTell, Expected, IsExpected, IsMet, Staging, among, disks_of}
+use Rattle.op_steps.specs.Claims.Expected.{Exactly}
+use Rattle.op_steps.specs.Moves.{CallMoves, KeepsData, SaysUnwritten, SlotKept, WasSo}
+use Rattle.object_ops.specs.Put.{PutAsk}
+use Rattle.object_ops.specs.PutStands.{ClaimsSo, ClaimsStage, HasLookedAt, HasWorked, HoldsPut, IsStageOf, Stages, no_cells}
+use Rattle.object_ops.specs.PutWork.{StepsWork}
+use Rattle.object_ops.specs.declared.put_work.Work.{Work}
+use Rattle.object_ops.proofs.PutCells.{same_cells}
+use Rattle.object_ops.proofs.PutDisks.{WritesUnder, kept_then, spares_others}
+use Rattle.object_ops.proofs.PutMine.{met_mine}
+use Rattle.object_ops.proofs.PutPlaces.{is_made, letter_grows, new_letter, seen_by, seen_was_so, work_manifest}
+use Rattle.object_ops.proofs.PutWrites.{GoesOnWith, IsMade, IsNone, IsPut, ManifestMoves, elsewhere, here, kept_so, own_part}
+use Rattle.object_ops.proofs.ReadingTell.{one_all}
+
+-- ---- claims
+
+-- a claim with another stage
+abbrev pub with_stage : Claim → Staging → Claim
+with_stage claim staging = record { slot = claim.slot; flight = claim.flight; pin = claim.pin; stage = Some staging; taken = claim.taken; known = claim.known }
+
+pub held_with : (at : Key) (flight : Flight) (claim : Claim) (staging : Staging) → HoldsPut at flight claim → HoldsPut at flight (with_stage claim staging)
+held_with at flight claim staging x = record {
+  slot_is = x.slot_is;
+  of_slot = x.of_slot;
+  flight_is = x.flight_is;
+  pinless = x.pinless;
+  none_taken = x.none_taken;
+  none_known = x.none_known;
+}
+
+pub goes_with : (claim : Claim) (staging : Staging) → GoesOnWith claim (with_stage claim staging)
+goes_with claim staging = record { slot = refl; flight = refl; pin = refl; taken = refl; known = refl }
+
+-- an id that is another
+abbrev other_slot : ℕ → ℕ
+other_slot zero = 1
+other_slot (suc n) = 0
+
+pub other_fits : (n : ℕ) → other_slot n < 64
+other_fits zero = lit< tt
+other_fits (suc n) = lit< tt
+
+other_differs : (n : ℕ) → other_slot n ≢ n
+other_differs zero same = absurd (omega (arith, same))
+other_differs (suc n) same = absurd (omega (arith, same))
+
+abbrev pub other_id : VersionId → VersionId
+other_id id = record {
+  change = id.change;
+  slot = other_slot id.slot;
+  slot_fits = other_fits id.slot;
+  term_counts = id.term_counts;
+  seq_counts = id.seq_counts;
+}
+
+pub other_apart : (id : VersionId) → other_id id ≢ id
+other_apart id same = other_differs id.slot (ap (λ (x : VersionId). x.slot) same)
+
+-- what is expected of a drive, where it has been called
+abbrev pub expected_then : ℕ → DataCells → (ℕ → Expected) → ℕ → Expected
+expected_then k cells expected j = if nat_eq j k then Exactly cells else expected j
+
+exactly_is : (a b : DataCells) → Exactly a ≡ Exactly b → a ≡ b
+exactly_is a b e = cc
+
+some_staging : (a b : Staging) → Some a ≡ Some b → a ≡ b
+some_staging a b e = cc
+
+some_flying : (a b : Flying) → Some a ≡ Some b → a ≡ b
+some_flying a b e = cc
+
+-- ---- the log
+
+-- quiet events keep what a put has looked at
+pub looked_on : (bucket : List ℕ) (mode : Mode) (log : Log) (event : Event) → IsQuiet event → HasLookedAt bucket mode log → HasLookedAt bucket mode (log ++ event ∷ [])
+looked_on bucket mode log event quiet x =
+    let all = one_all IsQuiet event quiet in
+    let same = quiet_sections log (event ∷ []) all in
+    record {
+      untold = All-append IsUntold log (event ∷ []) x.untold (quiet_untold (event ∷ []) all);
+      uncut = quiet_cuts log (event ∷ []) all ∙ x.uncut;
+      idle = subst (All ChangesNothing) (sym same) x.idle;
+      look = x.look;
+      sections = same ∙ x.sections;
+      finds = x.finds;
+    }
+
+-- ---- the drives, as they are seen
+
+module _ {D : Type 0} (ghosts : Ghosts D) (o : D) (old new : List D) (long : length new ≡ length old) where
+  seen_old : (k : ℕ) → k < length old → view_at (views ghosts old) k ≡ view ghosts (slice_index_or old k o)
+  seen_old k low = view_at-views ghosts old k o low
+
+  seen_new : (k : ℕ) → k < length old → view_at (views ghosts new) k ≡ view ghosts (slice_index_or new k o)
+  seen_new k low = view_at-views ghosts new k o (omega (arith, long, low))
+
+  seen_same : (k : ℕ) → slice_index_or new k o ≡ slice_index_or old k o → view_at (views ghosts new) k ≡ view_at (views ghosts old) k
+  seen_same k same = elim (cases_lt k (length old)) [
+    | inl low ↦ seen_new k low ∙ (ap (view ghosts) same ∙ sym (seen_old k low))
+    | inr high ↦ get_or_past (views ghosts new) k blank_view (let viewed = length-views ghosts new in omega (arith, viewed, long, high))
+        ∙ sym (get_or_past (views ghosts old) k blank_view (let viewed = length-views ghosts old in omega (arith, viewed, high)))
+  ]
+
+-- ---- one call
+
+module _ {D : Type 0} (ghosts : Ghosts D) (ask : PutAsk) (work later : Work) (o : D) (old new : List D) (counted : length old ≡ ask.set.drives)
+    (long : length new ≡ length old) (steps : StepsWork ghosts work later old new) (k : ℕ)
+    (one : Stepped ghosts.tells ghosts.files ghosts.count k work.stage later.stage old new)
+    (goes : GoesOn (view_at (views ghosts old) k) (view_at (views ghosts new) k)) (claim : Claim) (log : Log) (x : Stages ask work claim log) where
+  abbrev id : VersionId
+  id = work.flight.id
+
+  abbrev before : DriveView
+  before = view_at (views ghosts old) k
+
+  abbrev after : DriveView
+  after = view_at (views ghosts new) k
+
+  inside : k < ask.set.drives
+  inside = subst (λ (s : SetPlan). k < s.drives) x.stage_of.set_is one.due.within
+
+  low : k < length old
+  low = omega (arith, counted, inside)
+
+  in_use : IsBitSet ask.set.out k → ⊥
+  in_use = subst (λ (s : SetPlan). IsBitSet s.out k → ⊥) x.stage_of.set_is one.in_use
+
+  letter : LetterOf one.answer (due_at work.stage k) before.tells (data_of id before.files) before.count after.count
+  letter =
+      subst (λ (y : VersionId). LetterOf one.answer (due_at work.stage k) before.tells (data_of y before.files) before.count after.count) x.stage_of.id_is
+      (subst₂ (λ (a b : DriveView). LetterOf one.answer (due_at work.stage k) a.tells (data_of work.stage.load.names.id a.files) a.count b.count)
+      (sym (seen_old ghosts o old new long k low)) (sym (seen_new ghosts o old new long k low)) (one.letter o))
+
+  abbrev seen : Seen
+  seen = seen_by id one.answer
+
+  was_so : WasSo seen before after
+  was_so = seen_was_so id one.answer (due_at work.stage k) before after letter
+
+  spares : IsTrue before.tells → Spares id before.files after.files
+  spares =
+      subst (λ (y : VersionId). IsTrue before.tells → Spares y before.files after.files) x.stage_of.id_is
+      (subst₂ (λ (a b : DriveView). IsTrue a.tells → Spares work.stage.load.names.id a.files b.files)
+      (sym (seen_old ghosts o old new long k low)) (sym (seen_new ghosts o old new long k low)) (one.spares o))
+
+  others : (other : ℕ) → other ≢ k → view_at (views ghosts new) other ≡ view_at (views ghosts old) other
+  others other apart = seen_same ghosts o old new long other (one.others other o apart)
+
+  pub writes : WritesUnder ask.set id k (views ghosts old) (views ghosts new)
+  writes = record {
+    inside = inside;
+    in_use = in_use;
+    goes_on = goes;
+    spares = spares;
+    long = length-views ghosts new ∙ (long ∙ sym (length-views ghosts old));
+    others = others;
+  }
+
+  -- the stage goes on for the same put, with the same bytes
+  pub stage_on : IsStageOf ask later.flight later.stage
+  stage_on = record {
+    set_is = ap (λ (l : Load). l.set) steps.load ∙ x.stage_of.set_is;
+    id_is = ap (λ (l : Load). l.names.id) steps.load ∙ (x.stage_of.id_is ∙ sym (ap (λ (f : Flight). f.id) steps.flight_is));
+    name_is = ap (λ (l : Load). string_bytes l.name) steps.load ∙ x.stage_of.name_is;
+    stated_is = ap (λ (l : Load). l.stated) steps.load ∙ x.stage_of.stated_is;
+    long_is = ap (λ (l : Load). l.long) steps.load ∙ x.stage_of.long_is;
+  }
+
+  quiet_body : body_of (log ++ Called k seen ∷ []) ≡ body_of log
+  quiet_body = quiet_bodies log (Called k seen ∷ []) (one_all IsQuiet (Called k seen) tt)
+
+  pub taken_on : HasTaken later.stage.load (body_of (log ++ Called k seen ∷ [])) x.shards
+  taken_on = subst₂ (λ (l : Load) (body : List ℕ). HasTaken l body x.shards) (sym steps.load) (sym quiet_body) x.taken
+
+  -- letters: that of the call, and those of before
+  letters_on : (j : ℕ) → j < ask.set.drives → StageLetter ask.set later.flight.id (log ++ Called k seen ∷ []) j (why_at later.stage j)
+  letters_on j below = subst (λ (f : Flight). StageLetter ask.set f.id (log ++ Called k seen ∷ []) j (why_at later.stage j)) (sym steps.flight_is)
+      (elim (eqb_tells j k) [
+        | inl same ↦ subst (λ i. StageLetter ask.set id (log ++ Called k seen ∷ []) i (why_at later.stage i)) (sym same.1) (by one.answer refl)
+        | inr apart ↦ subst (λ (w : Why). StageLetter ask.set id (log ++ Called k seen ∷ []) j w)
+            (sym (other_why one.answer k j work.stage later.stage apart.1 one.stage))
+            (letter_grows ask.set id log (Called k seen ∷ []) j (why_at work.stage j) (x.letters j below))
+      ])
+    where
+      by : (answer : Result (Unit {0}) Why) → one.answer ≡ answer → StageLetter ask.set id (log ++ Called k seen ∷ []) k (why_at later.stage k)
+      by (Ok done) is =
+          let stays : why_at later.stage k ≡ why_at work.stage k = ap (λ (all : List Why). slice_index_or all k Good)
+          (subst (λ a. IsAfter a k work.stage later.stage) is one.stage).0 in
+          subst (λ (w : Why). StageLetter ask.set id (log ++ Called k seen ∷ []) k w) (sym stays)
+          (letter_grows ask.set id log (Called k seen ∷ []) k (why_at work.stage k) (x.letters k inside))
+      by (Err why) is =
+          let there : k < length work.stage.whys = omega (arith, work.stage.letters, one.due.within) in
+          let set_to : why_at later.stage k ≡ why = ap (λ (all : List Why). slice_index_or all k Good)
+          (subst (λ a. IsAfter a k work.stage later.stage) is one.stage).0 ∙ get_or-set_same work.stage.whys k why Good there in
+          subst₂ (λ (w : Why) (a : Result (Unit {0}) Why). StageLetter ask.set id (log ++ Called k (seen_by id a) ∷ []) k w) (sym set_to) (sym is)
+          (new_letter ask.set id k why (due_at work.stage k) before.tells (data_of id before.files) before.count after.count log in_use
+          (subst (λ a. LetterOf a (due_at work.stage k) before.tells (data_of id before.files) before.count after.count) is letter))
+
+  -- all but its claim
+  pub stages_on : (next : Claim) → HoldsPut ask.at work.flight next → ClaimsSo later.stage x.shards id next → Stages ask later next (log ++ Called k seen ∷ [])
+  stages_on next held claims = record {
+    looked = subst (λ (m : Mode). HasLookedAt ask.at.bucket m (log ++ Called k seen ∷ [])) (sym steps.mode_is)
+        (looked_on ask.at.bucket work.mode log (Called k seen) tt x.looked);
+    held = subst (λ (f : Flight). HoldsPut ask.at f next) (sym steps.flight_is) held;
+    stage_of = stage_on;
+    shards = x.shards;
+    taken = taken_on;
+    letters = letters_on;
+    claims = subst (λ (f : Flight). ClaimsSo later.stage x.shards f.id next) (sym steps.flight_is) claims;
+  }
+
+  -- all but what is held
+  pub calls_on : (next : Claim) → next.slot ≡ claim.slot
+      → ((unseen : Disks) (front rest : List Claim) (own : SlotKept) → SaysUnwritten seen → own.numbers.index ≡ claim.slot
+      → KeepsData ask.set unseen (views ghosts old) (among front claim rest) own → ⊥)
+      → ((unseen : Disks) (front rest : List Claim) (own slot : SlotKept) → own.numbers.index ≡ claim.slot
+      → KeepsData ask.set unseen (views ghosts old) (among front claim rest) own → KeepsData ask.set unseen (views ghosts old) (among front claim rest) slot
+      → DataHolds slot.numbers slot.holding unseen (views ghosts new) (among front next rest) slot.records slot.state)
+      → CallMoves ask.set k seen claim next (views ghosts old) (views ghosts new)
+  calls_on next same written holds = record {
+    within = (let viewed = length-views ghosts old in omega (arith, viewed, low));
+    in_use = λ called. in_use;
+    was_so = was_so;
+    goes_on = goes;
+    keeps = λ told. spares_others id before.files after.files (spares told);
+    long = writes.long;
+    others = others;
+    slot = same;
+    written = written;
+    holds = holds;
+  }
+
+  -- ---- a claim that no store meets
+
+  unmet : (unseen : Disks) (front rest : List Claim) (own : SlotKept) (staging : Staging) → claim.stage ≡ Some staging → own.numbers.index ≡ claim.slot
+      → KeepsData ask.set unseen (views ghosts old) (among front claim rest) own
+      → (staging.id ≡ id) × DisksTell ask.set (views ghosts old)
+      × ((j : ℕ) → j < ask.set.drives → (IsBitSet ask.set.out j → ⊥) → IsExpected (staging.expected j) (data_of staging.id (view_at (views ghosts old) j).files))
+  unmet unseen front rest own staging staged mine kept =
+      let met = met_mine own.numbers.set own.numbers.index (last_of own.numbers) own.holding unseen (views ghosts old) front rest claim
+      (record { id = id; name = key_name ask.at }) own.records own.state (sym mine) x.held.flight_is x.held.none_known kept.holds in
+      let put = met.staged staging staged in (
+        put.2 ∙ ap (λ (f : Flying). f.id) (some_flying put.0 (record { id = id; name = key_name ask.at }) (sym put.1 ∙ x.held.flight_is)),
+        subst (λ (s : SetPlan). DisksTell s (views ghosts old)) kept.set_is kept.holds.tell,
+        subst (λ (s : SetPlan). (j : ℕ) → j < s.drives → (IsBitSet s.out j → ⊥)
+            → IsExpected (staging.expected j) (data_of staging.id (view_at (views ghosts old) j).files)) kept.set_is (met.works staging staged),
+      )
+
+  -- what a step of it gives
+  abbrev pub Steps : Type 0
+  Steps = (next : Claim) × Stages ask later next (log ++ Called k seen ∷ []) × CallMoves ask.set k seen claim next (views ghosts old) (views ghosts new)
+
+  void_step : (staging : Staging) → claim.stage ≡ Some staging → staging.id ≢ id → Steps
+  void_step staging staged apart = (
+    claim,
+    stages_on claim x.held (staging, staged, inl apart),
+    calls_on claim refl (λ unseen front rest own says mine kept_own. absurd (apart (unmet unseen front rest own staging staged mine kept_own).0)) (λ unseen front rest own slot mine kept_own kept. absurd (apart (unmet unseen front rest own staging staged mine kept_own).0)),
+  )
+
+  -- what is expected of the drive that was called isn't there, or it tells nothing
+  lost_step : (staging : Staging) → claim.stage ≡ Some staging → (worked : HasWorked work.stage x.shards k (staging.expected k))
+      → (IsTrue before.tells → data_of id before.files ≡ worked.cells → ⊥) → Steps
+  lost_step staging staged worked lost =
+      let void : Staging = record { id = other_id id; expected = staging.expected } in (
+        with_stage claim void,
+        stages_on (with_stage claim void) (held_with ask.at work.flight claim void x.held) (void, refl, inl (other_apart id)),
+        calls_on (with_stage claim void) refl (λ unseen front rest own says mine kept_own.
+            let u = unmet unseen front rest own staging staged mine kept_own in
+            lost (u.1.tell k inside in_use)
+            (subst (λ (y : VersionId). data_of y before.files ≡ worked.cells) u.0
+            (subst (λ (e : Expected). IsExpected e (data_of staging.id before.files)) worked.is (u.2 k inside in_use)))) (λ unseen front rest own slot mine kept_own kept.
+            let u = unmet unseen front rest own staging staged mine kept_own in
+            absurd (lost (u.1.tell k inside in_use)
+            (subst (λ (y : VersionId). data_of y before.files ≡ worked.cells) u.0
+            (subst (λ (e : Expected). IsExpected e (data_of staging.id before.files)) worked.is (u.2 k inside in_use))))),
+      )
+
+  -- it is there
+  module _ (staging : Staging) (staged : claim.stage ≡ Some staging) (claims : ClaimsStage work.stage x.shards id staging)
+      (told : IsTrue before.tells) (worked : HasWorked work.stage x.shards k (staging.expected k)) (matched : data_of id before.files ≡ worked.cells) where
+    abbrev now : DataCells
+    now = data_of id after.files
+
+    abbrev mine : List (List ℕ)
+    mine = slice_index_or x.shards k []
+
+    of_drive : IsOfDrive work.stage.load k (Some mine)
+    of_drive = (
+      x.taken.of_body,
+      ap (λ l. slice_index_or l k []) x.taken.tables
+          ∙ get_or-map _ x.shards k [] [] (let all = x.taken.are.count in let low = one.due.within in omega (arith, all, low)),
+    )
+
+    at_new : AtWork later.stage (Some mine) k no_cells now
+    at_new =
+        subst₂ (λ (y : VersionId) (v : DriveView). AtWork later.stage (Some mine) k no_cells (data_of y v.files)) x.stage_of.id_is
+        (sym (seen_new ghosts o old new long k low))
+        (steps.works k o (Some mine) no_cells one.due.within of_drive
+        (subst (λ (v : DriveView). IsTrue v.tells) (seen_old ghosts o old new long k low) told)
+        (subst₂ (λ (y : VersionId) (v : DriveView). AtWork work.stage (Some mine) k no_cells (data_of y v.files)) (sym x.stage_of.id_is)
+        (seen_old ghosts o old new long k low) (subst (AtWork work.stage (Some mine) k no_cells) (sym matched) worked.at_work)))
+
+    abbrev anew : Staging
+    anew = record { id = staging.id; expected = expected_then k now staging.expected }
+
+    abbrev next : Claim
+    next = with_stage claim anew
+
+    then_here : anew.expected k ≡ Exactly now
+    then_here = elim (eqb_tells k k) [
+      | inl same ↦ ap (λ b. cond b (Exactly now) (staging.expected k)) same.0
+      | inr apart ↦ absurd (apart.1 refl)
+    ]
+
+    then_other : (j : ℕ) → j ≢ k → anew.expected j ≡ staging.expected j
+    then_other j apart = elim (eqb_tells j k) [
+      | inl same ↦ absurd (apart same.1)
+      | inr differs ↦ ap (λ b. cond b (Exactly now) (staging.expected j)) differs.0
+    ]
+
+    claims_on : ClaimsStage later.stage x.shards id anew
+    claims_on = record {
+      id_is = claims.id_is;
+      works = λ j below used. elim (eqb_tells j k) [
+        | inl same ↦ subst (λ i. HasWorked later.stage x.shards i (anew.expected i)) (sym same.1) (record { cells = now; is = then_here; at_work = at_new })
+        | inr apart ↦
+            let had = claims.works j (subst (λ (l : Load). j < l.set.drives) steps.load below) (subst (λ (l : Load). IsInUse l.set j) steps.load used) in
+            record {
+              cells = had.cells;
+              is = then_other j apart.1 ∙ had.is;
+              at_work = works_on_others one.answer k j work.stage later.stage (Some (slice_index_or x.shards j [])) no_cells had.cells apart.1 one.stage steps.load
+                  had.at_work;
+            }
+      ];
+    }
+
+    -- what the call leaves of the manifest
+    moves : (s : SetPlan) (unseen : Disks) → DisksTell s (views ghosts old) → WritesUnder s id k (views ghosts old) (views ghosts new)
+        → ManifestMoves ask.at id (kept_on (disks_of unseen s.out (views ghosts old)) k (manifest_name id))
+        (kept_on (disks_of unseen s.out (views ghosts new)) k (manifest_name id))
+    moves s unseen tell wrote =
+        let kept = ap (λ n. n (manifest_name id)) (kept_then s unseen id k (views ghosts old) (views ghosts new) tell wrote) in
+        elim (work_manifest later.stage mine k now at_new) [
+          | inl none ↦ IsNone (kept ∙ none)
+          | inr placed ↦
+              let body = body_of (log ++ Called k seen ∷ []) in
+              let m = manifest_in later.stage.load body x.shards in
+              IsPut m
+              (subst (λ (f : Flight). IsMade ask.at f.id m) steps.flight_is (is_made ask later.flight later.stage body x.shards stage_on taken_on placed.0))
+              (kept ∙ (placed.1 ∙ ap (λ (b : List ℕ). Some b) (taken_on.made placed.0).manifest))
+        ]
+
+    -- its own claim is met
+    met_next : (s : SetPlan) (holding : Holding) (unseen : Disks) → IsMet s holding unseen (views ghosts old) claim
+        → IsMet s holding unseen (views ghosts new) next
+    met_next s holding unseen met = record {
+      flight = met.flight;
+      pin = met.pin;
+      staged = λ given is.
+          let put = met.staged staging staged in
+          (put.0, put.1, ap (λ (y : Staging). y.id) (sym (some_staging anew given is)) ∙ put.2);
+      works = λ given is j below used.
+          subst (λ (y : Staging). IsExpected (y.expected j) (data_of y.id (view_at (views ghosts new) j).files)) (some_staging anew given is)
+          (elim (eqb_tells j k) [
+            | inl same ↦ subst (λ i. IsExpected (anew.expected i) (data_of staging.id (view_at (views ghosts new) i).files)) (sym same.1)
+                (subst (λ (e : Expected). IsExpected e (data_of staging.id after.files)) (sym then_here)
+                (ap (λ (y : VersionId). data_of y after.files) claims.id_is))
+            | inr apart ↦ subst₂ (λ (e : Expected) (v : DriveView). IsExpected e (data_of staging.id v.files)) (sym (then_other j apart.1)) (sym (others j apart.1))
+                (met.works staging staged j below used)
+          ]);
+      known = met.known;
+      unwritten = met.unwritten;
+    }
+
+    -- the data of each slot goes on to hold
+    holds_on : (unseen : Disks) (front rest : List Claim) (own slot : SlotKept) → own.numbers.index ≡ claim.slot
+        → KeepsData ask.set unseen (views ghosts old) (among front claim rest) own → KeepsData ask.set unseen (views ghosts old) (among front claim rest) slot
+        → DataHolds slot.numbers slot.holding unseen (views ghosts new) (among front next rest) slot.records slot.state
+    holds_on unseen front rest own slot of_own kept_own kept =
+        let f : Flying = record { id = id; name = key_name ask.at } in
+        let wrote_own = subst (λ (s : SetPlan). WritesUnder s id k (views ghosts old) (views ghosts new)) (sym kept_own.set_is) writes in
+        let wrote = subst (λ (s : SetPlan). WritesUnder s id k (views ghosts old) (views ghosts new)) (sym kept.set_is) writes in
+        elim (eqb_tells claim.slot slot.numbers.index) [
+          | inl same ↦
+              here slot.numbers slot.holding slot.records slot.state unseen front rest claim next ask.at f k (views ghosts old) (views ghosts new) same.1
+              x.held.flight_is refl x.held.none_known (goes_with claim anew) wrote (moves slot.numbers.set unseen kept.holds.tell wrote) kept.stands kept.holds
+              (met_next slot.numbers.set slot.holding unseen
+              (met_mine slot.numbers.set slot.numbers.index (last_of slot.numbers) slot.holding unseen (views ghosts old) front rest claim f slot.records slot.state
+              same.1 x.held.flight_is x.held.none_known kept.holds))
+          | inr other ↦
+              elsewhere slot.numbers slot.holding slot.records slot.state unseen front rest claim next ask.at f k (views ghosts old) (views ghosts new) other.1
+              (goes_with claim anew) (x.held.of_slot ∙ sym x.held.slot_is) wrote
+              (λ m other_part keeps has.
+              let set_same : slot.numbers.set ≡ own.numbers.set = kept.set_is ∙ sym kept_own.set_is in
+              let keeps_own = subst (λ (s : SetPlan). Keeps s (disks_of unseen s.out (views ghosts new)) id m) set_same keeps in
+              elim (kept_so own.numbers.set unseen ask.at id k (views ghosts old) (views ghosts new) kept_own.holds.tell wrote_own
+              (moves own.numbers.set unseen kept_own.holds.tell wrote_own) m keeps_own) [
+                | inl was ↦ kept_own.holds.stands.files.of_slot id other_part (x.held.of_slot ∙ (sym x.held.slot_is ∙ sym of_own))
+                    (record { manifest = m; kept = was; part = has }) ∙ of_own
+                | inr made ↦ ap (λ (y : VersionId). y.slot) (own_part m id other_part made.single has) ∙ (x.held.of_slot ∙ sym x.held.slot_is)
+              ])
+              kept.stands kept.holds
+        ]
+
+    lacking : (why : Why) → one.answer ≡ Err why
+        → (HasBy why (due_at later.stage k) (block_at k later.stage.load.window) later.stage.load.made.manifest.items (Some mine) no_cells now → ⊥) → ⊥
+    lacking why is empty =
+        let there : k < length work.stage.whys = omega (arith, work.stage.letters, one.due.within) in
+        let set_to : why_at later.stage k ≡ why = ap (λ (all : List Why). slice_index_or all k Good)
+            (subst (λ a. IsAfter a k work.stage later.stage) is one.stage).0 ∙ get_or-set_same work.stage.whys k why Good there in
+        empty (subst (λ (w : Why). HasBy w (due_at later.stage k) (block_at k later.stage.load.window) later.stage.load.made.manifest.items (Some mine) no_cells now)
+        set_to at_new.has)
+
+    -- a drive that tells has what was written
+    never : (answer : Result (Unit {0}) Why) → one.answer ≡ answer → SaysUnwritten (seen_by id answer) → ⊥
+    never (Ok done) is says = says
+    never (Err Good) is says = says
+    never (Err (Failed b a)) is says = says
+    never (Err (Damaged damage)) is says = says
+    never (Err (Behind ballot)) is says = says
+    never (Err (Lacks Format)) is says = says
+    never (Err (Lacks Register)) is says = says
+    never (Err (Lacks ManifestKind)) is says = lacking (Lacks ManifestKind) is (λ has. has)
+    never (Err (Lacks ShardKind)) is says = lacking (Lacks ShardKind) is (λ has. has)
+
+    met_step : Steps
+    met_step = (
+      next,
+      stages_on next (held_with ask.at work.flight claim anew x.held) (anew, refl, inr claims_on),
+      calls_on next refl (λ unseen front rest own says of_own kept_own. never one.answer refl says) holds_on,
+    )
+
+  pub step_on : Steps
+  step_on = by x.claims
+    where
+      by : ClaimsSo work.stage x.shards id claim → Steps
+      by (staging, staged, inl apart) = void_step staging staged apart
+      by (staging, staged, inr claims) =
+          let worked = claims.works k one.due.within one.in_use in
+          elim (cases_Bool before.tells) [
+            | inr silent ↦ lost_step staging staged worked (λ told matched. absurd cc)
+            | inl told ↦ elim (same_cells (data_of id before.files) worked.cells) [
+              | inl matched ↦ met_step staging staged claims told worked matched
+              | inr apart ↦ lost_step staging staged worked (λ tells matched. apart matched)
+            ]
+          ]
+
+-- ---- over a list of drives
+
+pub steps_so : {D : Type 0} (ghosts : Ghosts D) (ask : PutAsk) (work later : Work) (old new : List D) → length old ≡ ask.set.drives → length new ≡ length old
+    → StepsWork ghosts work later old new → (claim : Claim) (log : Log) → Stages ask work claim log
+    → (next : Claim) × (k : ℕ) × (seen : Seen) × Stages ask later next (log ++ Called k seen ∷ []) × CallMoves ask.set k seen claim next (views ghosts old) (views ghosts new)
+steps_so ghosts ask work later [] new counted long steps claim log x = elim steps.once [
+  | inl one ↦ let below = subst (λ (p : SetPlan). one.0 < p.drives) x.stage_of.set_is one.1.due.within in absurd (omega (arith, counted, below))
+  | inr none ↦ let fewer = subst (λ s. calls_left s < calls_left work.stage) none.1 steps.fewer in absurd (omega (arith, fewer))
+]
+steps_so ghosts ask work later (o ∷ rest) new counted long steps claim log x = elim steps.once [
+  | inl one ↦
+      let k = one.0 in
+      let below = subst (λ (p : SetPlan). k < p.drives) x.stage_of.set_is one.1.due.within in
+      let low : k < length (o ∷ rest) = omega (arith, counted, below) in
+      let goes : GoesOn (view_at (views ghosts (o ∷ rest)) k) (view_at (views ghosts new) k) =
+      subst₂ GoesOn (sym (seen_old ghosts o (o ∷ rest) new long k low)) (sym (seen_new ghosts o (o ∷ rest) new long k low))
+      (record { tells = steps.tells k o low; count = steps.counts k o low }) in
+      let got = step_on ghosts ask work later o (o ∷ rest) new counted long steps k one.1 goes claim log x in
+      (got.0, k, seen_by work.flight.id one.1.answer, got.1, got.2)
+  | inr none ↦ let fewer = subst (λ s. calls_left s < calls_left work.stage) none.1 steps.fewer in absurd (omega (arith, fewer))
+]

@@ -1,0 +1,14 @@
+use Rattle.std.proofs.Common.{◌≡◌, sym, subst}
+use Rattle.receipts.specs.Registers.{key_slot}
+use Rattle.op_steps.specs.Words.{IsSection}
+use Rattle.op_steps.specs.declared.next.OpNext.TheVariants.{Section}
+use Rattle.object_ops.specs.Put.{step_at}
+use Rattle.object_ops.proofs.PutLefts.{section_ends}
+use Rattle.object_ops.proofs.put_steps.PutOpOp.section.Goals as goal
+
+pub end-requires-clause-state : goal.end-requires-clause-state
+end-requires-clause-state g c =
+    let op = c.args.self.now in
+    let work = c.in-Staging.field-0 in
+    let step = subst (λ s. step_at op.at op.clearing s ≡ Section c.args.slot.now.index) c.in-Staging.is c.requires.next in
+    (work, c.in-Staging.is, section_ends (key_slot op.at) work.next (subst IsSection (sym step) tt))

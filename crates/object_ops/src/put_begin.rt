@@ -1,0 +1,76 @@
+//! How the op of a PutObject begins.
+
+ghost use Rattle.std.specs.Prelude.{◌≡◌, ◌<◌, ◌≤◌, ℕ, [], IfOk, length};
+ghost use Rattle.desk_base.specs.Calls.{IsKey};
+ghost use Rattle.version_list.specs.State.{IsMoment};
+ghost use Rattle.op_steps.specs.Claims.{no_claim};
+ghost use Rattle.object_ops.specs.PutBegin.{IsNewPut, IsPut};
+
+use crate::clearing::Clearing;
+use crate::put_op::PutOp;
+use crate::put_state::PutState;
+use call_types::Key;
+use desk_base::Call;
+use drive_base::SetPlan;
+use fault_base::NoMemory;
+use op_steps::Op;
+use seal_file::Text;
+use slot_history::{bucket_name, key_name};
+use std::alloc::Global;
+
+impl PutOp {
+    /// The op of a PutObject, made in this Unix second, on a store over this set. It has done nothing yet.
+    pub fn new(alloc: Global, set: SetPlan, call: &Call, now: u64) -> Result<PutOp, NoMemory>
+        requires put { IsPut call.now }
+        requires moment { IsMoment now }
+        ensures set { IfOk result (λ op. ⟦<PutOp as Op>⟧.set op ≡ set) }
+        ensures task { IfOk result (λ op. ⟦<PutOp as Op>⟧.task op ≡ record { call = call.now; now = now }) }
+        ensures taken { IfOk result (λ op. ⟦<PutOp as Op>⟧.taken op ≡ 0) }
+        ensures begins { IfOk result (λ op. (slot : ℕ) × (slot < 64) × ⟦<PutOp as Op>⟧.stands op (no_claim slot) []) }
+    {
+        match call {
+            Call::Put {
+                at,
+                kind,
+                md5,
+                length,
+            } => PutOp::of(alloc, set, at, kind, *md5, *length, now),
+            _ => Err(NoMemory),
+        }
+    }
+
+    /// The op of a PutObject of this key.
+    fn of(
+        alloc: Global,
+        set: SetPlan,
+        at: &Key,
+        kind: &Text,
+        md5: Option<[u8; 16]>,
+        long: u64,
+        now: u64,
+    ) -> Result<PutOp, NoMemory>
+        requires key { IsKey at.now }
+        requires kind { length kind.now ≤ 255 }
+        requires few { long ≤ 5368709120 }
+        requires moment { IsMoment now }
+        ensures { IfOk result (IsNewPut set at.now kind.now md5 long now) }
+    {
+        let name = bucket_name(alloc, &at.bucket)?;
+        let register = key_name(alloc, at)?;
+        let key = at.clone()?;
+        let own_kind = kind.clone()?;
+        Ok(PutOp {
+            set,
+            at: key,
+            kind: own_kind,
+            md5,
+            long,
+            name,
+            register,
+            now,
+            read: 0,
+            state: PutState::Looking,
+            clearing: Clearing::none(alloc),
+        })
+    }
+}
