@@ -33,6 +33,8 @@ pub mod PutPlaces
 pub mod PutRefused
 pub mod PutSound
 pub mod PutStep
+pub mod PutStepClaims
+pub mod PutSteps
 pub mod PutTurns
 pub mod PutWrites
 pub mod ReadingBars

@@ -34,7 +34,7 @@ use Rattle.object_ops.specs.declared.put_state.PutState.TheVariants as state
 use Rattle.object_ops.specs.declared.put_work.Work.{Work}
 use Rattle.object_ops.specs.declared.removal.Removal.{Removal}
 use Rattle.object_ops.proofs.PutLogs.{decided_stands}
-use Rattle.object_ops.proofs.PutStep.{looked_on}
+use Rattle.object_ops.proofs.PutStepClaims.{looked_on}
 use Rattle.object_ops.proofs.ReadingBars.{bar_fresh, key_bars, slot_in}
 use Rattle.object_ops.proofs.ReadingLook.{bars}
 use Rattle.object_ops.proofs.ReadingTell.{fresh_pays, one_all}

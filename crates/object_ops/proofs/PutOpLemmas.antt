@@ -65,7 +65,8 @@ use Rattle.object_ops.specs.PutFeeding.{FillsTo, feed_cut}
 use Rattle.object_ops.specs.declared.put_feeding.PutFed.{PutFed}
 use Rattle.object_ops.proofs.PutLogs.{cut_pays, fill_on, look_stands}
 use Rattle.object_ops.proofs.PutHolders.{out_or_used}
-use Rattle.object_ops.proofs.PutStep.{looked_on, steps_so}
+use Rattle.object_ops.proofs.PutStepClaims.{looked_on}
+use Rattle.object_ops.proofs.PutSteps.{steps_so}
 use Rattle.object_ops.proofs.RemovalLemmas.{removal_is_call}
 use Rattle.object_ops.proofs.TellingLemmas.{pays_on}
 use Rattle.object_ops.proofs.ReadingTell.{fresh_pays, one_all, quiet_fresh}

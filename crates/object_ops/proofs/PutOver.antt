@@ -59,7 +59,7 @@ use Rattle.object_ops.proofs.KeyCommitLemmas.{EndsSo, changes_so, refused_commit
 use Rattle.object_ops.proofs.PutCommits.{PutSays, commit_turn, put_claim}
 use Rattle.object_ops.proofs.PutEnds.{DropSays, drop_turn}
 use Rattle.object_ops.proofs.PutLogs.{put_agrees, puts_body, stage_owes}
-use Rattle.object_ops.proofs.PutStep.{looked_on}
+use Rattle.object_ops.proofs.PutStepClaims.{looked_on}
 use Rattle.object_ops.proofs.ReadingTell.{one_all}
 use Rattle.object_ops.proofs.TellingLemmas.{pays_on, untold_after}
 

@@ -1,23 +1,20 @@
 -- One call of a stage, as a step of a put.
-use Rattle.std.proofs.Common.{◌≡◌, ◌≢◌, ◌⊎◌, ◌∙◌, ◌<◌, ◌≤◌, ◌+◌, ℕ, zero, suc, Bool, true, false, IsTrue, List, [], ◌∷◌, ◌++◌, All, Some, cond, length, nat_eq, slice_index_or, string_bytes, inl, inr, refl, sym, ap, subst, subst₂, arith, lit<}
+use Rattle.std.proofs.Common.{◌≡◌, ◌≢◌, ◌∙◌, ◌<◌, ◌+◌, ℕ, IsTrue, List, [], ◌∷◌, ◌++◌, Some, cond, length, slice_index_or, string_bytes, inl, inr, refl, sym, ap, subst, subst₂, arith}
 use Rattle.std.specs.Prelude.{Result, Ok, Err, if◌then◌else◌}
 use Rattle.std.specs.Int.{IsBitSet}
 use Rattle.std.proofs.lemmas.Bool.Decides.{eqb_tells}
-use Rattle.std.proofs.lemmas.Bool.{cases_Bool, cases_lt}
-use Rattle.std.proofs.lemmas.List.Elements.{All-append}
-use Rattle.std.proofs.lemmas.List.{get_or-map, get_or-set_same, get_or_past}
-use Rattle.call_types.specs.declared.names.Key.{Key}
+use Rattle.std.proofs.lemmas.Bool.{cases_Bool}
+use Rattle.std.proofs.lemmas.List.{get_or-map, get_or-set_same}
 use Rattle.call_types.specs.declared.names.Mode.{Mode}
 use Rattle.call_types.specs.declared.why.Why.{Why}
 use Rattle.call_types.specs.declared.why.Why.TheVariants.{Behind, Damaged, Failed, Good, Lacks}
 use Rattle.call_types.specs.declared.why.FileKind.TheVariants.{Format, Register, Manifest as ManifestKind, Shard as ShardKind}
-use Rattle.drive_base.specs.View.{DriveView, GoesOn, blank_view, view, view_at, views}
+use Rattle.drive_base.specs.View.{DriveView, GoesOn, view_at, views}
 use Rattle.drive_base.specs.declared.drive.Drive.{Ghosts}
 use Rattle.drive_base.specs.declared.plan.SetPlan.{SetPlan}
-use Rattle.drive_base.proofs.ViewLemmas.{length-views, view_at-views}
+use Rattle.drive_base.proofs.ViewLemmas.{length-views}
 use Rattle.body_print.specs.Names.{manifest_name}
 use Rattle.put_stage.specs.Cells.{DataCells, Spares, data_of}
-use Rattle.put_stage.specs.Left.{calls_left}
 use Rattle.put_stage.specs.Stepping.{IsAfter, LetterOf, Stepped}
 use Rattle.put_stage.specs.Taking.{HasTaken, manifest_in}
 use Rattle.put_stage.specs.Coding.{block_at}
@@ -31,11 +28,10 @@ use Rattle.slot_core.specs.Views.{last_of}
 use Rattle.slot_core.specs.declared.handles.Flight.{Flight}
 use Rattle.slot_data.specs.Disks.{Disks, Keeps, kept_on}
 use Rattle.slot_data.specs.Holding.{Holding}
-use Rattle.receipts.specs.Events.{Event, IsQuiet, IsUntold, Log, Seen, body_of, sections_of}
+use Rattle.receipts.specs.Events.{IsQuiet, Log, Seen, body_of}
 use Rattle.receipts.specs.Events.Event.{Called}
 use Rattle.receipts.specs.Letters.{IsInUse, StageLetter}
-use Rattle.receipts.specs.Paying.{ChangesNothing}
-use Rattle.receipts.proofs.GrowLemmas.{quiet_bodies, quiet_cuts, quiet_sections, quiet_untold}
+use Rattle.receipts.proofs.GrowLemmas.{quiet_bodies}
 use Rattle.op_steps.specs.Claims.{Claim, DataHolds, DisksTell, Expected, IsExpected, IsMet, Staging, among, disks_of}
 use Rattle.op_steps.specs.Claims.Expected.{Exactly}
 use Rattle.op_steps.specs.Moves.{CallMoves, KeepsData, SaysUnwritten, SlotKept, WasSo}
@@ -47,99 +43,9 @@ use Rattle.object_ops.proofs.PutCells.{same_cells}
 use Rattle.object_ops.proofs.PutDisks.{WritesUnder, kept_then, spares_others}
 use Rattle.object_ops.proofs.PutMine.{met_mine}
 use Rattle.object_ops.proofs.PutPlaces.{is_made, letter_grows, new_letter, seen_by, seen_was_so, work_manifest}
-use Rattle.object_ops.proofs.PutWrites.{GoesOnWith, IsMade, IsNone, IsPut, ManifestMoves, elsewhere, here, kept_so, own_part}
+use Rattle.object_ops.proofs.PutWrites.{IsMade, IsNone, IsPut, ManifestMoves, elsewhere, here, kept_so, own_part}
 use Rattle.object_ops.proofs.ReadingTell.{one_all}
-
--- ---- claims
-
--- a claim with another stage
-abbrev pub with_stage : Claim → Staging → Claim
-with_stage claim staging = record { slot = claim.slot; flight = claim.flight; pin = claim.pin; stage = Some staging; taken = claim.taken; known = claim.known }
-
-pub held_with : (at : Key) (flight : Flight) (claim : Claim) (staging : Staging) → HoldsPut at flight claim → HoldsPut at flight (with_stage claim staging)
-held_with at flight claim staging x = record {
-  slot_is = x.slot_is;
-  of_slot = x.of_slot;
-  flight_is = x.flight_is;
-  pinless = x.pinless;
-  none_taken = x.none_taken;
-  none_known = x.none_known;
-}
-
-pub goes_with : (claim : Claim) (staging : Staging) → GoesOnWith claim (with_stage claim staging)
-goes_with claim staging = record { slot = refl; flight = refl; pin = refl; taken = refl; known = refl }
-
--- an id that is another
-abbrev other_slot : ℕ → ℕ
-other_slot zero = 1
-other_slot (suc n) = 0
-
-pub other_fits : (n : ℕ) → other_slot n < 64
-other_fits zero = lit< tt
-other_fits (suc n) = lit< tt
-
-other_differs : (n : ℕ) → other_slot n ≢ n
-other_differs zero same = absurd (omega (arith, same))
-other_differs (suc n) same = absurd (omega (arith, same))
-
-abbrev pub other_id : VersionId → VersionId
-other_id id = record {
-  change = id.change;
-  slot = other_slot id.slot;
-  slot_fits = other_fits id.slot;
-  term_counts = id.term_counts;
-  seq_counts = id.seq_counts;
-}
-
-pub other_apart : (id : VersionId) → other_id id ≢ id
-other_apart id same = other_differs id.slot (ap (λ (x : VersionId). x.slot) same)
-
--- what is expected of a drive, where it has been called
-abbrev pub expected_then : ℕ → DataCells → (ℕ → Expected) → ℕ → Expected
-expected_then k cells expected j = if nat_eq j k then Exactly cells else expected j
-
-exactly_is : (a b : DataCells) → Exactly a ≡ Exactly b → a ≡ b
-exactly_is a b e = cc
-
-some_staging : (a b : Staging) → Some a ≡ Some b → a ≡ b
-some_staging a b e = cc
-
-some_flying : (a b : Flying) → Some a ≡ Some b → a ≡ b
-some_flying a b e = cc
-
--- ---- the log
-
--- quiet events keep what a put has looked at
-pub looked_on : (bucket : List ℕ) (mode : Mode) (log : Log) (event : Event) → IsQuiet event → HasLookedAt bucket mode log → HasLookedAt bucket mode (log ++ event ∷ [])
-looked_on bucket mode log event quiet x =
-    let all = one_all IsQuiet event quiet in
-    let same = quiet_sections log (event ∷ []) all in
-    record {
-      untold = All-append IsUntold log (event ∷ []) x.untold (quiet_untold (event ∷ []) all);
-      uncut = quiet_cuts log (event ∷ []) all ∙ x.uncut;
-      idle = subst (All ChangesNothing) (sym same) x.idle;
-      look = x.look;
-      sections = same ∙ x.sections;
-      finds = x.finds;
-    }
-
--- ---- the drives, as they are seen
-
-module _ {D : Type 0} (ghosts : Ghosts D) (o : D) (old new : List D) (long : length new ≡ length old) where
-  seen_old : (k : ℕ) → k < length old → view_at (views ghosts old) k ≡ view ghosts (slice_index_or old k o)
-  seen_old k low = view_at-views ghosts old k o low
-
-  seen_new : (k : ℕ) → k < length old → view_at (views ghosts new) k ≡ view ghosts (slice_index_or new k o)
-  seen_new k low = view_at-views ghosts new k o (omega (arith, long, low))
-
-  seen_same : (k : ℕ) → slice_index_or new k o ≡ slice_index_or old k o → view_at (views ghosts new) k ≡ view_at (views ghosts old) k
-  seen_same k same = elim (cases_lt k (length old)) [
-    | inl low ↦ seen_new k low ∙ (ap (view ghosts) same ∙ sym (seen_old k low))
-    | inr high ↦ get_or_past (views ghosts new) k blank_view (let viewed = length-views ghosts new in omega (arith, viewed, long, high))
-        ∙ sym (get_or_past (views ghosts old) k blank_view (let viewed = length-views ghosts old in omega (arith, viewed, high)))
-  ]
-
--- ---- one call
+use Rattle.object_ops.proofs.PutStepClaims.{with_stage, held_with, goes_with, other_id, other_apart, expected_then, some_staging, some_flying, looked_on, seen_old, seen_new, seen_same}
 
 module _ {D : Type 0} (ghosts : Ghosts D) (ask : PutAsk) (work later : Work) (o : D) (old new : List D) (counted : length old ≡ ask.set.drives)
     (long : length new ≡ length old) (steps : StepsWork ghosts work later old new) (k : ℕ)
@@ -482,25 +388,3 @@ module _ {D : Type 0} (ghosts : Ghosts D) (ask : PutAsk) (work later : Work) (o 
               | inr apart ↦ lost_step staging staged worked (λ tells matched. apart matched)
             ]
           ]
-
--- ---- over a list of drives
-
-pub steps_so : {D : Type 0} (ghosts : Ghosts D) (ask : PutAsk) (work later : Work) (old new : List D) → length old ≡ ask.set.drives → length new ≡ length old
-    → StepsWork ghosts work later old new → (claim : Claim) (log : Log) → Stages ask work claim log
-    → (next : Claim) × (k : ℕ) × (seen : Seen) × Stages ask later next (log ++ Called k seen ∷ []) × CallMoves ask.set k seen claim next (views ghosts old) (views ghosts new)
-steps_so ghosts ask work later [] new counted long steps claim log x = elim steps.once [
-  | inl one ↦ let below = subst (λ (p : SetPlan). one.0 < p.drives) x.stage_of.set_is one.1.due.within in absurd (omega (arith, counted, below))
-  | inr none ↦ let fewer = subst (λ s. calls_left s < calls_left work.stage) none.1 steps.fewer in absurd (omega (arith, fewer))
-]
-steps_so ghosts ask work later (o ∷ rest) new counted long steps claim log x = elim steps.once [
-  | inl one ↦
-      let k = one.0 in
-      let below = subst (λ (p : SetPlan). k < p.drives) x.stage_of.set_is one.1.due.within in
-      let low : k < length (o ∷ rest) = omega (arith, counted, below) in
-      let goes : GoesOn (view_at (views ghosts (o ∷ rest)) k) (view_at (views ghosts new) k) =
-      subst₂ GoesOn (sym (seen_old ghosts o (o ∷ rest) new long k low)) (sym (seen_new ghosts o (o ∷ rest) new long k low))
-      (record { tells = steps.tells k o low; count = steps.counts k o low }) in
-      let got = step_on ghosts ask work later o (o ∷ rest) new counted long steps k one.1 goes claim log x in
-      (got.0, k, seen_by work.flight.id one.1.answer, got.1, got.2)
-  | inr none ↦ let fewer = subst (λ s. calls_left s < calls_left work.stage) none.1 steps.fewer in absurd (omega (arith, fewer))
-]
