@@ -1,5 +1,5 @@
 -- What the call that removes a file gave, and where among the drives.
-use Rattle.std.proofs.Common.{◌≡◌, ◌≢◌, ◌⊎◌, ◌≤◌, ◌<◌, ◌∙◌, ◌+◌, ◌^◌, ◌==◌, ℕ, suc, Bool, true, false, bit_and, IsTrue, List, [], ◌∷◌, ◌++◌, All, Result, Ok, Err, append-nil, append_assoc, cond, length, slice_index_or, slice_set, get_or-set_other, get_or-set_same, inl, inr, refl, sym, ap, ap₂, subst, subst₂, arith}
+use Rattle.std.proofs.Common.{◌≡◌, ◌≢◌, ◌⊎◌, ◌<◌, ◌∙◌, ◌+◌, ◌^◌, ◌==◌, ℕ, suc, true, false, bit_and, IsTrue, List, [], ◌∷◌, ◌++◌, All, Result, Ok, Err, append-nil, append_assoc, cond, length, slice_index_or, slice_set, get_or-set_other, get_or-set_same, inl, inr, refl, sym, ap, ap₂, subst, subst₂, arith}
 use Rattle.std.specs.Int.{IsBitSet}
 use Rattle.std.proofs.lemmas.Bool.Decides.{eqb_tells}
 use Rattle.std.proofs.lemmas.List.{length-set, map-set, map_push}

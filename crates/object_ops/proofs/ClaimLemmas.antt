@@ -1,5 +1,5 @@
 -- What an op changes of its own claim among those of others, where it is to remove other ids.
-use Rattle.std.proofs.Common.{◌≡◌, ◌≢◌, ◌⊎◌, ◌∙◌, ◌<◌, ℕ, zero, Some, List, ◌∷◌, ◌++◌, Contains, cond, option_to_list, option_map, inl, inr, refl, sym, ap, subst, arith}
+use Rattle.std.proofs.Common.{◌≡◌, ◌≢◌, ◌⊎◌, ◌∙◌, ℕ, zero, Some, List, ◌∷◌, ◌++◌, Contains, cond, option_to_list, option_map, inl, inr, refl, sym, ap, subst, arith}
 use Rattle.std.specs.List.{flat_map}
 use Rattle.std.proofs.lemmas.Bool.Decides.{eqb_tells}
 use Rattle.std.proofs.lemmas.Grind.{flat_map-append}
@@ -11,11 +11,11 @@ use Rattle.slot_history.specs.Standing.{Flying, Records}
 use Rattle.slot_history.specs.State.{State}
 use Rattle.slot_history.proofs.TakenLemmas.{rest_there, there_cases}
 use Rattle.slot_data.specs.Disks.{Disks}
-use Rattle.slot_data.specs.Holding.{Hands, Holding, Known, Pinned}
+use Rattle.slot_data.specs.Holding.{Holding, Known, Pinned}
 use Rattle.slot_data.specs.Moves.{with_taken as hands_with}
 use Rattle.slot_data.specs.Standing.{DataStands}
 use Rattle.slot_data.proofs.HandsLemmas.{hands_are_freed}
-use Rattle.op_steps.specs.Claims.{AllApart, Claim, among, claims_at, flights_in, hands_of, is_at, pins_in}
+use Rattle.op_steps.specs.Claims.{AllApart, Claim, among, claims_at, hands_of, is_at}
 use Rattle.op_steps.proofs.DataLemmas.{claims_elsewhere}
 use Rattle.object_ops.specs.Clearing.{with_taken}
 

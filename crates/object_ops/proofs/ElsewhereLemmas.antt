@@ -1,5 +1,5 @@
 -- The data of a slot stands while files of another slot's data are removed.
-use Rattle.std.proofs.Common.{◌≡◌, ◌≢◌, ◌∙◌, ℕ, ◌<◌, List, Option, None, Some, inl, inr, refl, sym, subst}
+use Rattle.std.proofs.Common.{◌≡◌, ◌≢◌, ◌∙◌, ℕ, List, Option, None, Some, inl, inr, refl, sym, subst}
 use Rattle.stamp_id.specs.declared.version.VersionId.{VersionId}
 use Rattle.drive_base.specs.Plan.{write_drives}
 use Rattle.drive_base.specs.declared.plan.SetPlan.{SetPlan}
@@ -7,7 +7,6 @@ use Rattle.manifest_file.specs.Spelling.{file_of}
 use Rattle.manifest_file.specs.declared.manifest.Manifest.{Manifest}
 use Rattle.body_print.specs.Names.{manifest_name}
 use Rattle.slot_history.specs.Contents.{NamedData}
-use Rattle.slot_history.specs.Names.{key_name}
 use Rattle.slot_history.specs.Standing.{Records}
 use Rattle.slot_history.specs.State.{State}
 use Rattle.slot_data.specs.DiskLaws.{IsRemoved, StaysOrGoes}

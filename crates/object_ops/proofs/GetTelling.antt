@@ -41,7 +41,7 @@ use Rattle.object_ops.specs.declared.reading.Reading.{Reading}
 use Rattle.object_ops.specs.declared.reading.Stepped.{Stepped}
 use Rattle.object_ops.proofs.ReadingCalls.{logged_all}
 use Rattle.object_ops.proofs.ReadingFetch.{fetched}
-use Rattle.object_ops.proofs.ReadingPays.{head_cut, head_owed, head_told, of_front, of_version, piece_cut, piece_told, ready, the_task, whole_pays}
+use Rattle.object_ops.proofs.ReadingPays.{head_cut, head_owed, head_told, of_front, of_version, piece_cut, piece_told, the_task, whole_pays}
 
 module _ (set : SetPlan) (at : Key) (pick : Pick) (ask : RangeAsk) (now : ℕ) where
   abbrev task : Task

@@ -1,5 +1,5 @@
 -- The removals that are planned: of which ids, from which drives, and how many.
-use Rattle.std.proofs.Common.{◌≡◌, ◌⊎◌, ◌∙◌, ◌<◌, ◌≤◌, ◌+◌, ◌*◌, ◌^◌, ◌==◌, ℕ, zero, suc, Bool, true, false, bit_and, List, [], ◌∷◌, ◌++◌, All, Contains, Result, Ok, Err, cond, length, map, take, filter, not, inl, inr, refl, sym, ap, subst, arith}
+use Rattle.std.proofs.Common.{◌≡◌, ◌<◌, ◌≤◌, ◌*◌, ◌^◌, ◌==◌, ℕ, zero, suc, Bool, true, false, bit_and, List, [], ◌∷◌, All, Contains, Result, Ok, cond, length, map, filter, not, inl, inr, refl, sym, ap, subst, arith}
 use Rattle.std.specs.Int.{IsBitSet}
 use Rattle.std.specs.List.{flat_map, list_any}
 use Rattle.std.proofs.Math.Nat.{mul-le-mul_right}

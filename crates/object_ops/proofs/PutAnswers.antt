@@ -1,5 +1,5 @@
 -- The end of a put, as its section has it.
-use Rattle.std.proofs.Common.{◌≡◌, ◌∙◌, ◌<◌, ◌≤◌, ℕ, Bool, List, Option, Some, None, Result, Ok, Err, IsUtf8, length, refl, sym, ap, subst}
+use Rattle.std.proofs.Common.{◌≡◌, ◌∙◌, ◌≤◌, ℕ, Bool, List, Option, Some, None, Result, IsUtf8, length, refl, sym, subst}
 use Rattle.call_types.specs.declared.feed.Cut.TheVariants as cut
 use Rattle.call_types.specs.declared.names.Key.{Key}
 use Rattle.call_types.specs.declared.refusal.Refusal.{Refusal}
@@ -24,18 +24,15 @@ use Rattle.receipts.specs.Registers.{key_slot}
 use Rattle.op_steps.specs.Looking.{AreOnlyRead}
 use Rattle.op_steps.specs.Store.{SlotSeen}
 use Rattle.op_steps.specs.Words.{TurnsSo}
-use Rattle.object_ops.specs.Put.{long_by}
 use Rattle.object_ops.specs.PutStands.{IsSamePut, PutStands, PutStandsAt, ask_of}
-use Rattle.object_ops.specs.Putting.{AfterCommit, Answers, Ends, put_deed, refusal_of_stage}
+use Rattle.object_ops.specs.Putting.{AfterCommit, Ends, put_deed}
 use Rattle.object_ops.specs.declared.clearing.Clearing.{Clearing}
 use Rattle.object_ops.specs.declared.put_op.PutOp.{PutOp}
 use Rattle.object_ops.specs.declared.put_state.PutState.{PutState}
 use Rattle.object_ops.specs.declared.put_state.PutState.TheVariants.{Staging, Telling, Told}
 use Rattle.object_ops.specs.declared.put_work.Work.{Work}
 use Rattle.object_ops.specs.declared.putting.PutEnd.TheVariants.{Commits, GivesUp}
-use Rattle.object_ops.proofs.PutCommits.{PutSays}
 use Rattle.object_ops.proofs.PutEnds.{DropSays}
-use Rattle.object_ops.proofs.PutLefts.{all_read}
 use Rattle.object_ops.proofs.PutNext.{may_finish}
 use Rattle.object_ops.proofs.PutOpLemmas.{stands_on}
 use Rattle.object_ops.proofs.PutOver.{commit_so, lacks_so, refuse_so}

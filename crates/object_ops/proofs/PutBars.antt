@@ -1,8 +1,7 @@
 -- What a PutObject stands for where a section can't be done.
-use Rattle.std.proofs.Common.{◌≡◌, ◌⊎◌, ◌∙◌, ◌+◌, ℕ, true, false, List, [], ◌∷◌, ◌++◌, Option, Some, length, inl, inr, refl, sym, ap, subst, arith}
+use Rattle.std.proofs.Common.{◌≡◌, ◌⊎◌, ◌∙◌, ℕ, true, false, List, [], ◌∷◌, ◌++◌, Option, Some, length, inl, inr, refl, sym, ap, subst, arith}
 use Rattle.std.proofs.lemmas.List.Elements.{Contains-push}
 use Rattle.call_types.specs.declared.feed.Cut.{Cut}
-use Rattle.call_types.specs.declared.feed.Cut.TheVariants as cut
 use Rattle.call_types.specs.declared.names.Mode.{Mode}
 use Rattle.call_types.specs.declared.names.Mode.TheVariants.{Never}
 use Rattle.call_types.specs.declared.refusal.Refusal.TheVariants as refusal
@@ -13,7 +12,6 @@ use Rattle.slot_core.specs.declared.handles.Flight.{Flight}
 
 use Rattle.receipts.specs.Events.{IsQuiet, Log}
 use Rattle.receipts.specs.Events.Event.{BarredFrom}
-use Rattle.receipts.specs.Paying.{Pays}
 use Rattle.receipts.specs.Registers.{bucket_slot, key_slot}
 use Rattle.receipts.specs.declared.barred.Barred.{Barred}
 use Rattle.receipts.specs.declared.barred.Barred.TheVariants as barred
@@ -21,7 +19,7 @@ use Rattle.receipts.proofs.GrowLemmas.{quiet_bodies}
 use Rattle.op_steps.specs.Claims.{Claim, no_claim}
 use Rattle.op_steps.specs.Words.{BarredSo, IsSection}
 use Rattle.op_steps.proofs.TellLemmas.{none_pays, none_told}
-use Rattle.object_ops.specs.Clearing.{HasNone, files_left, with_taken}
+use Rattle.object_ops.specs.Clearing.{HasNone, with_taken}
 use Rattle.op_steps.specs.declared.next.OpNext.TheVariants.{Section}
 use Rattle.object_ops.specs.Reading.{HasFound}
 use Rattle.object_ops.specs.Put.{PutAsk, step_at, task_of, work_step}

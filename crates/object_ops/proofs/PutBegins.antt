@@ -1,5 +1,5 @@
 -- A put begins, as a step: its flight is held, and its stage, which has done nothing yet.
-use Rattle.std.proofs.Common.{◌≡◌, ◌≢◌, ◌⊎◌, ◌∙◌, ◌<◌, ◌≤◌, ◌+◌, ◌*◌, ◌^◌, ℕ, Bool, List, [], ◌∷◌, ◌++◌, Contains, Option, Some, None, Result, Ok, Err, option_to_list, option_map, length, inl, inr, refl, sym, ap, ap₂, subst, subst₂, arith}
+use Rattle.std.proofs.Common.{◌≡◌, ◌∙◌, ◌<◌, ◌≤◌, ◌+◌, ◌*◌, ◌^◌, ℕ, Bool, List, [], ◌∷◌, ◌++◌, Contains, Option, Some, None, Result, Ok, option_to_list, option_map, inl, inr, refl, sym, ap, ap₂, subst, subst₂, arith}
 use Rattle.std.specs.Int.{IsBitSet}
 use Rattle.std.specs.List.{flat_map}
 use Rattle.std.proofs.lemmas.Grind.{flat_map-append}
@@ -10,7 +10,7 @@ use Rattle.drive_base.specs.View.{DriveView, view_at}
 use Rattle.drive_base.specs.declared.plan.SetPlan.{SetPlan}
 use Rattle.drive_base.proofs.ViewLemmas.{untouched_are_only_read}
 use Rattle.body_print.specs.Names.{manifest_name, shard_name}
-use Rattle.put_stage.specs.Cells.{DataCells, data_of}
+use Rattle.put_stage.specs.Cells.{data_of}
 use Rattle.stamp_id.specs.declared.version.VersionId.{VersionId}
 use Rattle.version_list.specs.State.{AreDistinct}
 use Rattle.slot_history.specs.Contents.{number_of_id}
@@ -24,7 +24,7 @@ use Rattle.slot_data.specs.Moves.{with_flight}
 use Rattle.slot_data.specs.Standing.{DataStands}
 use Rattle.slot_data.proofs.ListedLemmas.{one_there, put_last}
 use Rattle.slot_core.specs.Hands.{HandsStay}
-use Rattle.slot_core.specs.Sections.{BeginsPut, PutHolds, ShowsNoMore}
+use Rattle.slot_core.specs.Sections.{PutHolds, ShowsNoMore}
 use Rattle.slot_core.specs.Turning.{Leaves, TurnsQuietly}
 use Rattle.slot_core.specs.Views.{last_of}
 use Rattle.slot_core.specs.declared.fault.SlotFault.{SlotFault}
@@ -32,10 +32,10 @@ use Rattle.slot_core.specs.declared.handles.Flight.{Flight}
 use Rattle.slot_core.specs.declared.stub.Stub.{Stub}
 use Rattle.receipts.specs.Events.Shown.{NoneShown}
 use Rattle.receipts.specs.Registers.{key_slot}
-use Rattle.op_steps.specs.Claims.{AllApart, Claim, HoldsAt, IsExpected, IsMet, KeepsNone, Staging, among, claims_at, disks_of, flights_in, hands_of, no_claim, pins_in}
+use Rattle.op_steps.specs.Claims.{AllApart, Claim, HoldsAt, IsExpected, IsMet, KeepsNone, Staging, among, claims_at, disks_of, flights_in, hands_of, no_claim}
 use Rattle.op_steps.specs.Claims.Expected.{Exactly}
 use Rattle.op_steps.specs.Moves.{TurnMoves}
-use Rattle.op_steps.specs.Store.{LanesStand, SlotSeen}
+use Rattle.op_steps.specs.Store.{SlotSeen}
 use Rattle.op_steps.proofs.DataLemmas.{last_rises}
 use Rattle.object_ops.specs.PutStands.{HoldsPut, no_cells}
 use Rattle.object_ops.proofs.ClaimLemmas.{at_own}

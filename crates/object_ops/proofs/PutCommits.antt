@@ -1,28 +1,25 @@
 -- The commit of a put, as a step: its data has its holders, and nothing is held of the slot after it.
-use Rattle.std.proofs.Common.{◌≡◌, ◌≢◌, ◌⊎◌, ◌∙◌, ◌<◌, ◌≤◌, ℕ, List, [], ◌∷◌, ◌++◌, All, Contains, Option, Some, None, Result, Ok, Err, MatchOption, append-nil, length, inl, inr, refl, sym, ap, subst, subst₂, arith}
+use Rattle.std.proofs.Common.{◌≡◌, ◌∙◌, ℕ, List, [], ◌∷◌, Contains, Option, Some, None, Result, Ok, inl, inr, refl, sym, ap, subst, subst₂}
 use Rattle.std.proofs.lemmas.List.Elements.{Contains-append_left, Contains-push}
 use Rattle.audit_trail.specs.declared.entry.Entry.{Entry}
-use Rattle.call_types.specs.declared.act.Act.{Act}
-use Rattle.call_types.specs.declared.act.Act.TheVariants as act
 use Rattle.call_types.specs.declared.names.Key.{Key}
 use Rattle.call_types.specs.declared.names.Mode.{Mode}
-use Rattle.drive_base.specs.View.{DriveView, views}
+use Rattle.drive_base.specs.View.{views}
 use Rattle.drive_base.specs.declared.drive.Drive.{Ghosts}
 use Rattle.drive_base.specs.declared.plan.SetPlan.{SetPlan}
 use Rattle.put_stage.specs.Taking.{HasTaken}
 use Rattle.put_stage.specs.declared.stage.Stage.{Stage}
 use Rattle.put_stage.specs.declared.staged.Staged.{Staged}
-use Rattle.stamp_id.specs.declared.version.VersionId.{VersionId}
 use Rattle.slot_history.specs.Contents.{NamedData}
 use Rattle.slot_history.specs.Names.{key_name}
 use Rattle.slot_history.specs.Standing.{Flying, Records}
 use Rattle.slot_history.specs.State.{State, TakesOut}
 use Rattle.slot_data.specs.Disks.{Disks, HasHolders}
-use Rattle.slot_data.specs.Holding.{Hands, Holding, IsInFlight, IsPinned, Known, Pinned}
+use Rattle.slot_data.specs.Holding.{Hands, Holding, IsPinned, Known, Pinned}
 use Rattle.slot_data.specs.Moves.{with_known}
 use Rattle.slot_data.specs.Standing.{DataStands, IsListed}
 use Rattle.slot_data.proofs.HandsLemmas.{holders_are_known}
-use Rattle.slot_core.specs.Committing.{CommitHolds, FitsFlight, FlightEnds, MayCommitData, SaysCommit, ShowsTrash, brings_of, name_of}
+use Rattle.slot_core.specs.Committing.{CommitHolds, MayCommitData, SaysCommit, ShowsTrash}
 use Rattle.slot_core.specs.Stubs.{Says, entry_of}
 use Rattle.slot_core.specs.Turning.{EntryMoves, Leaves, Turns}
 use Rattle.slot_core.specs.Views.{last_of}

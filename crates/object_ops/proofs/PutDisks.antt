@@ -1,22 +1,21 @@
 -- What a call on the files of one id leaves on the data drives.
-use Rattle.std.proofs.Common.{◌≡◌, ◌≢◌, ◌⊎◌, ◌∙◌, ◌<◌, ◌^◌, ◌==◌, ℕ, Bool, true, false, IsTrue, bit_and, List, Option, Some, None, cond, drop, length, inl, inr, refl, sym, ap, subst, subst₂, arith}
+use Rattle.std.proofs.Common.{◌≡◌, ◌≢◌, ◌∙◌, ◌<◌, ◌^◌, ◌==◌, ℕ, false, IsTrue, bit_and, List, None, cond, drop, length, inl, inr, sym, ap, subst, arith}
 use Rattle.std.specs.Int.{IsBitSet}
 use Rattle.std.specs.Str.{bytes_eq}
 use Rattle.std.proofs.lemmas.Bool.Decides.{eqb_tells}
 use Rattle.std.proofs.lemmas.List.FromFn.{get_or-map-range_with_len}
 use Rattle.stamp_id.specs.declared.version.VersionId.{VersionId}
-use Rattle.drive_base.specs.Files.{Files, LooseFile, Named}
+use Rattle.drive_base.specs.Files.{Files, Named}
 use Rattle.drive_base.specs.View.{DriveView, GoesOn, view_at}
 use Rattle.drive_base.specs.declared.plan.SetPlan.{SetPlan}
 use Rattle.body_print.specs.Names.{loose_manifest_name, loose_shard_name, manifest_name, shard_name}
-use Rattle.put_stage.specs.Cells.{DataCells, IsNeither, Spares, data_of}
-use Rattle.put_stage.specs.Working.{HasNoneLoose}
+use Rattle.put_stage.specs.Cells.{IsNeither, Spares, data_of}
 use Rattle.slot_history.proofs.MemberLemmas.{same_or_other}
 use Rattle.slot_history.proofs.NameLemmas.{first_bytes, hex_texts_are_one}
 use Rattle.slot_data.specs.DiskLaws.{IsElsewhere, OnlyUnder}
 use Rattle.slot_data.specs.Disks.{Disks, kept_on}
 use Rattle.op_steps.specs.Claims.{DisksTell, counted_on, disks_of}
-use Rattle.op_steps.specs.Moves.{IsDataName, IsLooseName, KeepsOthers}
+use Rattle.op_steps.specs.Moves.{IsDataName, KeepsOthers}
 
 -- one drive in use was called; where it tells, it spares all names but the four of an id; no other drive was called
 pub record WritesUnder (set : SetPlan) (id : VersionId) (k : ℕ) (old new : List DriveView) : Type 0 where

@@ -1,35 +1,31 @@
 -- A put ends: it is given up, or committed. Its flight is listed no more, and nothing is held of the slot.
-use Rattle.std.proofs.Common.{◌≡◌, ◌≢◌, ◌⊎◌, ◌∙◌, ◌<◌, ◌≤◌, ℕ, Bool, List, [], ◌∷◌, ◌++◌, Contains, Option, Some, None, Result, Ok, Err, option_to_list, option_map, append-nil, length, inl, inr, refl, sym, ap, ap₂, subst, subst₂, arith}
+use Rattle.std.proofs.Common.{◌≡◌, ◌≢◌, ◌∙◌, ◌≤◌, ℕ, Bool, List, [], ◌∷◌, ◌++◌, Contains, Option, Some, None, Result, option_to_list, option_map, inl, inr, refl, sym, ap, ap₂, subst, subst₂, arith}
 use Rattle.std.specs.List.{flat_map}
 use Rattle.std.proofs.lemmas.Grind.{flat_map-append}
 use Rattle.drive_base.specs.Files.{Files}
-use Rattle.drive_base.specs.View.{AllOnlyRead, DriveView, views}
-use Rattle.drive_base.specs.declared.drive.Drive.{Ghosts}
+use Rattle.drive_base.specs.View.{DriveView}
 use Rattle.drive_base.specs.declared.plan.SetPlan.{SetPlan}
 use Rattle.drive_base.proofs.ViewLemmas.{untouched_are_only_read}
 use Rattle.stamp_id.specs.declared.version.VersionId.{VersionId}
-use Rattle.audit_trail.specs.declared.entry.Entry.{Entry}
 use Rattle.version_list.specs.State.{AreDistinct}
 use Rattle.slot_history.specs.Standing.{Flying, Records}
 use Rattle.slot_history.specs.State.{State, TakesOut}
 use Rattle.slot_history.proofs.TakenLemmas.{left_apart, left_there, none_there, taken_or_left}
 use Rattle.slot_data.specs.Disks.{Disks}
-use Rattle.slot_data.specs.Holding.{Hands, Holding, IsInFlight, Known, Pinned}
-use Rattle.slot_data.specs.Moves.{given_up}
+use Rattle.slot_data.specs.Holding.{Hands, Holding, Known, Pinned}
 use Rattle.slot_data.specs.Standing.{DataStands}
 use Rattle.slot_core.specs.Sections.{MayGiveUp, PutGoes, ShowsNoMore}
-use Rattle.slot_core.specs.Stubs.{entry_of}
 use Rattle.slot_core.specs.Turning.{EntryMoves, Leaves, TurnsQuietly}
 use Rattle.slot_core.specs.Views.{last_of}
 use Rattle.slot_core.specs.declared.fault.SlotFault.{SlotFault}
 use Rattle.slot_core.specs.declared.stub.Stub.{Stub}
 use Rattle.receipts.specs.Events.Shown.{NoneShown}
-use Rattle.op_steps.specs.Claims.{AllApart, Claim, HoldsAt, IsMet, among, claims_at, disks_of, flights_in, hands_of, no_claim, pins_in}
-use Rattle.op_steps.specs.Moves.{TurnLeaves, TurnMoves}
-use Rattle.op_steps.specs.Store.{LanesStand, SlotSeen}
+use Rattle.op_steps.specs.Claims.{AllApart, Claim, HoldsAt, IsMet, among, claims_at, disks_of, flights_in, hands_of, no_claim}
+use Rattle.op_steps.specs.Moves.{TurnMoves}
+use Rattle.op_steps.specs.Store.{SlotSeen}
 use Rattle.op_steps.proofs.DataLemmas.{last_rises}
 use Rattle.object_ops.proofs.ClaimLemmas.{at_own}
-use Rattle.object_ops.proofs.PutMine.{Other, Own, distinct, flights_with, flights_without, listed, met_other, mine, other_flight, still_claimed, unknown, whose}
+use Rattle.object_ops.proofs.PutMine.{Other, Own, distinct, flights_without, listed, met_other, mine, other_flight, still_claimed, unknown, whose}
 use Rattle.object_ops.proofs.ReadingLists.{none_some, of_some, out_distinct}
 
 -- a claim holds a put, and no more

@@ -1,6 +1,5 @@
 -- Bytes that a PutObject takes of its body, as steps.
-use Rattle.std.proofs.Common.{◌≡◌, ◌⊎◌, ◌∙◌, ◌<◌, ◌≤◌, ◌+◌, ℕ, zero, suc, Bool, true, false, ◌==◌, List, [], ◌∷◌, ◌++◌, All, Option, Some, None, MatchOption, length, inl, inr, refl, sym, ap, subst, cond, arith}
-use Rattle.std.specs.Prelude.{if◌then◌else◌}
+use Rattle.std.proofs.Common.{◌≡◌, ◌<◌, ℕ, zero, suc, Bool, true, false, ◌==◌, List, [], ◌∷◌, ◌++◌, All, Some, None, MatchOption, length, inl, inr, refl, sym, subst, cond, arith}
 use Rattle.audit_trail.specs.declared.entry.Deed.TheVariants.{Kept}
 use Rattle.call_types.specs.declared.feed.Cut.{Cut}
 use Rattle.call_types.specs.declared.feed.Cut.TheVariants as cut
@@ -8,30 +7,25 @@ use Rattle.call_types.specs.declared.names.Key.{Key}
 use Rattle.call_types.specs.declared.reply.Reply.{Reply}
 use Rattle.put_stage.specs.declared.stage.StageNext.{StageNext}
 use Rattle.put_stage.specs.declared.stage.StageNext.TheVariants.{Fill, Finish, Step}
-use Rattle.put_stage.specs.Left.{calls_left}
 use Rattle.drive_base.specs.declared.plan.SetPlan.{SetPlan}
-use Rattle.receipts.specs.Events.{Log, Section, body_of, sections_of}
+use Rattle.receipts.specs.Events.{Log, Section, sections_of}
 use Rattle.receipts.specs.Events.Event.{Fed}
-use Rattle.receipts.specs.Looks.{EndsAtLook, HasEntry, IsIdle}
+use Rattle.receipts.specs.Looks.{HasEntry, IsIdle}
 use Rattle.receipts.specs.Paying.{ChangesNothing, LeavesAll, Pays}
 use Rattle.receipts.specs.Registers.{key_slot}
-use Rattle.op_steps.specs.Claims.{Claim}
 use Rattle.op_steps.specs.Moves.{FeedCause, FeedMoves}
 use Rattle.op_steps.specs.Store.{FeedSeen}
 use Rattle.op_steps.specs.Words.{FeedsSo}
 use Rattle.op_steps.specs.declared.next.OpNext.{OpNext}
 use Rattle.op_steps.specs.declared.next.OpNext.TheVariants as next
-use Rattle.object_ops.specs.Clearing.{files_left, left_of as left_to_clear, next_of}
+use Rattle.object_ops.specs.Clearing.{files_left, next_of}
 use Rattle.object_ops.specs.Put.{PutAsk, left_at, long_by, step_at, task_of, work_step}
 use Rattle.object_ops.specs.PutFeeding.{DrainsTo, FeedsTo, FillsTo, feed_cut}
-use Rattle.object_ops.specs.PutStands.{Drains, HoldsRest, IsDecided, PutStandsAt}
-use Rattle.object_ops.specs.Removing.{files_of}
-use Rattle.object_ops.specs.declared.removal.Removal.{Removal}
+use Rattle.object_ops.specs.PutStands.{Drains, IsDecided, PutStandsAt}
 use Rattle.object_ops.specs.declared.clearing.Clearing.{Clearing}
 use Rattle.object_ops.specs.declared.put_feeding.PutFed.{PutFed}
 use Rattle.object_ops.specs.declared.put_state.PutState.{PutState}
 use Rattle.object_ops.specs.declared.put_state.PutState.TheVariants as state
-use Rattle.object_ops.specs.declared.put_work.Work.{Work}
 use Rattle.object_ops.proofs.PutLefts.{owes_left}
 use Rattle.object_ops.proofs.PutLogs.{cut_pays, decided_stands, drain_on}
 use Rattle.object_ops.proofs.PutOpLemmas.{fill_so, left_on}

@@ -1,7 +1,7 @@
 -- The log of a PutObject after each of its steps.
-use Rattle.std.proofs.Common.{◌≡◌, ◌≢◌, ◌⊎◌, ◌∙◌, ◌<◌, ◌≤◌, ◌+◌, ℕ, List, [], ◌∷◌, ◌++◌, All, Contains, Option, Some, None, append-nil, length, length-append, slice_index_or, inl, inr, refl, sym, ap, ap₂, subst, subst₂, arith}
-use Rattle.std.specs.Prelude.{Result, Ok, Err}
-use Rattle.std.proofs.lemmas.List.Elements.{All-append, Contains-append_left, Contains-push}
+use Rattle.std.proofs.Common.{◌≡◌, ◌⊎◌, ◌∙◌, ◌<◌, ◌≤◌, ◌+◌, ℕ, List, [], ◌∷◌, ◌++◌, All, Option, Some, None, append-nil, length, length-append, slice_index_or, inl, inr, refl, sym, ap, ap₂, subst, subst₂, arith}
+use Rattle.std.specs.Prelude.{Ok, Err}
+use Rattle.std.proofs.lemmas.List.Elements.{All-append, Contains-append_left}
 use Rattle.call_types.specs.declared.feed.Cut.{Cut}
 use Rattle.call_types.specs.declared.feed.Cut.TheVariants as cut
 use Rattle.call_types.specs.declared.names.Key.{Key}
@@ -31,20 +31,18 @@ use Rattle.receipts.specs.Paying.{ChangesNothing, Pays}
 use Rattle.receipts.specs.Paying.Outcome.{CutOff}
 use Rattle.receipts.specs.Putting.{IsAgreed, PutOwes, PutsBody}
 use Rattle.receipts.specs.Registers.{bucket_slot, key_slot}
-use Rattle.receipts.specs.declared.barred.Barred.{Barred}
 use Rattle.receipts.specs.declared.barred.Barred.TheVariants as barred
-use Rattle.receipts.proofs.JoinLemmas.{bodies_join, cuts_join, sections_join}
-use Rattle.op_steps.specs.Claims.{Claim, Staging}
+use Rattle.receipts.proofs.JoinLemmas.{bodies_join, sections_join}
+use Rattle.op_steps.specs.Claims.{Claim}
 use Rattle.op_steps.specs.Moves.{FeedMoves}
 use Rattle.op_steps.specs.Notes.{noted}
 use Rattle.op_steps.specs.Store.{FeedSeen}
 use Rattle.op_steps.proofs.TellLemmas.{cuts_after, none_pays, none_told}
-use Rattle.object_ops.specs.Reading.{HasFound}
 use Rattle.object_ops.specs.Looking.{SaysBucket}
 use Rattle.object_ops.specs.Put.{PutAsk, task_of}
 use Rattle.object_ops.specs.PutFeeding.{FillsOn, feed_cut}
-use Rattle.object_ops.specs.PutStands.{ClaimsSo, ClaimsStage, Drains, HasLookedAt, HasWorked, HoldsPut, HoldsRest, IsDecided, IsStageOf, PutStandsAt, Stages, no_cells}
-use Rattle.object_ops.specs.Putting.{AfterLook, Answers, OwesNext, put_deed, refusal_of_stage}
+use Rattle.object_ops.specs.PutStands.{ClaimsSo, Drains, HasLookedAt, HoldsPut, HoldsRest, IsDecided, PutStandsAt, Stages, no_cells}
+use Rattle.object_ops.specs.Putting.{AfterLook, Answers, OwesNext, refusal_of_stage}
 use Rattle.object_ops.specs.declared.clearing.Clearing.{Clearing}
 use Rattle.object_ops.specs.declared.looking.Looked.{Looked}
 use Rattle.object_ops.specs.declared.looking.Looked.TheVariants as looked
@@ -52,8 +50,7 @@ use Rattle.object_ops.specs.declared.put_state.PutState.{PutState}
 use Rattle.object_ops.specs.declared.put_state.PutState.TheVariants as state
 use Rattle.object_ops.specs.declared.put_work.Work.{Work}
 use Rattle.object_ops.proofs.PutPlaces.{letter_grows}
-use Rattle.object_ops.proofs.ReadingLook.{AfterLook as LogAfterLook, bars, looks}
-use Rattle.object_ops.proofs.ReadingBars.{bar_fresh, key_bars}
+use Rattle.object_ops.proofs.ReadingLook.{looks}
 use Rattle.object_ops.proofs.ReadingTell.{fresh_pays, one_all}
 
 some_why : (a b : Refusal) → Some a ≡ Some b → a ≡ b

@@ -1,7 +1,6 @@
 -- The claim of a put among the claims of its slot: no other claim is of its flight, and none knows holders of its data.
-use Rattle.std.proofs.Common.{◌≡◌, ◌≢◌, ◌⊎◌, ◌∙◌, ℕ, List, [], ◌∷◌, ◌++◌, Contains, Option, Some, None, cond, option_to_list, option_map, inl, inr, refl, sym, ap, subst}
+use Rattle.std.proofs.Common.{◌≡◌, ◌≢◌, ◌∙◌, ℕ, List, [], ◌∷◌, ◌++◌, Contains, Option, Some, None, option_to_list, option_map, inl, inr, sym, ap, subst}
 use Rattle.std.specs.List.{flat_map}
-use Rattle.std.proofs.lemmas.Bool.Decides.{eqb_tells}
 use Rattle.std.proofs.lemmas.Grind.{flat_map-append}
 use Rattle.std.proofs.lemmas.List.Elements.{Contains-append_left, Contains-append_right, Contains-append_cases}
 use Rattle.drive_base.specs.View.{DriveView}
@@ -12,9 +11,8 @@ use Rattle.slot_history.specs.State.{State}
 use Rattle.slot_history.proofs.TakenLemmas.{first_there, none_there, rest_there, there_cases}
 use Rattle.slot_data.specs.Disks.{Disks}
 use Rattle.slot_data.specs.Holding.{Holding, Known}
-use Rattle.slot_data.specs.Standing.{DataStands}
 use Rattle.version_list.specs.State.{AreDistinct}
-use Rattle.op_steps.specs.Claims.{AllApart, Claim, HoldsAt, IsMet, among, claims_at, disks_of, flights_in, hands_of}
+use Rattle.op_steps.specs.Claims.{AllApart, Claim, HoldsAt, IsMet, among, claims_at, flights_in, hands_of}
 use Rattle.object_ops.proofs.ClaimLemmas.{at_own}
 use Rattle.object_ops.proofs.ReadingLists.{flat_has, flat_there, out_apart}
 

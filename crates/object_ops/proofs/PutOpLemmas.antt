@@ -1,20 +1,17 @@
 -- The steps of a PutObject, as an op does them.
-use Rattle.std.proofs.Common.{◌≡◌, ◌≢◌, ◌⊎◌, ◌∙◌, ◌<◌, ◌≤◌, ◌+◌, ℕ, Bool, true, false, List, [], ◌∷◌, ◌++◌, Contains, Option, Some, None, Result, Ok, Err, IfOk, append-nil, length, replicate, slice_index_or, inl, inr, refl, sym, ap, subst, subst₂, arith}
+use Rattle.std.proofs.Common.{◌≡◌, ◌∙◌, ◌<◌, ◌+◌, ℕ, Bool, true, false, List, [], ◌∷◌, ◌++◌, Option, Some, None, Result, Ok, Err, IfOk, append-nil, length, replicate, slice_index_or, inl, inr, refl, sym, ap, subst, subst₂, arith}
 use Rattle.std.specs.Int.{IsBitSet}
 use Rattle.std.proofs.lemmas.List.{get_or-replicate}
 use Rattle.std.proofs.lemmas.List.Elements.{Contains-append_left}
 use Rattle.call_types.specs.declared.feed.Cut.{Cut}
-use Rattle.call_types.specs.declared.feed.Cut.TheVariants as cut
 use Rattle.call_types.specs.declared.names.Key.{Key}
 use Rattle.call_types.specs.declared.names.Mode.{Mode}
 use Rattle.fault_base.specs.declared.memory.NoMemory.{NoMemory}
-use Rattle.call_types.specs.declared.refusal.Refusal.TheVariants as refusal
 use Rattle.call_types.specs.declared.reply.Reply.{Reply}
 use Rattle.call_types.specs.declared.reply.Reply.TheVariants.{Found}
 use Rattle.desk_base.specs.Answering.{bytes_after}
 use Rattle.desk_base.specs.Telling.{Effect}
 use Rattle.desk_base.specs.Telling.Telling.{Head as TheHead}
-use Rattle.call_types.specs.declared.why.Why.{Why}
 use Rattle.drive_base.specs.Files.{Files}
 use Rattle.drive_base.specs.View.{DriveView, views}
 use Rattle.drive_base.specs.declared.drive.Drive.{Ghosts}
@@ -26,7 +23,6 @@ use Rattle.slot_history.specs.Standing.{Flying}
 use Rattle.slot_core.specs.Stubs.{StubOfNone}
 use Rattle.slot_core.specs.Views.{SlotNumbers}
 use Rattle.slot_core.specs.declared.fault.SlotFault.{SlotFault}
-use Rattle.slot_core.specs.declared.fault.SlotFault.TheVariants as slot
 use Rattle.slot_core.specs.declared.handles.Flight.{Flight}
 use Rattle.slot_core.specs.declared.stub.Stub.{Stub}
 use Rattle.receipts.specs.Events.{Event, IsQuiet, Log, Seen, Shown, body_of}
@@ -40,7 +36,7 @@ use Rattle.receipts.proofs.JoinLemmas.{bodies_join}
 use Rattle.receipts.proofs.RegisterLemmas.{key_slot_below}
 use Rattle.op_steps.specs.Claims.{Claim, no_claim}
 use Rattle.op_steps.specs.Moves.{CallMoves, FeedMoves, TellMoves, TurnMoves}
-use Rattle.op_steps.specs.Notes.{noted, note_of}
+use Rattle.op_steps.specs.Notes.{noted}
 use Rattle.op_steps.specs.Store.{FeedSeen, SlotSeen, TellerSeen}
 use Rattle.op_steps.specs.Words.{CallsSo, FeedsSo, TellsSo, TurnsSo}
 use Rattle.op_steps.proofs.TellLemmas.{told_pays}
@@ -52,7 +48,7 @@ use Rattle.object_ops.specs.PutBegin.{IsNewPut}
 use Rattle.object_ops.specs.PutStands.{ClaimsSo, HasLookedAt, HoldsPut, HoldsRest, IsSamePut, PutStands, PutStandsAt, Stages, ask_of, no_cells}
 use Rattle.object_ops.specs.declared.put_op.PutOp.{PutOp}
 use Rattle.object_ops.specs.PutWork.{BeginsStage, BeginsWork, StepsWork}
-use Rattle.object_ops.specs.Putting.{AfterLook, RefusedBegin}
+use Rattle.object_ops.specs.Putting.{AfterLook}
 use Rattle.object_ops.specs.Removing.{AreDue, files_of, ids_of}
 use Rattle.object_ops.specs.declared.clearing.Clearing.{Clearing}
 use Rattle.object_ops.specs.declared.looking.Look.{Look}

@@ -1,6 +1,5 @@
 -- The section that ends a put, as an op does it: its body is committed, or it is given up.
-use Rattle.std.proofs.Common.{◌≡◌, ◌⊎◌, ◌∙◌, ◌<◌, ◌≤◌, ◌+◌, ℕ, Bool, List, [], ◌∷◌, ◌++◌, All, Contains, Option, Some, None, Result, Ok, Err, MatchOption, append-nil, length, inl, inr, refl, sym, ap, subst, subst₂, arith}
-use Rattle.std.proofs.lemmas.List.Elements.{All-append}
+use Rattle.std.proofs.Common.{◌≡◌, ◌∙◌, ℕ, Bool, List, [], ◌∷◌, ◌++◌, Option, Some, None, Result, Ok, Err, MatchOption, append-nil, length, inl, inr, sym, ap, subst, arith}
 use Rattle.call_types.specs.Refusals.{refusal_of}
 use Rattle.call_types.specs.declared.act.Act.{Act}
 use Rattle.call_types.specs.declared.act.Act.TheVariants as act
@@ -18,7 +17,6 @@ use Rattle.drive_base.specs.declared.drive.Drive.{Ghosts}
 use Rattle.put_stage.specs.declared.staged.Staged.{Staged}
 use Rattle.put_stage.specs.declared.staged.StageFault.{StageFault}
 use Rattle.slot_history.specs.Names.{key_name}
-use Rattle.slot_history.specs.Standing.{Flying}
 use Rattle.slot_core.specs.CommitCauses.{CommitCause, deed_in}
 use Rattle.slot_core.specs.Committing.{SaysCommit}
 use Rattle.slot_core.specs.Stubs.{Says, StubOfEntry, entry_of}
@@ -29,7 +27,7 @@ use Rattle.slot_core.specs.declared.fault.SlotFault.TheVariants.{Key as KeyFault
 use Rattle.slot_core.specs.declared.handles.Flight.{Flight}
 use Rattle.slot_core.specs.declared.stub.Stub.{Stub}
 use Rattle.receipts.specs.Committing.{EndsAtCommit}
-use Rattle.receipts.specs.Events.{IsQuiet, IsUntold, Log, Note, body_of, sections_of}
+use Rattle.receipts.specs.Events.{IsQuiet, Log, Note, body_of}
 use Rattle.receipts.specs.Events.Event.{Turned}
 use Rattle.receipts.specs.Events.Shown.{NoneShown}
 use Rattle.receipts.specs.Paying.{Pays}
@@ -39,14 +37,14 @@ use Rattle.receipts.proofs.GrowLemmas.{quiet_grows}
 use Rattle.receipts.proofs.JoinLemmas.{bodies_join, sections_join}
 use Rattle.receipts.proofs.OweLemmas.{call_owes}
 use Rattle.op_steps.specs.Claims.{Claim, no_claim}
-use Rattle.op_steps.specs.Notes.{note_of, noted, refusal_by}
+use Rattle.op_steps.specs.Notes.{note_of, noted}
 use Rattle.op_steps.specs.Ready.{IsReady}
 use Rattle.op_steps.specs.Store.{SlotSeen}
 use Rattle.op_steps.specs.Words.{TurnsSo}
 use Rattle.op_steps.proofs.TellLemmas.{cuts_after, none_pays, none_told}
-use Rattle.object_ops.specs.Clearing.{HasNone, files_left, with_taken}
+use Rattle.object_ops.specs.Clearing.{HasNone, with_taken}
 use Rattle.object_ops.specs.Put.{PutAsk, task_of}
-use Rattle.object_ops.specs.PutStands.{HasLookedAt, HoldsPut, HoldsRest, PutStandsAt, Stages}
+use Rattle.object_ops.specs.PutStands.{HasLookedAt, HoldsRest, PutStandsAt, Stages}
 use Rattle.object_ops.specs.Putting.{AfterCommit, Answers, put_deed, refusal_of_stage}
 use Rattle.object_ops.specs.Removing.{files_of, ids_of}
 use Rattle.object_ops.specs.declared.clearing.Clearing.{Clearing}

@@ -1,5 +1,5 @@
 -- The begin of a put that is refused, as a step that leaves any claim.
-use Rattle.std.proofs.Common.{◌≡◌, ◌∙◌, ℕ, Bool, List, [], ◌∷◌, ◌++◌, Contains, Option, Some, None, MatchOption, Result, Ok, Err, option_and_then, append-nil, length, inl, inr, refl, sym, ap, subst, subst₂, arith}
+use Rattle.std.proofs.Common.{◌≡◌, ◌∙◌, ℕ, Bool, List, [], ◌∷◌, ◌++◌, Contains, Option, Some, None, MatchOption, Result, Ok, Err, option_and_then, append-nil, length, inr, refl, sym, ap, subst, subst₂, arith}
 use Rattle.call_types.specs.declared.names.Key.{Key}
 use Rattle.call_types.specs.declared.names.Mode.{Mode}
 use Rattle.call_types.specs.declared.refusal.Refusal.TheVariants as refusal

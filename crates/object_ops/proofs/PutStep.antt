@@ -1,6 +1,6 @@
 -- One call of a stage, as a step of a put.
-use Rattle.std.proofs.Common.{◌≡◌, ◌≢◌, ◌∙◌, ◌<◌, ◌+◌, ℕ, IsTrue, List, [], ◌∷◌, ◌++◌, Some, cond, length, slice_index_or, string_bytes, inl, inr, refl, sym, ap, subst, subst₂, arith}
-use Rattle.std.specs.Prelude.{Result, Ok, Err, if◌then◌else◌}
+use Rattle.std.proofs.Common.{◌≡◌, ◌≢◌, ◌∙◌, ◌<◌, ℕ, IsTrue, List, [], ◌∷◌, ◌++◌, Some, cond, length, slice_index_or, string_bytes, inl, inr, refl, sym, ap, subst, subst₂, arith}
+use Rattle.std.specs.Prelude.{Result, Ok, Err}
 use Rattle.std.specs.Int.{IsBitSet}
 use Rattle.std.proofs.lemmas.Bool.Decides.{eqb_tells}
 use Rattle.std.proofs.lemmas.Bool.{cases_Bool}

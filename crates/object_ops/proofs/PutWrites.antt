@@ -20,7 +20,7 @@ use Rattle.slot_history.specs.Names.{key_name}
 use Rattle.slot_history.specs.Standing.{Flying, Records}
 use Rattle.slot_history.specs.State.{State}
 use Rattle.slot_data.specs.DiskLaws.{MayBeKept}
-use Rattle.slot_data.specs.Disks.{Disks, HasPart, IsPartName, IsSingle, Keeps, kept_on}
+use Rattle.slot_data.specs.Disks.{Disks, HasPart, IsSingle, Keeps, kept_on}
 use Rattle.slot_data.specs.Holding.{Hands, Holding, Pinned}
 use Rattle.slot_data.specs.Standing.{DataStands}
 use Rattle.slot_data.proofs.ElsewhereLemmas.{elsewhere_is_written}

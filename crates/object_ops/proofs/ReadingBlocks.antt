@@ -20,7 +20,6 @@ use Rattle.get_read.specs.Readers.{Told, all_calls}
 use Rattle.get_read.specs.Refusing.{FewBlocksIn}
 use Rattle.receipts.specs.Events.{Log}
 use Rattle.receipts.specs.Events.Event.{Called}
-use Rattle.receipts.specs.Events.Seen.{CutShort, Faulted, Missing, Showed}
 use Rattle.receipts.specs.Letters.{BlockLetter, FewBlocks, IsGoodBlock, IsInUse, IsSinceTurned, ShowedAt, Wants}
 use Rattle.object_ops.specs.ReadingLog.{AreLogged, IsLogged, seen_in}
 use Rattle.object_ops.proofs.ReadingManifest.{serves, wanted}

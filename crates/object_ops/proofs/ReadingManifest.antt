@@ -27,7 +27,6 @@ use Rattle.get_read.specs.Outcomes.{wanted_of}
 use Rattle.get_read.specs.Refusing.{NoneServesIn}
 use Rattle.receipts.specs.Events.{Log}
 use Rattle.receipts.specs.Events.Event.{Called}
-use Rattle.receipts.specs.Events.Seen.{CutShort, Faulted, Missing, Showed, Sized}
 use Rattle.receipts.specs.Letters.{IsInUse, ManifestLetter, NoneServes, Serves, Wanted}
 use Rattle.object_ops.specs.ReadingLog.{AreLogged, seen_in}
 use Rattle.object_ops.proofs.ReadingLists.{is_none}

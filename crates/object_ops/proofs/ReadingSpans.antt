@@ -1,5 +1,5 @@
 -- Bytes that a reader gave, by the log that has its calls.
-use Rattle.std.proofs.Common.{◌+◌, ◌∙◌, ℕ, List, [], ◌∷◌, ◌++◌, Some, Contains, length, append-nil, inl, inr, ap, refl, subst, sym}
+use Rattle.std.proofs.Common.{◌+◌, ◌∙◌, ℕ, List, [], ◌∷◌, ◌++◌, Some, Contains, append-nil, inl, inr, ap, refl, subst, sym}
 use Rattle.std.proofs.lemmas.List.Elements.{Contains-append_left, Contains-push, Contains-push_cases}
 use Rattle.std.proofs.lemmas.Option.{get_or_from_slice_get, slice_get-get_or, slice_get_within}
 use Rattle.slot_history.proofs.TakenLemmas.{none_there}
@@ -13,7 +13,6 @@ use Rattle.get_read.specs.Given.{AreOfSpanIn, ClashIn as ReaderClash, MetIn}
 use Rattle.receipts.specs.Clashes.{ClashIn, WasMet}
 use Rattle.receipts.specs.Events.{Log}
 use Rattle.receipts.specs.Events.Event.{Called}
-use Rattle.receipts.specs.Events.Seen.{Showed}
 use Rattle.receipts.specs.Letters.{Wanted}
 use Rattle.receipts.specs.Reading.{IsWanted}
 use Rattle.receipts.specs.Spans.{AreOfSpan, AreOfVersion}

@@ -1,8 +1,7 @@
 -- The call that removes a file of an id which an op took, as a step.
-use Rattle.std.proofs.Common.{◌≡◌, ◌≢◌, ◌⊎◌, ◌∙◌, ◌<◌, ◌^◌, ◌==◌, ℕ, Bool, true, false, IsTrue, bit_and, List, [], ◌∷◌, Contains, Option, Some, None, append-nil, cond, length, inl, inr, refl, sym, ap, subst, subst₂, arith}
+use Rattle.std.proofs.Common.{◌≡◌, ◌≢◌, ◌⊎◌, ◌∙◌, ◌<◌, ◌^◌, ◌==◌, ℕ, Bool, true, false, IsTrue, bit_and, List, [], Contains, Some, None, append-nil, cond, length, inl, inr, refl, sym, ap, subst, subst₂, arith}
 use Rattle.std.specs.Int.{IsBitSet}
 use Rattle.std.specs.Str.{bytes_eq}
-use Rattle.std.proofs.lemmas.Bool.{eqb-true}
 use Rattle.std.proofs.lemmas.Bool.Decides.{eqb_tells}
 use Rattle.std.proofs.lemmas.List.FromFn.{get_or-map-range_with_len}
 use Rattle.std.proofs.lemmas.List.Elements.{All-contains}
@@ -20,17 +19,17 @@ use Rattle.slot_history.proofs.MemberLemmas.{same_or_other}
 use Rattle.slot_history.proofs.TakenLemmas.{first_there, rest_there}
 use Rattle.slot_data.specs.DiskLaws.{IsElsewhere, IsRemoved, StaysOrGoes}
 use Rattle.slot_data.specs.Disks.{Disks, kept_on}
-use Rattle.slot_data.specs.Holding.{Hands, Holding, IsInFlight}
+use Rattle.slot_data.specs.Holding.{Hands, Holding}
 use Rattle.slot_data.specs.Moves.{with_taken as hands_with}
 use Rattle.slot_data.specs.Standing.{DataStands}
 use Rattle.slot_data.proofs.DiskLemmas.{manifest_stays, shard_stays}
 use Rattle.slot_data.proofs.RemovedLemmas.{taken_is_removed}
 use Rattle.slot_core.specs.Views.{SlotNumbers, last_of}
-use Rattle.op_steps.specs.Claims.{AllApart, Claim, DataHolds, DisksTell, IsExpected, IsMet, Staging, among, claims_at, counted_on, disks_of, hands_of}
+use Rattle.op_steps.specs.Claims.{AllApart, Claim, DataHolds, DisksTell, IsExpected, IsMet, among, claims_at, counted_on, disks_of, hands_of}
 use Rattle.op_steps.specs.Moves.{CallMoves, IsDataName, KeepsOthers, RecordsStand}
 use Rattle.object_ops.specs.Clearing.{RemovesOne, with_taken}
 use Rattle.object_ops.specs.DataNames.{name_by}
-use Rattle.object_ops.specs.Removing.{AreDue, FileOn, IsDue, RemoveCall, ids_of}
+use Rattle.object_ops.specs.Removing.{AreDue, FileOn, IsDue, ids_of}
 use Rattle.object_ops.specs.declared.removal.DataFile.{DataFile}
 use Rattle.object_ops.specs.declared.removal.DataFile.TheVariants.{Manifest, Shard}
 use Rattle.object_ops.proofs.ClaimLemmas.{apart_on, at_other, at_own, each_on, flight_stays, hands_on, own_in_hand, pin_stays}

@@ -1,6 +1,5 @@
 -- Trash is taken: a step without a note, after which an op has ids in hand.
-use Rattle.std.proofs.Common.{◌≡◌, ◌<◌, ℕ, Bool, List, [], Contains, Option, None, Some, Result, Ok, Err, append-nil, inr, refl, sym, ap, subst, subst₂, arith}
-use Rattle.audit_trail.specs.declared.entry.Entry.{Entry}
+use Rattle.std.proofs.Common.{◌≡◌, ℕ, Bool, List, Contains, Option, None, Some, Result, Ok, Err, append-nil, inr, refl, sym, ap, subst, subst₂, arith}
 use Rattle.drive_base.specs.Files.{Files}
 use Rattle.drive_base.specs.View.{DriveView}
 use Rattle.drive_base.specs.declared.plan.SetPlan.{SetPlan}
@@ -11,7 +10,6 @@ use Rattle.slot_history.specs.State.{State}
 use Rattle.slot_data.specs.Disks.{Disks}
 use Rattle.slot_data.specs.Holding.{Hands, Holding, Pinned}
 use Rattle.slot_data.specs.Moves.{with_taken as hands_with}
-use Rattle.slot_data.specs.Rows.{pinned_of}
 use Rattle.slot_data.specs.Standing.{DataStands}
 use Rattle.slot_data.specs.declared.rows.PinRow.{PinRow}
 use Rattle.slot_core.specs.Sections.{ShowsNoMore, TakesInHand, TrashHolds}

@@ -5,7 +5,6 @@ use Rattle.call_types.specs.declared.feed.Cut.TheVariants as cut
 use Rattle.call_types.specs.declared.reply.Reply.{Reply}
 use Rattle.put_stage.specs.Left.{calls_left}
 use Rattle.put_stage.specs.Taking.{Filled}
-use Rattle.put_stage.specs.declared.stage.StageNext.{StageNext}
 use Rattle.put_stage.specs.declared.stage.StageNext.TheVariants as next
 use Rattle.put_stage.specs.declared.staged.StageFault.{StageFault}
 use Rattle.put_stage.specs.declared.staged.StageFault.TheVariants as fault

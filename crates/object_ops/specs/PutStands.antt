@@ -1,6 +1,5 @@
 -- What a PutObject stands for: its claim and its log, by how far it is.
-use Rattle.std.specs.Prelude.{◌≡◌, ◌≢◌, ◌⊎◌, ℕ, ◌<◌, List, [], ◌∷◌, All, Contains, length, Option, Some, None, slice_index_or, string_bytes}
-use Rattle.call_types.specs.declared.feed.Cut.{Cut}
+use Rattle.std.specs.Prelude.{◌≡◌, ◌≢◌, ◌⊎◌, ℕ, ◌<◌, List, [], ◌∷◌, All, Contains, length, Some, None, slice_index_or, string_bytes}
 use Rattle.call_types.specs.declared.names.Key.{Key}
 use Rattle.call_types.specs.declared.names.Mode.{Mode}
 use Rattle.call_types.specs.declared.reply.Reply.{Reply}

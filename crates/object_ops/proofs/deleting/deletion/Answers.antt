@@ -1,4 +1,4 @@
-use Rattle.std.proofs.Common.{◌≡◌, ◌≤◌, length, subst, sym}
+use Rattle.std.proofs.Common.{◌≤◌, length, subst, sym}
 use Rattle.std.proofs.lemmas.Grind.{merely}
 use Rattle.std.specs.Str.{IsUtf8}
 use Rattle.call_types.specs.declared.names.Key.{Key}

@@ -1,4 +1,3 @@
-use Rattle.std.proofs.Common.{◌≡◌, inl}
 use Rattle.op_steps.specs.Store.{slot_seen}
 use Rattle.object_ops.proofs.LookingLemmas.{looks_so}
 use Rattle.object_ops.proofs.looking.look_at_bucket.Goals as goal

@@ -1,4 +1,3 @@
-use Rattle.std.proofs.Common.{◌≡◌}
 use Rattle.object_ops.proofs.PutNext.{may_fill}
 use Rattle.object_ops.proofs.put_feeding.fed.Goals as goal
 

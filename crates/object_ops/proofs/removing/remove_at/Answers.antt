@@ -1,4 +1,4 @@
-use Rattle.std.proofs.Common.{◌≡◌, ◌<◌, length, slice_index_or}
+use Rattle.std.proofs.Common.{slice_index_or}
 use Rattle.std.proofs.lemmas.List.{get_or_default}
 use Rattle.object_ops.proofs.CallLemmas.{beside, called_at}
 use Rattle.object_ops.proofs.removing.remove_at.Goals as goal

@@ -1,4 +1,4 @@
-use Rattle.std.proofs.Common.{◌≡◌, ◌∙◌, length}
+use Rattle.std.proofs.Common.{◌∙◌, length}
 use Rattle.object_ops.proofs.CallLemmas.{first_within, removes_one}
 use Rattle.object_ops.proofs.clearing.Clearing.remove.Goals as goal
 

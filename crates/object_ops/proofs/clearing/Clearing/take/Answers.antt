@@ -1,4 +1,4 @@
-use Rattle.std.proofs.Common.{◌≡◌, List, Result, subst, sym}
+use Rattle.std.proofs.Common.{List, Result, subst, sym}
 use Rattle.stamp_id.specs.declared.version.VersionId.{VersionId}
 use Rattle.slot_core.specs.Views.{holding_of, pins_of}
 use Rattle.slot_core.specs.declared.fault.SlotFault.{SlotFault}

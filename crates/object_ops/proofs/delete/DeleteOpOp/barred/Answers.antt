@@ -1,4 +1,4 @@
-use Rattle.std.proofs.Common.{◌≡◌, ◌<◌, refl, subst, sym}
+use Rattle.std.proofs.Common.{◌<◌, refl, subst, sym}
 use Rattle.op_steps.specs.Words.{BarredSo}
 use Rattle.object_ops.specs.Deletes.{DeleteStands, StandsAt, left_at, step_of}
 use Rattle.object_ops.proofs.DeleteOpLemmas.{barred_so, pass_so}

@@ -1,4 +1,4 @@
-use Rattle.std.proofs.Common.{◌≡◌, ◌∙◌, sym}
+use Rattle.std.proofs.Common.{◌∙◌, sym}
 use Rattle.drive_base.specs.View.{views}
 use Rattle.receipts.specs.Registers.{key_slot}
 use Rattle.object_ops.specs.Clearing.{files_left}

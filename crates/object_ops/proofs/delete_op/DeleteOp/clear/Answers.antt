@@ -1,4 +1,3 @@
-use Rattle.std.proofs.Common.{◌≡◌, ◌∙◌}
 use Rattle.op_steps.specs.Store.{slot_seen}
 use Rattle.object_ops.proofs.DeleteOpLemmas.{clear_so}
 use Rattle.object_ops.proofs.LeftLemmas.{clear_left}

@@ -1,4 +1,3 @@
-use Rattle.std.proofs.Common.{◌≡◌}
 use Rattle.std.proofs.lemmas.Str.{IsUtf8-had}
 use Rattle.op_steps.specs.Store.{slot_seen}
 use Rattle.object_ops.specs.Deletions.{bucket_in, key_in}

@@ -1,4 +1,3 @@
-use Rattle.std.proofs.Common.{◌≡◌, ◌∙◌}
 use Rattle.op_steps.specs.Store.{slot_seen}
 use Rattle.object_ops.specs.PutStands.{ask_of}
 use Rattle.object_ops.proofs.PutLefts.{clear_left}

@@ -1,4 +1,4 @@
-use Rattle.std.proofs.Common.{◌≡◌, ◌∙◌, ◌<◌, Some, ap, sym, subst}
+use Rattle.std.proofs.Common.{◌∙◌, ◌<◌, Some, ap, sym, subst}
 use Rattle.op_steps.specs.Store.{slot_seen}
 use Rattle.op_steps.specs.Words.{TurnsSo}
 use Rattle.object_ops.specs.Put.{left_at}

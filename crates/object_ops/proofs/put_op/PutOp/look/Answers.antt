@@ -1,5 +1,4 @@
-use Rattle.std.proofs.Common.{◌≡◌, ◌∙◌}
-use Rattle.std.proofs.lemmas.Str.{IsUtf8-had}
+use Rattle.std.proofs.Common.{◌∙◌}
 use Rattle.drive_base.specs.View.{views}
 use Rattle.op_steps.specs.Store.{slot_seen}
 use Rattle.object_ops.specs.PutStands.{ask_of}

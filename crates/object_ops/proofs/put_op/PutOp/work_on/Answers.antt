@@ -1,12 +1,10 @@
-use Rattle.std.proofs.Common.{◌≡◌, ◌∙◌, ap, subst, sym}
+use Rattle.std.proofs.Common.{◌∙◌, subst, sym}
 use Rattle.drive_base.specs.View.{views}
 use Rattle.op_steps.specs.Words.{CallsSo}
 use Rattle.object_ops.specs.PutStands.{PutStands, PutStandsAt, ask_of}
 use Rattle.object_ops.specs.declared.put_state.PutState.TheVariants.{Staging}
 use Rattle.object_ops.specs.declared.clearing.Clearing.{Clearing}
 use Rattle.object_ops.proofs.PutOpLemmas.{stands_on, work_so}
-use Rattle.object_ops.proofs.PutOver.{commit_so}
-use Rattle.object_ops.proofs.PutBars.{barred_so}
 use Rattle.object_ops.proofs.put_op.PutOp.work_on.Goals as goal
 
 pub returns-in-Staging-clause-calls : goal.returns-in-Staging-clause-calls

@@ -1,9 +1,8 @@
-use Rattle.std.proofs.Common.{◌≡◌, ◌∙◌, ◌<◌, ap, sym, subst}
+use Rattle.std.proofs.Common.{◌<◌, ap, sym, subst}
 use Rattle.op_steps.specs.Words.{BarredSo, IsSection}
 use Rattle.receipts.specs.Registers.{key_slot}
 use Rattle.object_ops.specs.Put.{left_at, step_at, task_of}
-use Rattle.object_ops.specs.PutStands.{PutStands, PutStandsAt, ask_of, step_of}
-use Rattle.object_ops.specs.Putting.{BarredAfter}
+use Rattle.object_ops.specs.PutStands.{PutStands, ask_of, step_of}
 use Rattle.object_ops.proofs.PutBarred.{bars_left, bars_so, pass_left, takes_of}
 use Rattle.object_ops.proofs.PutBars.{pass_so}
 use Rattle.object_ops.proofs.PutSound.{barred_sound}

@@ -1,4 +1,4 @@
-use Rattle.std.proofs.Common.{◌≡◌, ◌∙◌, ◌<◌, sym, subst}
+use Rattle.std.proofs.Common.{◌<◌, sym, subst}
 use Rattle.op_steps.specs.Words.{FeedsSo}
 use Rattle.object_ops.specs.Put.{left_at}
 use Rattle.object_ops.specs.PutStands.{PutStands, ask_of}

@@ -1,4 +1,3 @@
-use Rattle.std.proofs.Common.{◌≡◌}
 use Rattle.object_ops.specs.PutStands.{ask_of}
 use Rattle.object_ops.proofs.PutOpLemmas.{tell_so}
 use Rattle.object_ops.proofs.put_steps.PutOpOp.tell.Goals as goal
