@@ -9,7 +9,6 @@ use Rattle.call_types.specs.declared.reply.Reply.TheVariants.{Refused}
 use Rattle.put_stage.specs.declared.stage.StageNext.{StageNext}
 use Rattle.put_stage.specs.declared.stage.StageNext.TheVariants.{Fill, Finish, Step}
 use Rattle.slot_core.specs.declared.handles.Flight.{Flight}
-
 use Rattle.receipts.specs.Events.{IsQuiet, Log}
 use Rattle.receipts.specs.Events.Event.{BarredFrom}
 use Rattle.receipts.specs.Registers.{bucket_slot, key_slot}

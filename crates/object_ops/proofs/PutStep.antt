@@ -351,7 +351,7 @@ module _ {D : Type 0} (ghosts : Ghosts D) (ask : PutAsk) (work later : Work) (o 
     lacking why is empty =
         let there : k < length work.stage.whys = omega (arith, work.stage.letters, one.due.within) in
         let set_to : why_at later.stage k ≡ why = ap (λ (all : List Why). slice_index_or all k Good)
-            (subst (λ a. IsAfter a k work.stage later.stage) is one.stage).0 ∙ get_or-set_same work.stage.whys k why Good there in
+        (subst (λ a. IsAfter a k work.stage later.stage) is one.stage).0 ∙ get_or-set_same work.stage.whys k why Good there in
         empty (subst (λ (w : Why). HasBy w (due_at later.stage k) (block_at k later.stage.load.window) later.stage.load.made.manifest.items (Some mine) no_cells now)
         set_to at_new.has)
 

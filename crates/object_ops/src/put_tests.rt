@@ -139,12 +139,7 @@ fn was_done(turn: Turn<Committed>) -> bool {
 }
 
 /// Makes the bucket `pic`.
-fn make_bucket(
-    rt: &impl Abort,
-    alloc: Global,
-    slot: &mut MemSlot,
-    set: SetPlan,
-) -> Result<(), Fail>
+fn make_bucket(rt: &impl Abort, alloc: Global, slot: &mut MemSlot, set: SetPlan) -> Result<(), Fail>
     requires { (numbers_of slot.old).set ≡ set }
     ensures set { (numbers_of slot.new).set ≡ set }
     ensures index { (numbers_of slot.new).index ≡ (numbers_of slot.old).index }
@@ -191,7 +186,6 @@ fn put(
     };
     Ok(PutOp::new(alloc, set, &call, NOW)?)
 }
-
 
 /// Does the section of a put that comes next, on its slot.
 fn turns_on(

@@ -81,16 +81,20 @@ told_pays takes breaks set task reply log (Some cut_of.WriteFault) old new whole
   ends = refl;
   tells = sym (tale_after log (Told (TheHead reply) (Some cut_of.WriteFault)) ready.untold);
   owes = (
-    inl (refl, reply, record {
-      before = log;
-      rest = [];
-      parts = refl;
-      first = ready.untold;
-      last = λ k d l. let below : k < 0 = l in absurd (omega arith);
-      owed = ready.owed;
-      no_bytes = refl;
-      no_sections = refl;
-    }),
+    inl (
+      refl,
+      reply,
+      record {
+        before = log;
+        rest = [];
+        parts = refl;
+        first = ready.untold;
+        last = λ k d l. let below : k < 0 = l in absurd (omega arith);
+        owed = ready.owed;
+        no_bytes = refl;
+        no_sections = refl;
+      },
+    ),
     cuts_after log (Told (TheHead reply) (Some cut_of.WriteFault)) ready.uncut,
   );
 }

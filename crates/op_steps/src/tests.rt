@@ -22,7 +22,7 @@ fn id() -> VersionId {
 }
 
 /// Which refusal this is.
-fn told(refusal: Option<Refusal>) -> Told {
+fn kind_of(refusal: Option<Refusal>) -> Told {
     match refusal {
         None => Told::Nothing,
         Some(Refusal::SeqSpent) => Told::Spent,
@@ -40,12 +40,12 @@ fn told(refusal: Option<Refusal>) -> Told {
 
 /// What is told of a section that is no commit.
 fn of_section(fault: SlotFault) -> Told {
-    told(section_refusal(&fault))
+    kind_of(section_refusal(&fault))
 }
 
 /// What is told of a commit.
 fn of_commit(fault: SlotFault) -> Told {
-    told(call_refusal(&fault))
+    kind_of(call_refusal(&fault))
 }
 
 #[test]
