@@ -50,6 +50,4 @@ pub use put_op::PutOp;
 #[cfg(test)]
 mod get_tests;
 #[cfg(test)]
-mod put_tests;
-#[cfg(test)]
 mod tests;
