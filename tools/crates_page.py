@@ -10,6 +10,7 @@ It takes the first paragraph of the head of `src/lib.rt` (of `src/main.rt` in a 
 import itertools
 import pathlib
 import sys
+import textwrap
 
 TOP = pathlib.Path(__file__).resolve().parent.parent
 PAGE = TOP / "docs" / "CRATES.md"
@@ -71,6 +72,16 @@ def parts_of(name):
     return parts
 
 
+def wrapped(text):
+    """A paragraph in lines of at most 150 columns."""
+    return textwrap.fill(text, 150, break_long_words=False, break_on_hyphens=False)
+
+
+def titled(title, body):
+    """A part with its title: a list begins below it."""
+    return f"**{title}.**" + ("\n\n" if body.startswith("- ") else " ") + body
+
+
 def section(name, named):
     own = [it for it in named[name] if it in named]
     kit = [it for it in named[name] if it not in named]
@@ -78,10 +89,10 @@ def section(name, named):
     stands = f"Stands on {lists[0]}." if own else "Stands on no crate of ours."
     if kit:
         stands += f" Of the kit: {lists[1]}."
-    lines = [f"## `{name}`", "", first_paragraph(name), "", stands]
+    lines = [f"## `{name}`", "", wrapped(first_paragraph(name)), "", wrapped(stands)]
     for title, body in parts_of(name).items():
         if body != "Nothing.":
-            lines += ["", f"**{title}.** {body}"]
+            lines += ["", titled(title, body)]
     return "\n".join(lines) + "\n"
 
 
