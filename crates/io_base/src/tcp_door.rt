@@ -32,13 +32,15 @@ pub struct TcpDoor<R> {
 
 impl<R: Net<Listener = TcpListener, Stream = TcpStream> + rt::Clock + Copy + Send> TcpDoor<R> {
     /// Listens at `listen`, as `127.0.0.1:9000`. Where the door can't be made it is closed: each `next` fails. So it is where
-    /// a read or a write may take no time, since no connection could be set up.
+    /// a read or a write may take no time, since no connection could be set up, or a slow peer has none, since no byte of it would
+    /// be read.
     pub fn open(rt: R, alloc: Global, listen: &str, limits: TcpLimits) -> TcpDoor<R>
         ensures count { ⟦<TcpDoor<R> as Door>⟧.faults result ≡ 0 }
         ensures idle { as_nanos limits.idle ≡ 0 → door_listens result ≡ false }
         ensures write { as_nanos limits.write ≡ 0 → door_listens result ≡ false }
+        ensures slow { as_nanos limits.slow ≡ 0 → door_listens result ≡ false }
     {
-        let listener = if limits.idle.is_zero() || limits.write.is_zero() {
+        let listener = if limits.idle.is_zero() || limits.write.is_zero() || limits.slow.is_zero() {
             None
         } else {
             listen_at(rt, alloc, listen)
