@@ -109,7 +109,7 @@ pub section_so : {D : Type 0} (ghosts : Ghosts D) (one : ContentIsInjective) (se
     → (FitsFlight deed.commit None → CommitSays ghosts was after deed.commit now answer stub old new)
     → CommitCause ghosts.tells ghosts.files ghosts.count was.numbers after.numbers deed.commit None now answer (deed_in (entry_of stub)) was.lanes after.lanes old new
     → AfterCommit answer later
-    → TurnsSo ghosts.tells ghosts.files (ChangeStands set sets document bucket now (bucket_slot bucket) state)
+    → TurnsSo ghosts (ChangeStands set sets document bucket now (bucket_slot bucket) state)
     (ChangeStands set sets document bucket now (bucket_slot bucket) later) stub was after (views ghosts old) (views ghosts new)
 section_so {D} ghosts one set sets document bucket now state later deed was after answer stub old new law next is says cause told claim log x =
     let at = at_commit set sets document bucket now (bucket_slot bucket) was.numbers.index state log next x.done in

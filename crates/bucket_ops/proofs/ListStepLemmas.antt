@@ -125,7 +125,7 @@ slot_in Done = 0
 pub names_so : {D Y : Type 0} (ghosts : Ghosts D) (set : SetPlan) (second : ℕ) (work : Work) (later : ListState) (from : List ℕ) (was after : SlotSeen D)
     (answer : Result (List (String Y)) SlotFault) (stub : Option Stub) (disks : List D) → NamesIsTurn ghosts Y → Section work.slot ≡ Section was.numbers.index
     → from ≡ string_bytes work.from → NamesSays ghosts was after from page_names answer stub → AreListed from answer → AfterNames (sheet_of work) answer later
-    → TurnsSo ghosts.tells ghosts.files (ListStands set second (Paging work)) (ListStands set second later) stub was after (views ghosts disks) (views ghosts disks)
+    → TurnsSo ghosts (ListStands set second (Paging work)) (ListStands set second later) stub was after (views ghosts disks) (views ghosts disks)
 names_so {D} {Y} ghosts set second work later from was after answer stub disks law next from_is says listed told claim log x =
     let slot : work.slot ≡ was.numbers.index = ap slot_in next in
     let in_store : was.numbers.index < 64 = subst (λ k. k < 64) slot work.within in
@@ -146,7 +146,7 @@ pub look_so : {D : Type 0} (ghosts : Ghosts D) (one : ContentIsInjective) (set :
     (was after : SlotSeen D) (answer : Result (List ℕ) SlotFault) (stub : Option Stub) (old new : List D) → LookIsTurn ghosts
     → Section work.slot ≡ Section was.numbers.index → name ≡ string_bytes wanted.name → LookSays ghosts was after name answer stub old new
     → AfterBucket wanted.bucket (sheet_of work) answer later
-    → TurnsSo ghosts.tells ghosts.files (ListStands set second (Looking work wanted)) (ListStands set second later) stub was after (views ghosts old) (views ghosts new)
+    → TurnsSo ghosts (ListStands set second (Looking work wanted)) (ListStands set second later) stub was after (views ghosts old) (views ghosts new)
 look_so ghosts one set second work wanted later name was after answer stub old new law next name_is says told claim log x =
     let slot : work.slot ≡ was.numbers.index = ap slot_in next in
     let in_store : was.numbers.index < 64 = subst (λ k. k < 64) slot work.within in

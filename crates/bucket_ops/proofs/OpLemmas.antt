@@ -73,7 +73,7 @@ barred_so set asks bucket now state why claim log k next x =
 pub section_so : {D : Type 0} (ghosts : Ghosts D) (set : SetPlan) (asks : Bool) (bucket name : List ℕ) (now : ℕ) (state later : State) (was after : SlotSeen D)
     (answer : Result (List ℕ) SlotFault) (stub : Option Stub) (old new : List D) → LookIsTurn ghosts → step_of state (bucket_slot bucket) ≡ Section was.numbers.index
     → name ≡ bucket_register bucket → LookSays ghosts was after name answer stub old new → AfterLook asks answer later
-    → TurnsSo ghosts.tells ghosts.files (StandsSo set (record { call = look_call asks bucket; now = now }) (bucket_slot bucket) state)
+    → TurnsSo ghosts (StandsSo set (record { call = look_call asks bucket; now = now }) (bucket_slot bucket) state)
     (StandsSo set (record { call = look_call asks bucket; now = now }) (bucket_slot bucket) later) stub was after (views ghosts old) (views ghosts new)
 section_so ghosts set asks bucket name now state later was after answer stub old new law next named says told claim log x =
     let start = at_start set (record { call = look_call asks bucket; now = now }) (bucket_slot bucket) was.numbers.index state log next x.done in

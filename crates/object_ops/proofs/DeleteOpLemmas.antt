@@ -1,5 +1,5 @@
 -- The steps of a DeleteObject, as an op does them.
-use Rattle.std.proofs.Common.{◌≡◌, ◌<◌, ◌∙◌, ℕ, Bool, List, [], ◌∷◌, ◌++◌, Option, None, Result, Ok, Err, IfOk, refl, sym, ap, subst}
+use Rattle.std.proofs.Common.{◌≡◌, ◌<◌, ◌∙◌, ℕ, List, [], ◌∷◌, ◌++◌, Option, None, Result, Ok, Err, IfOk, refl, sym, ap, subst}
 use Rattle.call_types.specs.declared.act.Act.TheVariants.{Delete as DeleteAct}
 use Rattle.call_types.specs.declared.feed.Cut.{Cut}
 use Rattle.call_types.specs.declared.names.Key.{Key}
@@ -10,7 +10,6 @@ use Rattle.desk_base.specs.Answering.{Task}
 use Rattle.desk_base.specs.Telling.{Effect}
 use Rattle.desk_base.specs.Telling.Telling.{Head as TheHead}
 use Rattle.desk_base.specs.declared.call.Call.TheVariants.{Delete}
-use Rattle.drive_base.specs.Files.{Files}
 use Rattle.drive_base.specs.View.{DriveView, views}
 use Rattle.drive_base.specs.declared.drive.Drive.{Ghosts}
 use Rattle.drive_base.specs.declared.plan.SetPlan.{SetPlan}
@@ -66,11 +65,11 @@ module _ (set : SetPlan) (at : Key) (pick : Pick) (now : ℕ) where
   done_at state is log same x = subst (λ (s : DeleteState). HasDeleted set at pick task s log) same x
 
   -- the look at the bucket
-  pub look_so : {D : Type 0} (tells : D → Bool) (files : D → Files) (clearing : Clearing) (state later : DeleteState) (name : List ℕ) (was after : SlotSeen D) (look : Look)
+  pub look_so : {D : Type 0} (ghosts : Ghosts D) (clearing : Clearing) (state later : DeleteState) (name : List ℕ) (was after : SlotSeen D) (look : Look)
       (old new : List DriveView) → state ≡ Looking → name ≡ bucket_register at.bucket → was.numbers.index ≡ bucket_slot at.bucket
-      → LooksSo tells files name was after look old new → AfterLook at pick look.looked later
-      → TurnsSo tells files (Stands clearing state) (Stands clearing later) look.stub was after old new
-  look_so tells files clearing state later name was after look old new is named index looks next claim log x =
+      → LooksSo ghosts name was after look old new → AfterLook at pick look.looked later
+      → TurnsSo ghosts (Stands clearing state) (Stands clearing later) look.stub was after old new
+  look_so ghosts clearing state later name was after look old new is named index looks next claim log x =
       let nothing : log ≡ [] = done_at state Looking log is x.done in (
         claim,
         looks.shown,
@@ -98,7 +97,7 @@ module _ (set : SetPlan) (at : Key) (pick : Pick) (now : ℕ) where
       → was.numbers.index ≡ key_slot at → (FitsFlight deed.commit None → CommitSays ghosts was after deed.commit now answer stub old new)
       → CommitCause ghosts.tells ghosts.files ghosts.count was.numbers after.numbers deed.commit None now answer (deed_in (entry_of stub)) was.lanes after.lanes old new
       → AfterCommit answer later
-      → TurnsSo ghosts.tells ghosts.files (Stands clearing state) (Stands begun later) stub was after (views ghosts old) (views ghosts new)
+      → TurnsSo ghosts (Stands clearing state) (Stands begun later) stub was after (views ghosts old) (views ghosts new)
   commit_so ghosts clearing begun state later deed was after answer stub old new is same index says cause told claim log x =
       let done = done_at state (Committing deed) log is x.done in
       let fits : FitsFlight deed.commit None = subst (λ (d : Commit). FitsFlight d None) (sym done.1) refl in
@@ -116,10 +115,10 @@ module _ (set : SetPlan) (at : Key) (pick : Pick) (now : ℕ) where
       )
 
   -- the trash
-  pub clear_so : {D : Type 0} (tells : D → Bool) (files : D → Files) (clearing cleared : Clearing) (state : DeleteState) (cut : Option Cut) (was after : SlotSeen D) (disks : List DriveView)
-      → state ≡ Told cut → was.numbers.index ≡ key_slot at → TakesTrash tells files was after (files_left cleared)
-      → TurnsSo tells files (Stands clearing state) (Stands cleared state) None was after disks disks
-  clear_so tells files clearing cleared state cut was after disks is index takes claim log x =
+  pub clear_so : {D : Type 0} (ghosts : Ghosts D) (clearing cleared : Clearing) (state : DeleteState) (cut : Option Cut) (was after : SlotSeen D) (disks : List DriveView)
+      → state ≡ Told cut → was.numbers.index ≡ key_slot at → TakesTrash ghosts was after (files_left cleared)
+      → TurnsSo ghosts (Stands clearing state) (Stands cleared state) None was after disks disks
+  clear_so ghosts clearing cleared state cut was after disks is index takes claim log x =
       let own : claim.slot ≡ was.numbers.index = ap (λ (c : Claim). c.slot) x.holds ∙ sym index in (
         with_taken claim (ids_of (files_left cleared)),
         NoneShown,

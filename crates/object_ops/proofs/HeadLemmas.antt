@@ -12,7 +12,6 @@ use Rattle.desk_base.specs.Answering.{Task, bytes_after}
 use Rattle.desk_base.specs.Telling.{Effect}
 use Rattle.desk_base.specs.Telling.Telling.{Head as TheHead}
 use Rattle.desk_base.specs.declared.call.Call.TheVariants as call_of
-use Rattle.drive_base.specs.Files.{Files}
 use Rattle.drive_base.specs.View.{DriveView, views}
 use Rattle.drive_base.specs.declared.drive.Drive.{Ghosts}
 use Rattle.drive_base.specs.declared.plan.SetPlan.{SetPlan}
@@ -160,12 +159,12 @@ module _ (set : SetPlan) (at : Key) (pick : Pick) (now : ℕ) where
     moves,
   )
 
-  module _ {D : Type 0} (tells : D → Bool) (files : D → Files) (was after : SlotSeen D) where
+  module _ {D : Type 0} (ghosts : Ghosts D) (was after : SlotSeen D) where
     -- the look
     pub look_so : (name : List ℕ) (pin : Option Pin) (state later : HeadState) (look : Look) (old new : List DriveView) → state ≡ Looking
-        → was.numbers.index ≡ bucket_slot at.bucket → name ≡ bucket_register at.bucket → LooksSo tells files name was after look old new
+        → was.numbers.index ≡ bucket_slot at.bucket → name ≡ bucket_register at.bucket → LooksSo ghosts name was after look old new
         → Looks look.looked later
-        → TurnsSo tells files (HeadStands set the_task at state pin) (HeadStands set the_task at later pin) look.stub was after old new
+        → TurnsSo ghosts (HeadStands set the_task at state pin) (HeadStands set the_task at later pin) look.stub was after old new
     look_so name pin state later look old new is index named says goes claim log y =
         let x = subst (λ s. HeadStands set the_task at s pin claim log) is y in (
           claim,
@@ -179,39 +178,39 @@ module _ (set : SetPlan) (at : Key) (pick : Pick) (now : ℕ) where
   module _ {D : Type 0} (ghosts : Ghosts D) (was after : SlotSeen D) where
     -- the begin of the read
     pub begin_so : (mode : Mode) (held pin : Option Pin) (state later : HeadState) (answer : Result ReadStart SlotFault) (begun : Started) (stub : Option Stub)
-        (old new : List D) → state ≡ Beginning mode → was.numbers.index ≡ key_slot at → BeginSays ghosts was after at answer stub old new
+        (old new : List D) → state ≡ Beginning mode → was.numbers.index ≡ key_slot at → BeginSays ghosts was after at mode pick answer stub old new
         → Says stub (SaysRead at mode pick answer) → IsDueBy mode pick answer → StartsSo mode answer begun → Starts begun later pin
-        → TurnsSo ghosts.tells ghosts.files (HeadStands set the_task at state held) (HeadStands set the_task at later pin) stub was after
+        → TurnsSo ghosts (HeadStands set the_task at state held) (HeadStands set the_task at later pin) stub was after
         (views ghosts old) (views ghosts new)
     begin_so mode held pin state later answer begun stub old new is index says said due so goes claim log y =
         let x = subst (λ s. HeadStands set the_task at s held claim log) is y in
-        let turn = begin_turn ghosts was after at answer stub old new says in (
+        let turn = begin_turn ghosts was after at mode pick answer stub old new says in (
           turn.0,
           NoneShown,
           start_stands begun answer mode later pin turn.0 _ goes so (subst (λ i. HoldsStart i answer turn.0) index turn.1)
               (starts at mode pick was.numbers log x.1 index answer stub begun says.turns.stub_is said due so),
-          subst (λ c. TurnMoves ghosts.tells ghosts.files was after (noted stub) NoneShown c turn.0 (views ghosts old) (views ghosts new))
+          subst (λ c. TurnMoves ghosts was after (noted stub) NoneShown c turn.0 (views ghosts old) (views ghosts new))
               (ap no_claim index ∙ sym x.0.1) turn.2,
         )
 
-  module _ {D T : Type 0} (tells : D → Bool) (files : D → Files) (was after : SlotSeen D) where
+  module _ {D T : Type 0} (ghosts : Ghosts D) (was after : SlotSeen D) where
     -- the end of the read
     pub end_so : (cut : Option Cut) (pin : Pin) (held left : Option Pin) (state : HeadState) (answer : Result T SlotFault) (stub : Option Stub) (disks : List DriveView)
-        → state ≡ Ending cut → held ≡ Some pin → was.numbers.index ≡ key_slot at → stub ≡ None → EndSays tells files was after pin.ticket answer stub
-        → TurnsSo tells files (HeadStands set the_task at state held) (HeadStands set the_task at (Over cut) left) stub was after disks disks
+        → state ≡ Ending cut → held ≡ Some pin → was.numbers.index ≡ key_slot at → stub ≡ None → EndSays ghosts was after pin.ticket answer stub
+        → TurnsSo ghosts (HeadStands set the_task at state held) (HeadStands set the_task at (Over cut) left) stub was after disks disks
     end_so cut pin held left state answer stub disks is held_is index none says claim log y =
         let x = subst (λ p. HasPin (key_slot at) p claim × Pays set the_task cut log) held_is (subst (λ s. HeadStands set the_task at s held claim log) is y) in
-        let says_none : EndSays tells files was after x.0.pinned.ticket answer None =
-        subst (λ t. EndSays tells files was after t answer None) (sym x.0.ticket) (subst (λ s. EndSays tells files was after pin.ticket answer s) none says) in (
+        let says_none : EndSays ghosts was after x.0.pinned.ticket answer None =
+        subst (λ t. EndSays ghosts was after t answer None) (sym x.0.ticket) (subst (λ s. EndSays ghosts was after pin.ticket answer s) none says) in (
           no_claim (key_slot at),
           NoneShown,
           subst (λ s. HeadStands set the_task at (Over cut) left (no_claim (key_slot at)) (log ++ Turned was.numbers.index (noted s) NoneShown ∷ [])) (sym none)
               (inl refl, quiet_pays set the_task cut log (Turned was.numbers.index None NoneShown ∷ []) (one_all IsQuiet (Turned was.numbers.index None NoneShown) tt) x.1),
-          subst (λ s. TurnMoves tells files was after (noted s) NoneShown claim (no_claim (key_slot at)) disks disks) (sym none)
-              (subst (λ c. TurnMoves tells files was after None NoneShown c (no_claim (key_slot at)) disks disks)
+          subst (λ s. TurnMoves ghosts was after (noted s) NoneShown claim (no_claim (key_slot at)) disks disks) (sym none)
+              (subst (λ c. TurnMoves ghosts was after None NoneShown c (no_claim (key_slot at)) disks disks)
               (ap (λ i. pinned_claim i x.0.pinned) index ∙ sym x.0.claim_is)
-              (subst (λ i. TurnMoves tells files was after None NoneShown (pinned_claim was.numbers.index x.0.pinned) (no_claim i) disks disks) index
-              (end_turn tells files was after x.0.pinned answer disks x.0.purpose says_none))),
+              (subst (λ i. TurnMoves ghosts was after None NoneShown (pinned_claim was.numbers.index x.0.pinned) (no_claim i) disks disks) index
+              (end_turn ghosts was after x.0.pinned answer disks x.0.purpose says_none))),
         )
 
 abbrev is_so : Bool → Type 0

@@ -12,6 +12,7 @@ pub mod HeadLemmas
 pub mod KeyCommitLemmas
 pub mod LeftLemmas
 pub mod LookingLemmas
+pub mod LosingLemmas
 pub mod OrderLemmas
 pub mod PutAnswers
 pub mod PutBarred

@@ -155,7 +155,7 @@ look_says bucket numbers answer stub LacksMemory index x says shows = kept_all n
 -- a look, as a step
 pub looks_so : {D : Type 0} (ghosts : Ghosts D) (name : List ℕ) (was now : SlotSeen D) (answer : Result (List ℕ) SlotFault) (look : Look) (old new : List D)
     → LookSays ghosts was now name answer look.stub old new → ShowsLook answer look.looked
-    → LooksSo ghosts.tells ghosts.files name was now look (views ghosts old) (views ghosts new)
+    → LooksSo ghosts name was now look (views ghosts old) (views ghosts new)
 looks_so ghosts name was now answer look old new says shows = record {
   shown = shown_by answer;
   turns = λ claim. look_is_turn ghosts was now name answer look.stub old new claim says;

@@ -1,17 +1,16 @@
 -- The end of a put, as its section has it.
-use Rattle.std.proofs.Common.{◌≡◌, ◌∙◌, ◌≤◌, ℕ, Bool, List, Option, Some, None, Result, IsUtf8, length, refl, sym, subst}
+use Rattle.std.proofs.Common.{◌≡◌, ◌∙◌, ◌≤◌, ℕ, List, Option, Some, None, Result, IsUtf8, length, refl, sym, subst}
 use Rattle.call_types.specs.declared.feed.Cut.TheVariants as cut
 use Rattle.call_types.specs.declared.names.Key.{Key}
 use Rattle.call_types.specs.declared.refusal.Refusal.{Refusal}
 use Rattle.call_types.specs.declared.reply.Reply.TheVariants.{Refused}
-use Rattle.drive_base.specs.Files.{Files}
 use Rattle.drive_base.specs.View.{DriveView, views}
 use Rattle.drive_base.specs.declared.drive.Drive.{Ghosts}
 use Rattle.put_stage.specs.Stepping.{MayFinish}
 use Rattle.put_stage.specs.declared.stage.StageNext.TheVariants.{Finish}
 use Rattle.stamp_id.specs.declared.version.VersionId.{VersionId}
 use Rattle.slot_core.specs.CommitCauses.{CommitCause, deed_in}
-use Rattle.slot_core.specs.Committing.{CommitHolds, FitsFlight, IsLawfulDeed, IsNamedDeed, MayCommitData, SaysCommit, ShowsTrash, name_of}
+use Rattle.slot_core.specs.Committing.{ChecksFlight, CommitHolds, FitsFlight, IsLawfulDeed, IsNamedDeed, MayCommitData, SaysCommit, ShowsTrash, name_of}
 use Rattle.slot_core.specs.Stubs.{Says, entry_of}
 use Rattle.slot_core.specs.Turning.{Leaves, Turns}
 use Rattle.slot_core.specs.declared.commit.Commit.{Commit}
@@ -64,6 +63,7 @@ pub record CommitSaid {D : Type 0} (ghosts : Ghosts D) (was now : SlotSeen D) (d
   pub turns : Turns was.numbers now.numbers was.entries now.entries was.faults now.faults answer stub
   pub says : Says stub (SaysCommit deed at answer)
   pub holds : CommitHolds (Some flight) answer was.holding now.holding
+  pub checks : ChecksFlight (Some flight) was.holding answer
   pub leaves : FitsFlight deed (Some flight) → Leaves ghosts.tells ghosts.files was.numbers now.numbers was.holding now.holding was.lanes now.lanes stub
       (ShowsTrash deed answer was.holding.trash now.holding.trash) (MayCommitData deed now.holding)
   pub read : AreOnlyRead ghosts old new
@@ -74,31 +74,39 @@ module _ (op out : PutOp) (begun : Clearing) (work : Work) (is : op.state ≡ St
   pub end_commits : {D : Type 0} (ghosts : Ghosts D) (id : VersionId) (deed : Commit) (answer : Result Committed SlotFault) (stub : Option Stub) (later : PutState)
       (was after : SlotSeen D) (old new : List D) → id ≡ work.flight.id → was.numbers.set ≡ op.set → was.numbers.index ≡ key_slot op.at
       → Ends out.at out.kind work.mode id work.stage (Commits deed) → CommitSaid ghosts was after deed out.now work.flight answer stub old new → AfterCommit answer later
-      → TurnsSo ghosts.tells ghosts.files (PutStands op) (PutStandsAt (ask_of out) out.read begun later) stub was after (views ghosts old) (views ghosts new)
+      → TurnsSo ghosts (PutStands op) (PutStandsAt (ask_of out) out.read begun later) stub was after (views ghosts old) (views ghosts new)
   end_commits ghosts id deed answer stub later was after old new id_is set_is own (staged, deed_is, answers) said told =
       let wanted : deed ≡ put_deed op.at op.kind work.mode work.flight.id staged = deed_is ∙ (λ i. put_deed (same_put.at i) (same_put.kind i) work.mode (id_is i) staged) in
       let mine = subst (λ n. CommitSaid ghosts was after (put_deed op.at op.kind work.mode work.flight.id staged) n work.flight answer stub old new) same_put.now
       (subst (λ (d : Commit). CommitSaid ghosts was after d out.now work.flight answer stub old new) wanted said) in
-      subst (λ P. TurnsSo ghosts.tells ghosts.files (PutStands op) P stub was after (views ghosts old) (views ghosts new)) (stands_on op out begun later same_put same_read)
+      subst (λ P. TurnsSo ghosts (PutStands op) P stub was after (views ghosts old) (views ghosts new)) (stands_on op out begun later same_put same_read)
       (commit_so (ask_of op) op.read ghosts op.clearing begun op.state later work staged was after answer stub old new is set_is may.whole same own answers
-      (record { turns = mine.turns; says = mine.says; holds = mine.holds; leaves = mine.leaves (work.flight, refl, refl); read = mine.read }) mine.cause told)
+      (record {
+        turns = mine.turns;
+        says = mine.says;
+        holds = mine.holds;
+        checks = mine.checks;
+        cause = mine.cause;
+        leaves = mine.leaves (work.flight, refl, refl);
+        read = mine.read;
+      }) mine.cause told)
 
-  pub end_gives_up : {D T : Type 0} (tells : D → Bool) (files : D → Files) (id : VersionId) (why : Refusal) (answer : Result T SlotFault)
+  pub end_gives_up : {D T : Type 0} (ghosts : Ghosts D) (id : VersionId) (why : Refusal) (answer : Result T SlotFault)
       (was after : SlotSeen D) (disks : List DriveView) → op.read ≡ op.long → was.numbers.index ≡ key_slot op.at
-      → Ends out.at out.kind work.mode id work.stage (GivesUp why) → DropSays tells files was after work.flight.id answer None
-      → TurnsSo tells files (PutStands op) (PutStandsAt (ask_of out) out.read begun (Telling (Refused why))) None was after disks disks
-  end_gives_up tells files id why answer was after disks all own (refused, refuses, answers) says =
-      subst (λ P. TurnsSo tells files (PutStands op) P None was after disks disks) (stands_on op out begun (Telling (Refused why)) same_put same_read)
-      (refuse_so (ask_of op) op.read tells files op.clearing begun op.state work why refused was after answer disks is all may.whole same own refuses answers says)
+      → Ends out.at out.kind work.mode id work.stage (GivesUp why) → DropSays ghosts was after work.flight.id answer None
+      → TurnsSo ghosts (PutStands op) (PutStandsAt (ask_of out) out.read begun (Telling (Refused why))) None was after disks disks
+  end_gives_up ghosts id why answer was after disks all own (refused, refuses, answers) says =
+      subst (λ P. TurnsSo ghosts (PutStands op) P None was after disks disks) (stands_on op out begun (Telling (Refused why)) same_put same_read)
+      (refuse_so (ask_of op) op.read ghosts op.clearing begun op.state work why refused was after answer disks is all may.whole same own refuses answers says)
 
-  pub end_lacks : {D T : Type 0} (tells : D → Bool) (files : D → Files) (answer : Result T SlotFault) (was after : SlotSeen D) (disks : List DriveView)
-      → was.numbers.index ≡ key_slot op.at → DropSays tells files was after work.flight.id answer None
-      → TurnsSo tells files (PutStands op) (PutStandsAt (ask_of out) out.read begun (Told (Some cut.NoMemory))) None was after disks disks
-  end_lacks tells files answer was after disks own says =
-      subst (λ P. TurnsSo tells files (PutStands op) P None was after disks disks) (stands_on op out begun (Told (Some cut.NoMemory)) same_put same_read)
-      (lacks_so (ask_of op) op.read tells files op.clearing begun op.state work was after answer disks is same own says)
+  pub end_lacks : {D T : Type 0} (ghosts : Ghosts D) (answer : Result T SlotFault) (was after : SlotSeen D) (disks : List DriveView)
+      → was.numbers.index ≡ key_slot op.at → DropSays ghosts was after work.flight.id answer None
+      → TurnsSo ghosts (PutStands op) (PutStandsAt (ask_of out) out.read begun (Told (Some cut.NoMemory))) None was after disks disks
+  end_lacks ghosts answer was after disks own says =
+      subst (λ P. TurnsSo ghosts (PutStands op) P None was after disks disks) (stands_on op out begun (Told (Some cut.NoMemory)) same_put same_read)
+      (lacks_so (ask_of op) op.read ghosts op.clearing begun op.state work was after answer disks is same own says)
 
 -- what is said of a put that is given up, which has no stub
-pub drop_says : {D T : Type 0} (tells : D → Bool) (files : D → Files) (was now : SlotSeen D) (id : VersionId) (answer : Result T SlotFault) (stub : Option Stub) → stub ≡ None
-    → DropSays tells files was now id answer stub → DropSays tells files was now id answer None
-drop_says tells files was now id answer stub none says = subst (λ (s : Option Stub). DropSays tells files was now id answer s) none says
+pub drop_says : {D T : Type 0} (ghosts : Ghosts D) (was now : SlotSeen D) (id : VersionId) (answer : Result T SlotFault) (stub : Option Stub) → stub ≡ None
+    → DropSays ghosts was now id answer stub → DropSays ghosts was now id answer None
+drop_says ghosts was now id answer stub none says = subst (λ (s : Option Stub). DropSays ghosts was now id answer s) none says

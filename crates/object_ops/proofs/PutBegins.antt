@@ -1,11 +1,11 @@
 -- A put begins, as a step: its flight is held, and its stage, which has done nothing yet.
-use Rattle.std.proofs.Common.{◌≡◌, ◌∙◌, ◌<◌, ◌≤◌, ◌+◌, ◌*◌, ◌^◌, ℕ, Bool, List, [], ◌∷◌, ◌++◌, Contains, Option, Some, None, Result, Ok, option_to_list, option_map, inl, inr, refl, sym, ap, ap₂, subst, subst₂, arith}
+use Rattle.std.proofs.Common.{◌≡◌, ◌∙◌, ◌<◌, ◌≤◌, ◌+◌, ◌*◌, ◌^◌, ℕ, List, [], ◌∷◌, ◌++◌, Contains, Option, Some, None, Result, Ok, Err, option_to_list, option_map, inl, inr, refl, sym, ap, ap₂, subst, subst₂, arith}
 use Rattle.std.specs.Int.{IsBitSet}
 use Rattle.std.specs.List.{flat_map}
 use Rattle.std.proofs.lemmas.Grind.{flat_map-append}
 use Rattle.std.proofs.lemmas.List.Elements.{Contains-append_cases, Contains-append_left, Contains-append_right}
 use Rattle.call_types.specs.declared.names.Key.{Key}
-use Rattle.drive_base.specs.Files.{Files}
+use Rattle.drive_base.specs.declared.drive.Drive.{Ghosts}
 use Rattle.drive_base.specs.View.{DriveView, view_at}
 use Rattle.drive_base.specs.declared.plan.SetPlan.{SetPlan}
 use Rattle.drive_base.proofs.ViewLemmas.{untouched_are_only_read}
@@ -23,11 +23,13 @@ use Rattle.slot_data.specs.Holding.{Hands, Holding, Pinned}
 use Rattle.slot_data.specs.Moves.{with_flight}
 use Rattle.slot_data.specs.Standing.{DataStands}
 use Rattle.slot_data.proofs.ListedLemmas.{one_there, put_last}
+use Rattle.slot_core.specs.Numbers.{AreSpent}
 use Rattle.slot_core.specs.Hands.{HandsStay}
 use Rattle.slot_core.specs.Sections.{PutHolds, ShowsNoMore}
 use Rattle.slot_core.specs.Turning.{Leaves, TurnsQuietly}
 use Rattle.slot_core.specs.Views.{last_of}
 use Rattle.slot_core.specs.declared.fault.SlotFault.{SlotFault}
+use Rattle.slot_core.specs.declared.fault.SlotFault.TheVariants.{SeqSpent}
 use Rattle.slot_core.specs.declared.handles.Flight.{Flight}
 use Rattle.slot_core.specs.declared.stub.Stub.{Stub}
 use Rattle.receipts.specs.Events.Shown.{NoneShown}
@@ -177,17 +179,18 @@ module _ (set : SetPlan) (index last later : ℕ) (held : Holding) (f : Flying) 
 
 -- ---- as a step
 
-module _ {D : Type 0} (tells : D → Bool) (files : D → Files) where
+module _ {D : Type 0} (ghosts : Ghosts D) where
   -- what the begin of a put says
   pub record BeginSays (was now : SlotSeen D) (at : Key) (answer : Result Flight SlotFault) (stub : Option Stub) : Type 0 where
     pub turns : TurnsQuietly was.numbers now.numbers was.entries now.entries was.faults now.faults answer stub
+    pub spent : answer ≡ Err SeqSpent → AreSpent was.numbers
     pub holds : PutHolds was.numbers now.numbers at answer was.holding now.holding
-    pub leaves : Leaves tells files was.numbers now.numbers was.holding now.holding was.lanes now.lanes stub ShowsNoMore HandsStay
+    pub leaves : Leaves ghosts.tells ghosts.files was.numbers now.numbers was.holding now.holding was.lanes now.lanes stub ShowsNoMore HandsStay
 
   -- it began: a step after which the flight is held
   pub begin_turn : (was now : SlotSeen D) (at : Key) (flight : Flight) (disks : List DriveView) → was.numbers.index ≡ key_slot at → BeginSays was now at (Ok flight) None
       → HoldsPut at flight (first_claim was.numbers.index (record { id = flight.id; name = key_name at }))
-      × TurnMoves tells files was now None NoneShown (no_claim was.numbers.index) (first_claim was.numbers.index (record { id = flight.id; name = key_name at })) disks disks
+      × TurnMoves ghosts was now None NoneShown (no_claim was.numbers.index) (first_claim was.numbers.index (record { id = flight.id; name = key_name at })) disks disks
   begin_turn was now at flight disks own x =
       let f : Flying = record { id = flight.id; name = key_name at } in
       let begun = x.holds in
@@ -203,6 +206,7 @@ module _ {D : Type 0} (tells : D → Bool) (files : D → Files) where
           faults = x.turns.faults;
           claims = record { slot = refl; elsewhere = λ other. absurd (other refl) };
           read = untouched_are_only_read disks;
+          cause = tt;
           leaves = λ records state stands.
               let left = x.leaves records state stands in
               record {

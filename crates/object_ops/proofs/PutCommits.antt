@@ -1,5 +1,5 @@
 -- The commit of a put, as a step: its data has its holders, and nothing is held of the slot after it.
-use Rattle.std.proofs.Common.{◌≡◌, ◌∙◌, ℕ, List, [], ◌∷◌, Contains, Option, Some, None, Result, Ok, inl, inr, refl, sym, ap, subst, subst₂}
+use Rattle.std.proofs.Common.{◌≡◌, ◌∙◌, ℕ, List, [], ◌∷◌, Contains, Option, Some, None, Result, Ok, Err, inl, inr, refl, sym, ap, subst, subst₂}
 use Rattle.std.proofs.lemmas.List.Elements.{Contains-append_left, Contains-push}
 use Rattle.audit_trail.specs.declared.entry.Entry.{Entry}
 use Rattle.call_types.specs.declared.names.Key.{Key}
@@ -8,6 +8,7 @@ use Rattle.drive_base.specs.View.{views}
 use Rattle.drive_base.specs.declared.drive.Drive.{Ghosts}
 use Rattle.drive_base.specs.declared.plan.SetPlan.{SetPlan}
 use Rattle.put_stage.specs.Taking.{HasTaken}
+use Rattle.stamp_id.specs.declared.version.VersionId.{VersionId}
 use Rattle.put_stage.specs.declared.stage.Stage.{Stage}
 use Rattle.put_stage.specs.declared.staged.Staged.{Staged}
 use Rattle.slot_history.specs.Contents.{NamedData}
@@ -15,25 +16,29 @@ use Rattle.slot_history.specs.Names.{key_name}
 use Rattle.slot_history.specs.Standing.{Flying, Records}
 use Rattle.slot_history.specs.State.{State, TakesOut}
 use Rattle.slot_data.specs.Disks.{Disks, HasHolders}
-use Rattle.slot_data.specs.Holding.{Hands, Holding, IsPinned, Known, Pinned}
+use Rattle.slot_data.specs.Holding.{Hands, Holding, IsInFlight, IsPinned, Known, Pinned}
 use Rattle.slot_data.specs.Moves.{with_known}
 use Rattle.slot_data.specs.Standing.{DataStands, IsListed}
 use Rattle.slot_data.proofs.HandsLemmas.{holders_are_known}
-use Rattle.slot_core.specs.Committing.{CommitHolds, MayCommitData, SaysCommit, ShowsTrash}
+use Rattle.slot_core.specs.CommitCauses.{CommitCause, deed_in}
+use Rattle.slot_core.specs.Committing.{ChecksFlight, CommitHolds, MayCommitData, SaysCommit, ShowsTrash}
 use Rattle.slot_core.specs.Stubs.{Says, entry_of}
 use Rattle.slot_core.specs.Turning.{EntryMoves, Leaves, Turns}
 use Rattle.slot_core.specs.Views.{last_of}
 use Rattle.slot_core.specs.declared.commit.Commit.{Commit}
 use Rattle.slot_core.specs.declared.commit.Committed.{Committed}
 use Rattle.slot_core.specs.declared.fault.SlotFault.{SlotFault}
+use Rattle.slot_core.specs.declared.fault.SlotFault.TheVariants.{NotInFlight}
 use Rattle.slot_core.specs.declared.handles.Flight.{Flight}
 use Rattle.slot_core.specs.declared.stub.Stub.{Stub}
 use Rattle.receipts.specs.Events.Shown.{NoneShown}
+use Rattle.op_steps.specs.Causes.{IsPutOf}
 use Rattle.op_steps.specs.Claims.{Claim, DisksTell, HoldsAt, IsMet, among, claims_at, disks_of, hands_of, no_claim}
 use Rattle.op_steps.specs.Looking.{AreOnlyRead}
 use Rattle.op_steps.specs.Moves.{ShowsBy, TurnLeaves, TurnMoves}
 use Rattle.op_steps.specs.Notes.{noted}
 use Rattle.op_steps.specs.Store.{LanesStand, SlotSeen}
+use Rattle.op_steps.proofs.CauseLemmas.{commit_turn_cause}
 use Rattle.op_steps.proofs.DataLemmas.{data_read, last_rises}
 use Rattle.op_steps.proofs.LookLemmas.{all_read}
 use Rattle.op_steps.proofs.NoteLemmas.{audit_noted, entry_counts, entry_noted, same_entry}
@@ -67,12 +72,18 @@ put_claim at flight claim index own held = record {
   none_known = held.none_known;
 }
 
+same_flight : (a b : Flight) → Some a ≡ Some b → a ≡ b
+same_flight a b same = cc
+
 module _ {D : Type 0} (ghosts : Ghosts D) where
   -- what the commit of a put says
   pub record PutSays (was now : SlotSeen D) (deed : Commit) (at : ℕ) (flight : Flight) (answer : Result Committed SlotFault) (stub : Option Stub) (old new : List D) : Type 0 where
     pub turns : Turns was.numbers now.numbers was.entries now.entries was.faults now.faults answer stub
     pub says : Says stub (SaysCommit deed at answer)
     pub holds : CommitHolds (Some flight) answer was.holding now.holding
+    pub checks : ChecksFlight (Some flight) was.holding answer
+    pub cause : CommitCause ghosts.tells ghosts.files ghosts.count was.numbers now.numbers deed (Some flight.id) at answer (deed_in (entry_of stub))
+        was.lanes now.lanes old new
     pub leaves : Leaves ghosts.tells ghosts.files was.numbers now.numbers was.holding now.holding was.lanes now.lanes stub
         (ShowsTrash deed answer was.holding.trash now.holding.trash) (MayCommitData deed now.holding)
     pub read : AreOnlyRead ghosts old new
@@ -169,7 +180,7 @@ module _ {D : Type 0} (ghosts : Ghosts D) where
 
     -- what it leaves of the lanes and of the data
     leaves_so : (records : Records) (state : State) → LanesStand ghosts.tells ghosts.files was records state
-        → TurnLeaves ghosts.tells ghosts.files was now (noted stub) NoneShown claim (no_claim index) (views ghosts old) (views ghosts new) records state
+        → TurnLeaves ghosts was now (noted stub) NoneShown claim (no_claim index) (views ghosts old) (views ghosts new) records state
     leaves_so records state stands =
         let left = x.leaves records state stands in
         record {
@@ -193,7 +204,13 @@ module _ {D : Type 0} (ghosts : Ghosts D) where
               (with_known (hands_of (claims_at index (among front claim rest))) this) later)));
         }
 
-    pub commit_turn : TurnMoves ghosts.tells ghosts.files was now (noted stub) NoneShown claim (no_claim index) (views ghosts old) (views ghosts new)
+    -- where its put isn't listed, that is the claim's
+    unlisted : (id : VersionId) → answer ≡ Err (NotInFlight id) → IsPutOf claim (Some id) × (IsInFlight was.holding.flights id → ⊥)
+    unlisted id is =
+        let none = x.checks.refused id is in
+        ((f, held.flight_is, ap (λ (g : Flight). g.id) (same_flight flight none.0.0 none.0.1) ∙ none.0.2), none.1)
+
+    pub commit_turn : TurnMoves ghosts was now (noted stub) NoneShown claim (no_claim index) (views ghosts old) (views ghosts new)
     commit_turn = record {
       numbers = x.turns.numbers;
       note_is = entry_noted was.numbers answer stub x.turns.stub_is;
@@ -201,5 +218,7 @@ module _ {D : Type 0} (ghosts : Ghosts D) where
       faults = entry_counts was.numbers answer stub was.faults now.faults x.turns.stub_is x.turns.faults;
       claims = record { slot = sym own; elsewhere = λ other. absurd (other own) };
       read = all_read ghosts old new x.read;
+      cause = commit_turn_cause ghosts was now claim old new deed (Some flight.id) at (f, held.flight_is, refl) answer stub x.turns.stub_is x.says
+          x.turns.spent.0 x.turns.faults unlisted x.cause;
       leaves = leaves_so;
     }

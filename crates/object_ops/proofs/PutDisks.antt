@@ -35,13 +35,13 @@ differ a b apart = elim (same_or_other a b) [
 ]
 
 -- the names of an id are none of those of another
-other_manifest : (a b : VersionId) → b ≢ a → IsElsewhere a (manifest_name b)
+pub other_manifest : (a b : VersionId) → b ≢ a → IsElsewhere a (manifest_name b)
 other_manifest a b apart = (
   differ (manifest_name a) (manifest_name b) (λ same. apart (sym (hex_texts_are_one a b (ap (drop 2) same)))),
   differ (shard_name a) (manifest_name b) (first_bytes 115 109 _ _ (λ same. omega arith)),
 )
 
-other_shard : (a b : VersionId) → b ≢ a → IsElsewhere a (shard_name b)
+pub other_shard : (a b : VersionId) → b ≢ a → IsElsewhere a (shard_name b)
 other_shard a b apart = (
   differ (manifest_name a) (shard_name b) (first_bytes 109 115 _ _ (λ same. omega arith)),
   differ (shard_name a) (shard_name b) (λ same. apart (sym (hex_texts_are_one a b (ap (drop 2) same)))),

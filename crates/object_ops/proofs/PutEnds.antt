@@ -1,8 +1,8 @@
 -- A put ends: it is given up, or committed. Its flight is listed no more, and nothing is held of the slot.
-use Rattle.std.proofs.Common.{◌≡◌, ◌≢◌, ◌∙◌, ◌≤◌, ℕ, Bool, List, [], ◌∷◌, ◌++◌, Contains, Option, Some, None, Result, option_to_list, option_map, inl, inr, refl, sym, ap, ap₂, subst, subst₂, arith}
+use Rattle.std.proofs.Common.{◌≡◌, ◌≢◌, ◌∙◌, ◌≤◌, ℕ, List, [], ◌∷◌, ◌++◌, Contains, Option, Some, None, Result, option_to_list, option_map, inl, inr, refl, sym, ap, ap₂, subst, subst₂, arith}
 use Rattle.std.specs.List.{flat_map}
 use Rattle.std.proofs.lemmas.Grind.{flat_map-append}
-use Rattle.drive_base.specs.Files.{Files}
+use Rattle.drive_base.specs.declared.drive.Drive.{Ghosts}
 use Rattle.drive_base.specs.View.{DriveView}
 use Rattle.drive_base.specs.declared.plan.SetPlan.{SetPlan}
 use Rattle.drive_base.proofs.ViewLemmas.{untouched_are_only_read}
@@ -141,16 +141,16 @@ quiet_moves : (slot : ℕ) (records after : Records) (state now : State) → Ent
     → (after ≡ records) × (now ≡ state)
 quiet_moves slot records after state now x = x
 
-module _ {D T : Type 0} (tells : D → Bool) (files : D → Files) where
+module _ {D T : Type 0} (ghosts : Ghosts D) where
   -- what it says
   pub record DropSays (was now : SlotSeen D) (id : VersionId) (answer : Result T SlotFault) (stub : Option Stub) : Type 0 where
     pub turns : TurnsQuietly was.numbers now.numbers was.entries now.entries was.faults now.faults answer stub
     pub holds : PutGoes id was.holding now.holding
-    pub leaves : Leaves tells files was.numbers now.numbers was.holding now.holding was.lanes now.lanes stub ShowsNoMore (MayGiveUp id)
+    pub leaves : Leaves ghosts.tells ghosts.files was.numbers now.numbers was.holding now.holding was.lanes now.lanes stub ShowsNoMore (MayGiveUp id)
 
   -- it is a step after which nothing is held
   pub drop_turn : (was now : SlotSeen D) (f : Flying) (claim : Claim) (answer : Result T SlotFault) (disks : List DriveView) → IsPutClaim was.numbers.index f claim
-      → DropSays was now f.id answer None → TurnMoves tells files was now None NoneShown claim (no_claim was.numbers.index) disks disks
+      → DropSays was now f.id answer None → TurnMoves ghosts was now None NoneShown claim (no_claim was.numbers.index) disks disks
   drop_turn was now f claim answer disks is_put x = record {
     numbers = x.turns.numbers;
     note_is = tt;
@@ -158,6 +158,7 @@ module _ {D T : Type 0} (tells : D → Bool) (files : D → Files) where
     faults = x.turns.faults;
     claims = record { slot = sym is_put.own; elsewhere = λ other. absurd (other is_put.own) };
     read = untouched_are_only_read disks;
+    cause = tt;
     leaves = λ records state stands.
         let left = x.leaves records state stands in
         record {

@@ -1,5 +1,5 @@
 -- The steps of a PutObject, as an op does them.
-use Rattle.std.proofs.Common.{◌≡◌, ◌∙◌, ◌<◌, ◌+◌, ℕ, Bool, true, false, List, [], ◌∷◌, ◌++◌, Option, Some, None, Result, Ok, Err, IfOk, append-nil, length, replicate, slice_index_or, inl, inr, refl, sym, ap, subst, subst₂, arith}
+use Rattle.std.proofs.Common.{◌≡◌, ◌∙◌, ◌<◌, ◌+◌, ℕ, true, false, List, [], ◌∷◌, ◌++◌, Option, Some, None, Result, Ok, Err, IfOk, append-nil, length, replicate, slice_index_or, inl, inr, refl, sym, ap, subst, subst₂, arith}
 use Rattle.std.specs.Int.{IsBitSet}
 use Rattle.std.proofs.lemmas.List.{get_or-replicate}
 use Rattle.std.proofs.lemmas.List.Elements.{Contains-append_left}
@@ -12,7 +12,6 @@ use Rattle.call_types.specs.declared.reply.Reply.TheVariants.{Found}
 use Rattle.desk_base.specs.Answering.{bytes_after}
 use Rattle.desk_base.specs.Telling.{Effect}
 use Rattle.desk_base.specs.Telling.Telling.{Head as TheHead}
-use Rattle.drive_base.specs.Files.{Files}
 use Rattle.drive_base.specs.View.{DriveView, views}
 use Rattle.drive_base.specs.declared.drive.Drive.{Ghosts}
 use Rattle.drive_base.specs.declared.plan.SetPlan.{SetPlan}
@@ -81,11 +80,11 @@ module _ (ask : PutAsk) (read : ℕ) where
       inl (is ∙ ap (λ (q : List Removal). with_taken (no_claim (key_slot ask.at)) (ids_of (files_of q))) (sym none.queue))
 
   -- the look at the bucket
-  pub look_so : {D : Type 0} (tells : D → Bool) (files : D → Files) (clearing : Clearing) (one later : PutState) (name : List ℕ) (was after : SlotSeen D) (look : Look)
+  pub look_so : {D : Type 0} (ghosts : Ghosts D) (clearing : Clearing) (one later : PutState) (name : List ℕ) (was after : SlotSeen D) (look : Look)
       (old new : List DriveView) → one ≡ state.Looking → read ≡ 0 → name ≡ bucket_register ask.at.bucket → was.numbers.index ≡ bucket_slot ask.at.bucket
-      → LooksSo tells files name was after look old new → AfterLook look.looked ask.long later
-      → TurnsSo tells files (Stands clearing one) (Stands clearing later) look.stub was after old new
-  look_so tells files clearing one later name was after look old new is zero named index looks next claim log x =
+      → LooksSo ghosts name was after look old new → AfterLook look.looked ask.long later
+      → TurnsSo ghosts (Stands clearing one) (Stands clearing later) look.stub was after old new
+  look_so ghosts clearing one later name was after look old new is zero named index looks next claim log x =
       let here = stands_at clearing one state.Looking claim log is x in
       let event = Turned was.numbers.index (noted look.stub) looks.shown in (
         claim,
@@ -156,19 +155,19 @@ module _ (ask : PutAsk) (read : ℕ) where
           ]
 
   -- it began
-  pub begun_so : {D : Type 0} (tells : D → Bool) (files : D → Files) (clearing : Clearing) (one later : PutState) (mode : Mode) (flight : Flight) (was after : SlotSeen D)
-      (disks : List DriveView) → one ≡ state.Beginning mode → was.numbers.index ≡ key_slot ask.at → BeginSays tells files was after ask.at (Ok flight) None
+  pub begun_so : {D : Type 0} (ghosts : Ghosts D) (clearing : Clearing) (one later : PutState) (mode : Mode) (flight : Flight) (was after : SlotSeen D)
+      (disks : List DriveView) → one ≡ state.Beginning mode → was.numbers.index ≡ key_slot ask.at → BeginSays ghosts was after ask.at (Ok flight) None
       → BeginsWork ask.set (key_name ask.at) ask.long ask.stated mode flight later
-      → TurnsSo tells files (Stands clearing one) (Stands clearing later) None was after disks disks
-  begun_so tells files clearing one later mode flight was after disks is own says next claim log x =
+      → TurnsSo ghosts (Stands clearing one) (Stands clearing later) None was after disks disks
+  begun_so ghosts clearing one later mode flight was after disks is own says next claim log x =
       let here = stands_at clearing one (state.Beginning mode) claim log is x in
       let f : Flying = record { id = flight.id; name = key_name ask.at } in
-      let turn = begin_turn tells files was after ask.at flight disks own says in
+      let turn = begin_turn ghosts was after ask.at flight disks own says in
       let held = subst (λ i. HoldsPut ask.at flight (first_claim i f)) own turn.0 in (
         first_claim was.numbers.index f,
         NoneShown,
         subst (λ i. Stands clearing later (first_claim i f) (log ++ Turned was.numbers.index None NoneShown ∷ [])) (sym own) (by later next here.0 here.2 held),
-        subst (λ (c : Claim). TurnMoves tells files was after None NoneShown c (first_claim was.numbers.index f) disks disks)
+        subst (λ (c : Claim). TurnMoves ghosts was after None NoneShown c (first_claim was.numbers.index f) disks disks)
             (sym (here.1 ∙ ap no_claim (sym own))) turn.1,
       )
     where
@@ -273,17 +272,17 @@ module _ (ask : PutAsk) (read : ℕ) where
 
   -- ---- the trash
 
-  pub clear_so : {D : Type 0} (tells : D → Bool) (files : D → Files) (clearing cleared : Clearing) (one : PutState) (why : Option Cut) (was after : SlotSeen D)
-      (disks : List DriveView) → one ≡ state.Told why → clearing.takes ≡ true → was.numbers.index ≡ key_slot ask.at → TakesTrash tells files was after (files_left cleared)
-      → TurnsSo tells files (Stands clearing one) (Stands cleared one) None was after disks disks
-  clear_so tells files clearing cleared one why was after disks is takes own taking claim log x =
+  pub clear_so : {D : Type 0} (ghosts : Ghosts D) (clearing cleared : Clearing) (one : PutState) (why : Option Cut) (was after : SlotSeen D)
+      (disks : List DriveView) → one ≡ state.Told why → clearing.takes ≡ true → was.numbers.index ≡ key_slot ask.at → TakesTrash ghosts was after (files_left cleared)
+      → TurnsSo ghosts (Stands clearing one) (Stands cleared one) None was after disks disks
+  clear_so ghosts clearing cleared one why was after disks is takes own taking claim log x =
       let here = stands_at clearing one (state.Told why) claim log is x in
       let event = Turned was.numbers.index None NoneShown in
       by here.0 here.1
     where
       by : HoldsRest (key_slot ask.at) clearing claim log → Pays ask.set (task_of ask) why log
           → (later : Claim) × (shown : Shown) × Stands cleared one later (log ++ Turned was.numbers.index None shown ∷ [])
-          × TurnMoves tells files was after None shown claim later disks disks
+          × TurnMoves ghosts was after None shown claim later disks disks
       by (inl holds) pays = (
         with_taken claim (ids_of (files_left cleared)),
         NoneShown,

@@ -1,5 +1,5 @@
 -- The section that ends a put, as an op does it: its body is committed, or it is given up.
-use Rattle.std.proofs.Common.{◌≡◌, ◌∙◌, ℕ, Bool, List, [], ◌∷◌, ◌++◌, Option, Some, None, Result, Ok, Err, MatchOption, append-nil, length, inl, inr, sym, ap, subst, arith}
+use Rattle.std.proofs.Common.{◌≡◌, ◌∙◌, ℕ, List, [], ◌∷◌, ◌++◌, Option, Some, None, Result, Ok, Err, MatchOption, append-nil, length, inl, inr, sym, ap, subst, arith}
 use Rattle.call_types.specs.Refusals.{refusal_of}
 use Rattle.call_types.specs.declared.act.Act.{Act}
 use Rattle.call_types.specs.declared.act.Act.TheVariants as act
@@ -11,7 +11,6 @@ use Rattle.call_types.specs.declared.refusal.KeyRefusal.{KeyRefusal}
 use Rattle.call_types.specs.declared.refusal.Refusal.{Refusal}
 use Rattle.call_types.specs.declared.reply.Reply.{Reply}
 use Rattle.call_types.specs.declared.reply.Reply.TheVariants.{Refused}
-use Rattle.drive_base.specs.Files.{Files}
 use Rattle.drive_base.specs.View.{DriveView, views}
 use Rattle.drive_base.specs.declared.drive.Drive.{Ghosts}
 use Rattle.put_stage.specs.declared.staged.Staged.{Staged}
@@ -94,11 +93,11 @@ module _ (ask : PutAsk) (read : ℕ) where
 
   -- ---- a put is given up
 
-  pub drop_so : {D T : Type 0} (tells : D → Bool) (files : D → Files) (clearing begun : Clearing) (one : PutState) (flight : Flight) (why : Cut) (was after : SlotSeen D)
+  pub drop_so : {D T : Type 0} (ghosts : Ghosts D) (clearing begun : Clearing) (one : PutState) (flight : Flight) (why : Cut) (was after : SlotSeen D)
       (answer : Result T SlotFault) (disks : List DriveView) → one ≡ state.Dropping flight why → begun.queue.items ≡ clearing.queue.items
-      → was.numbers.index ≡ key_slot ask.at → DropSays tells files was after flight.id answer None
-      → TurnsSo tells files (Stands clearing one) (Stands begun (state.Told (Some why))) None was after disks disks
-  drop_so tells files clearing begun one flight why was after answer disks is same own says claim log x =
+      → was.numbers.index ≡ key_slot ask.at → DropSays ghosts was after flight.id answer None
+      → TurnsSo ghosts (Stands clearing one) (Stands begun (state.Told (Some why))) None was after disks disks
+  drop_so ghosts clearing begun one flight why was after answer disks is same own says claim log x =
       let here = subst (λ (s : PutState). Stands clearing s claim log) is x in
       let mine : claim.slot ≡ was.numbers.index = here.1.slot_is ∙ sym own in (
         no_claim was.numbers.index,
@@ -107,17 +106,17 @@ module _ (ask : PutAsk) (read : ℕ) where
           rest_begun clearing begun was.numbers.index (turned was.numbers.index None log) here.0 same own,
           pays_on ask.set (task_of ask) (Some why) log (Turned was.numbers.index None NoneShown) tt here.2,
         ),
-        drop_turn tells files was after (record { id = flight.id; name = key_name ask.at }) claim answer disks
+        drop_turn ghosts was after (record { id = flight.id; name = key_name ask.at }) claim answer disks
             (put_claim ask.at flight claim was.numbers.index mine here.1) says,
       )
 
   -- for what the stage refuses, or for want of memory
-  pub refuse_so : {D T : Type 0} (tells : D → Bool) (files : D → Files) (clearing begun : Clearing) (one : PutState) (work : Work) (why : Refusal) (refused : StageFault)
+  pub refuse_so : {D T : Type 0} (ghosts : Ghosts D) (clearing begun : Clearing) (one : PutState) (work : Work) (why : Refusal) (refused : StageFault)
       (was after : SlotSeen D) (answer : Result T SlotFault) (disks : List DriveView) → one ≡ state.Staging work → read ≡ ask.long → work.stage.load.left ≡ 0
       → begun.queue.items ≡ clearing.queue.items → was.numbers.index ≡ key_slot ask.at → refusal_of_stage refused ≡ Some why → Answers work.stage (Err refused)
-      → DropSays tells files was after work.flight.id answer None
-      → TurnsSo tells files (Stands clearing one) (Stands begun (state.Telling (Refused why))) None was after disks disks
-  refuse_so tells files clearing begun one work why refused was after answer disks is all whole same own refuses answers says claim log x =
+      → DropSays ghosts was after work.flight.id answer None
+      → TurnsSo ghosts (Stands clearing one) (Stands begun (state.Telling (Refused why))) None was after disks disks
+  refuse_so ghosts clearing begun one work why refused was after answer disks is all whole same own refuses answers says claim log x =
       let here = subst (λ (s : PutState). Stands clearing s claim log) is x in
       let s = here.1 in
       let event = Turned was.numbers.index None NoneShown in
@@ -136,15 +135,15 @@ module _ (ask : PutAsk) (read : ℕ) where
                 (omega (arith, whole, long, same_long), stage_owes ask work claim log why refused s whole refuses answers);
           },
         ),
-        drop_turn tells files was after (record { id = work.flight.id; name = key_name ask.at }) claim answer disks
+        drop_turn ghosts was after (record { id = work.flight.id; name = key_name ask.at }) claim answer disks
             (put_claim ask.at work.flight claim was.numbers.index mine s.held) says,
       )
 
-  pub lacks_so : {D T : Type 0} (tells : D → Bool) (files : D → Files) (clearing begun : Clearing) (one : PutState) (work : Work)
+  pub lacks_so : {D T : Type 0} (ghosts : Ghosts D) (clearing begun : Clearing) (one : PutState) (work : Work)
       (was after : SlotSeen D) (answer : Result T SlotFault) (disks : List DriveView) → one ≡ state.Staging work
-      → begun.queue.items ≡ clearing.queue.items → was.numbers.index ≡ key_slot ask.at → DropSays tells files was after work.flight.id answer None
-      → TurnsSo tells files (Stands clearing one) (Stands begun (state.Told (Some cut.NoMemory))) None was after disks disks
-  lacks_so tells files clearing begun one work was after answer disks is same own says claim log x =
+      → begun.queue.items ≡ clearing.queue.items → was.numbers.index ≡ key_slot ask.at → DropSays ghosts was after work.flight.id answer None
+      → TurnsSo ghosts (Stands clearing one) (Stands begun (state.Told (Some cut.NoMemory))) None was after disks disks
+  lacks_so ghosts clearing begun one work was after answer disks is same own says claim log x =
       let here = subst (λ (s : PutState). Stands clearing s claim log) is x in
       let s = here.1 in
       let event = Turned was.numbers.index None NoneShown in
@@ -156,7 +155,7 @@ module _ (ask : PutAsk) (read : ℕ) where
           rest_begun clearing begun was.numbers.index (log ++ event ∷ []) here.0 same own,
           none_pays ask.set (task_of ask) (log ++ event ∷ []) looked.uncut (none_told (log ++ event ∷ []) looked.untold) (inl looked.idle),
         ),
-        drop_turn tells files was after (record { id = work.flight.id; name = key_name ask.at }) claim answer disks
+        drop_turn ghosts was after (record { id = work.flight.id; name = key_name ask.at }) claim answer disks
             (put_claim ask.at work.flight claim was.numbers.index mine s.held) says,
       )
 
@@ -253,7 +252,7 @@ module _ (ask : PutAsk) (read : ℕ) where
       → CommitCause ghosts.tells ghosts.files ghosts.count was.numbers after.numbers (put_deed ask.at ask.kind work.mode work.flight.id staged) (Some work.flight.id)
       ask.now answer (deed_in (entry_of stub)) was.lanes after.lanes old new
       → AfterCommit answer later
-      → TurnsSo ghosts.tells ghosts.files (Stands clearing one) (Stands begun later) stub was after (views ghosts old) (views ghosts new)
+      → TurnsSo ghosts (Stands clearing one) (Stands begun later) stub was after (views ghosts old) (views ghosts new)
   commit_so ghosts clearing begun one later work staged was after answer stub old new is set_is whole same own answers says cause told claim log x =
       let here = subst (λ (s : PutState). Stands clearing s claim log) is x in
       let s = here.1 in

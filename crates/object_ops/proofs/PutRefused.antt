@@ -1,10 +1,10 @@
 -- The begin of a put that is refused, as a step that leaves any claim.
-use Rattle.std.proofs.Common.{◌≡◌, ◌∙◌, ℕ, Bool, List, [], ◌∷◌, ◌++◌, Contains, Option, Some, None, MatchOption, Result, Ok, Err, option_and_then, append-nil, length, inr, refl, sym, ap, subst, subst₂, arith}
+use Rattle.std.proofs.Common.{◌≡◌, ◌∙◌, ℕ, List, [], ◌∷◌, ◌++◌, Contains, Option, Some, None, MatchOption, Result, Ok, Err, option_and_then, append-nil, length, inr, refl, sym, ap, subst, subst₂, arith}
 use Rattle.call_types.specs.declared.names.Key.{Key}
 use Rattle.call_types.specs.declared.names.Mode.{Mode}
 use Rattle.call_types.specs.declared.refusal.Refusal.TheVariants as refusal
 use Rattle.call_types.specs.declared.reply.Reply.TheVariants.{Refused}
-use Rattle.drive_base.specs.Files.{Files}
+use Rattle.drive_base.specs.declared.drive.Drive.{Ghosts}
 use Rattle.drive_base.specs.View.{DriveView}
 use Rattle.drive_base.proofs.ViewLemmas.{untouched_are_only_read}
 use Rattle.audit_trail.specs.Entries.{with_entry}
@@ -27,6 +27,7 @@ use Rattle.op_steps.specs.Moves.{ShowsBy, TurnMoves}
 use Rattle.op_steps.specs.Notes.{note_of, noted, refusal_by}
 use Rattle.op_steps.specs.Store.{SlotSeen}
 use Rattle.op_steps.specs.Words.{TurnsSo}
+use Rattle.op_steps.proofs.CauseLemmas.{FaultCause, answer_cause}
 use Rattle.op_steps.proofs.DataLemmas.{last_rises}
 use Rattle.op_steps.proofs.NoteLemmas.{audit_noted, entry_counts, entry_noted, same_entry}
 use Rattle.op_steps.proofs.TellLemmas.{cuts_after}
@@ -73,9 +74,19 @@ counts_of numbers (slot.AuditFailed before after) stub old new x same = absurd x
 counts_of numbers slot.NoMemory stub old new x same = same
 counts_of numbers (slot.NotInFlight id) stub old new x same = absurd x
 
-module _ {D : Type 0} (tells : D → Bool) (files : D → Files) where
+module _ {D : Type 0} (ghosts : Ghosts D) where
+  -- why it was refused
+  refused_cause : (was now : SlotSeen D) (at : Key) (fault : SlotFault) (stub : Option Stub) (disks : List DriveView) (claim : Claim)
+      → BeginSays ghosts was now at (Err fault) stub → FaultCause ghosts was now claim disks disks fault (entry_of stub)
+  refused_cause was now at (slot.Quorum quorum) stub disks claim x = absurd x.turns.stub_is
+  refused_cause was now at (slot.Key why) stub disks claim x = absurd x.turns.stub_is
+  refused_cause was now at slot.SeqSpent stub disks claim x = (no_entry was.numbers slot.SeqSpent stub x.turns.stub_is, x.spent refl)
+  refused_cause was now at (slot.AuditFailed before after) stub disks claim x = absurd x.turns.stub_is
+  refused_cause was now at slot.NoMemory stub disks claim x = tt
+  refused_cause was now at (slot.NotInFlight id) stub disks claim x = absurd x.turns.stub_is
+
   pub refused_turn : (was now : SlotSeen D) (at : Key) (fault : SlotFault) (stub : Option Stub) (disks : List DriveView) (claim : Claim)
-      → BeginSays tells files was now at (Err fault) stub → TurnMoves tells files was now (noted stub) NoneShown claim claim disks disks
+      → BeginSays ghosts was now at (Err fault) stub → TurnMoves ghosts was now (noted stub) NoneShown claim claim disks disks
   refused_turn was now at fault stub disks claim x =
       let stub_is = stub_of was.numbers fault stub x.turns.stub_is in
       let none = no_entry was.numbers fault stub x.turns.stub_is in
@@ -88,6 +99,7 @@ module _ {D : Type 0} (tells : D → Bool) (files : D → Files) where
             (counts_of was.numbers fault stub was.faults now.faults x.turns.stub_is x.turns.faults);
         claims = record { slot = refl; elsewhere = λ other. refl };
         read = untouched_are_only_read disks;
+        cause = answer_cause ghosts was now claim disks disks {T = Flight} (Err fault) stub stub_is (refused_cause was now at fault stub disks claim x);
         leaves = λ records state stands.
             let left = x.leaves records state stands in
             record {
@@ -158,19 +170,19 @@ module _ (ask : PutAsk) (read : ℕ) where
   refused_stands clearing later mode numbers (slot.NotInFlight id) stub claim log zero own none is found x after = absurd x
 
   -- the begin, by its answer
-  pub begin_so : {D : Type 0} (tells : D → Bool) (files : D → Files) (clearing : Clearing) (one later : PutState) (mode : Mode) (answer : Result Flight SlotFault)
+  pub begin_so : {D : Type 0} (ghosts : Ghosts D) (clearing : Clearing) (one later : PutState) (mode : Mode) (answer : Result Flight SlotFault)
       (stub : Option Stub) (was after : SlotSeen D) (disks : List DriveView) → one ≡ state.Beginning mode → read ≡ 0 → was.numbers.index ≡ key_slot ask.at
-      → BeginSays tells files was after ask.at answer stub → BeginsTo ask.set (key_name ask.at) ask.long ask.stated mode answer later
-      → TurnsSo tells files (PutStandsAt ask read clearing one) (PutStandsAt ask read clearing later) stub was after disks disks
-  begin_so tells files clearing one later mode (Ok flight) stub was after disks is zero own says begins =
-      subst (λ (s : Option Stub). TurnsSo tells files (PutStandsAt ask read clearing one) (PutStandsAt ask read clearing later) s was after disks disks)
+      → BeginSays ghosts was after ask.at answer stub → BeginsTo ask.set (key_name ask.at) ask.long ask.stated mode answer later
+      → TurnsSo ghosts (PutStandsAt ask read clearing one) (PutStandsAt ask read clearing later) stub was after disks disks
+  begin_so ghosts clearing one later mode (Ok flight) stub was after disks is zero own says begins =
+      subst (λ (s : Option Stub). TurnsSo ghosts (PutStandsAt ask read clearing one) (PutStandsAt ask read clearing later) s was after disks disks)
       (sym says.turns.stub_is)
-      (begun_so ask read tells files clearing one later mode flight was after disks is own
-      (subst (λ (s : Option Stub). BeginSays tells files was after ask.at (Ok flight) s) says.turns.stub_is says) begins)
-  begin_so tells files clearing one later mode (Err fault) stub was after disks is zero own says begins = λ claim log x.
+      (begun_so ask read ghosts clearing one later mode flight was after disks is own
+      (subst (λ (s : Option Stub). BeginSays ghosts was after ask.at (Ok flight) s) says.turns.stub_is says) begins)
+  begin_so ghosts clearing one later mode (Err fault) stub was after disks is zero own says begins = λ claim log x.
       let here = subst (λ (s : PutState). PutStandsAt ask read clearing s claim log) is x in (
         claim,
         NoneShown,
         refused_stands clearing later mode was.numbers fault stub claim log zero own here.0 here.1 here.2 says.turns.stub_is begins,
-        refused_turn tells files was after ask.at fault stub disks claim says,
+        refused_turn ghosts was after ask.at fault stub disks claim says,
       )

@@ -39,6 +39,7 @@ use Rattle.object_ops.specs.Put.{PutAsk}
 use Rattle.object_ops.specs.PutStands.{ClaimsSo, ClaimsStage, HasLookedAt, HasWorked, HoldsPut, IsStageOf, Stages, no_cells}
 use Rattle.object_ops.specs.PutWork.{StepsWork}
 use Rattle.object_ops.specs.declared.put_work.Work.{Work}
+use Rattle.object_ops.proofs.LosingLemmas.{put_loses}
 use Rattle.object_ops.proofs.PutCells.{same_cells}
 use Rattle.object_ops.proofs.PutDisks.{WritesUnder, kept_then, spares_others}
 use Rattle.object_ops.proofs.PutMine.{met_mine}
@@ -167,6 +168,7 @@ module _ {D : Type 0} (ghosts : Ghosts D) (ask : PutAsk) (work later : Work) (o 
     was_so = was_so;
     goes_on = goes;
     keeps = λ told. spares_others id before.files after.files (spares told);
+    removes = λ other told loses. inr (record { id = id; name = key_name ask.at }, x.held.flight_is, put_loses id other before.files after.files (spares told) loses);
     long = writes.long;
     others = others;
     slot = same;

@@ -1,10 +1,15 @@
 -- The begin and the end of a read, as steps of an op that has the pin between them.
-use Rattle.std.proofs.Common.{◌≡◌, ◌∙◌, ℕ, Bool, List, Contains, Option, Some, None, Result, Ok, Err, refl, sym, subst, subst₂, arith}
+use Rattle.std.proofs.Common.{◌≡◌, ◌∙◌, ℕ, List, Contains, Option, Some, None, Result, Ok, Err, MatchOption, refl, sym, subst, subst₂, arith}
 use Rattle.audit_trail.specs.declared.entry.Entry.{Entry}
+use Rattle.call_types.specs.Refusals.{refusal_of}
 use Rattle.call_types.specs.declared.names.Key.{Key}
-use Rattle.drive_base.specs.Files.{Files}
+use Rattle.call_types.specs.declared.names.Mode.{Mode}
+use Rattle.call_types.specs.declared.names.Pick.{Pick}
+use Rattle.call_types.specs.declared.refusal.KeyRefusal.{KeyRefusal}
 use Rattle.drive_base.specs.View.{AllOnlyRead, DriveView, views}
 use Rattle.drive_base.specs.declared.drive.Drive.{Ghosts}
+use Rattle.register_core.specs.declared.faults.QuorumFault.{QuorumFault}
+use Rattle.slot_history.specs.Names.{key_name}
 use Rattle.slot_history.specs.Standing.{Records}
 use Rattle.slot_history.specs.State.{State}
 use Rattle.slot_data.specs.Disks.{Disks}
@@ -12,19 +17,23 @@ use Rattle.slot_data.specs.Holding.{Holding, Pinned}
 use Rattle.slot_data.specs.Holding.Purpose.{ForRead}
 use Rattle.slot_data.specs.Standing.{DataStands}
 use Rattle.slot_core.specs.Hands.{HandsStay}
-use Rattle.slot_core.specs.Sections.{MayLetGo, PinGoes, ReadHolds, ShowsNoMore}
-use Rattle.slot_core.specs.Stubs.{entry_of}
+use Rattle.slot_core.specs.Reading.{ReadCause}
+use Rattle.slot_core.specs.Sections.{MayLetGo, PinGoes, ReadHolds, SaysKept, SaysRead, ShowsNoMore}
+use Rattle.slot_core.specs.Stubs.{Says, completed_by, entry_of}
 use Rattle.slot_core.specs.Turning.{EntryMoves, Leaves, Turns, TurnsQuietly}
 use Rattle.slot_core.specs.Views.{last_of}
 use Rattle.slot_core.specs.declared.fault.SlotFault.{SlotFault}
+use Rattle.slot_core.specs.declared.fault.SlotFault.TheVariants.{AuditFailed, Key as KeyFault, NoMemory, NotInFlight, Quorum, SeqSpent}
 use Rattle.slot_core.specs.declared.reading.ReadStart.{ReadStart}
 use Rattle.slot_core.specs.declared.stub.Stub.{Stub}
 use Rattle.receipts.specs.Events.Shown.{NoneShown}
+use Rattle.op_steps.specs.Causes.{SaysRefused, TurnCause}
 use Rattle.op_steps.specs.Claims.{Claim, HoldsAt, IsMet, among, claims_at, disks_of, hands_of, no_claim}
 use Rattle.op_steps.specs.Looking.{AreOnlyRead}
 use Rattle.op_steps.specs.Moves.{ShowsBy, TurnLeaves, TurnMoves}
 use Rattle.op_steps.specs.Notes.{noted}
 use Rattle.op_steps.specs.Store.{LanesStand, SlotSeen}
+use Rattle.op_steps.proofs.CauseLemmas.{AnswerCause, IsWritten, answer_cause, key_cause, look_refuses, quorum_cause, unwritten_by, written_by}
 use Rattle.op_steps.proofs.DataLemmas.{data_read, last_rises}
 use Rattle.op_steps.proofs.LookLemmas.{all_read}
 use Rattle.op_steps.proofs.NoteLemmas.{audit_noted, entry_counts, entry_noted, same_entry}
@@ -37,25 +46,39 @@ moves_none : (slot : ℕ) (entry : Option Entry) (records after : Records) (stat
 moves_none slot None records after state now x = x
 moves_none slot (Some entry) records after state now x = (x.0, tt)
 
+-- what the entry of a read says that was refused: by its lanes, that nothing was done, and else the refusal
+read_kept : (at : Key) (mode : Mode) (pick : Pick) (fault : QuorumFault) (entry : Option Entry)
+    → MatchOption entry (Unit {0}) (SaysRead at mode pick (Err (Quorum fault))) → MatchOption entry (Unit {0}) (SaysKept (key_name at))
+read_kept at mode pick fault None says = tt
+read_kept at mode pick fault (Some made) says = record { name_is = says.name_is; deed_is = says.deed_is }
+
+read_said : (at : Key) (mode : Mode) (pick : Pick) (why : KeyRefusal) (entry : Option Entry) → IsWritten entry
+    → MatchOption entry (Unit {0}) (SaysRead at mode pick (Err (KeyFault why))) → SaysRefused (refusal_of why) entry
+read_said at mode pick why None there says = there
+read_said at mode pick why (Some made) there says = (_, says.deed_is)
+
 module _ {D : Type 0} (ghosts : Ghosts D) where
   -- what the begin of a read says
-  pub record BeginSays (was now : SlotSeen D) (at : Key) (answer : Result ReadStart SlotFault) (stub : Option Stub) (old new : List D) : Type 0 where
+  pub record BeginSays (was now : SlotSeen D) (at : Key) (mode : Mode) (pick : Pick) (answer : Result ReadStart SlotFault) (stub : Option Stub)
+      (old new : List D) : Type 0 where
     pub turns : Turns was.numbers now.numbers was.entries now.entries was.faults now.faults answer stub
+    pub says : Says stub (SaysRead at mode pick answer)
     pub holds : ReadHolds was.numbers at answer was.holding now.holding
+    pub cause : ReadCause ghosts.tells ghosts.files ghosts.count was.numbers now.numbers at pick answer (completed_by stub) was.lanes now.lanes old new
     pub leaves : Leaves ghosts.tells ghosts.files was.numbers now.numbers was.holding now.holding was.lanes now.lanes stub ShowsNoMore HandsStay
     pub read : AreOnlyRead ghosts old new
 
   -- what it leaves where the data goes on to hold with other claims
-  leaves_so : (was now : SlotSeen D) (at : Key) (answer : Result ReadStart SlotFault) (stub : Option Stub) (old new : List D) (claim later : Claim)
-      → BeginSays was now at answer stub old new
+  leaves_so : (was now : SlotSeen D) (at : Key) (mode : Mode) (pick : Pick) (answer : Result ReadStart SlotFault) (stub : Option Stub) (old new : List D)
+      (claim later : Claim) → BeginSays was now at mode pick answer stub old new
       → ((unseen : Disks) (front rest : List Claim) (records after : Records) (state state_after : State)
       → HoldsAt was.numbers.set was.numbers.index (last_of was.numbers) was.holding unseen (views ghosts old) (among front claim rest) records state
       → ((hands : _) → DataStands was.numbers.set was.numbers.index (last_of was.numbers) records state was.holding (disks_of unseen was.numbers.set.out (views ghosts old)) hands
       → DataStands was.numbers.set was.numbers.index (last_of now.numbers) after state_after now.holding (disks_of unseen was.numbers.set.out (views ghosts old)) hands)
       → HoldsAt was.numbers.set was.numbers.index (last_of now.numbers) now.holding unseen (views ghosts old) (among front later rest) after state_after)
       → (records : Records) (state : State) → LanesStand ghosts.tells ghosts.files was records state
-      → TurnLeaves ghosts.tells ghosts.files was now (noted stub) NoneShown claim later (views ghosts old) (views ghosts new) records state
-  leaves_so was now at answer stub old new claim later x goes records state stands =
+      → TurnLeaves ghosts was now (noted stub) NoneShown claim later (views ghosts old) (views ghosts new) records state
+  leaves_so was now at mode pick answer stub old new claim later x goes records state stands =
       let left = x.leaves records state stands in
       record {
         records_after = left.after;
@@ -73,11 +96,34 @@ module _ {D : Type 0} (ghosts : Ghosts D) where
             (λ hands. left.holds (disks_of unseen was.numbers.set.out (views ghosts old)) hands hands refl)));
       }
 
+  -- why it was refused
+  read_cause : (was now : SlotSeen D) (claim : Claim) (at : Key) (mode : Mode) (pick : Pick) (answer : Result ReadStart SlotFault) (stub : Option Stub) (old new : List D)
+      → BeginSays was now at mode pick answer stub old new → AnswerCause ghosts was now claim (views ghosts old) (views ghosts new) answer (entry_of stub)
+  read_cause was now claim at mode pick (Ok start) stub old new x = tt
+  read_cause was now claim at mode pick (Err (Quorum fault)) stub old new x =
+      quorum_cause ghosts was now claim (views ghosts old) (views ghosts new) fault (entry_of stub)
+      (look_refuses ghosts was now claim old new (key_name at) fault (entry_of stub) (written_by was.numbers (Some (Quorum fault)) stub x.turns.stub_is)
+      (read_kept at mode pick fault (entry_of stub) x.says) x.cause.1 x.cause.2)
+  read_cause was now claim at mode pick (Err (KeyFault why)) stub old new x =
+      key_cause ghosts was now claim (views ghosts old) (views ghosts new) why (entry_of stub)
+      (read_said at mode pick why (entry_of stub) (written_by was.numbers (Some (KeyFault why)) stub x.turns.stub_is) x.says)
+  read_cause was now claim at mode pick (Err SeqSpent) stub old new x = (unwritten_by was.numbers SeqSpent stub x.turns.stub_is, x.turns.spent.0 refl)
+  read_cause was now claim at mode pick (Err (AuditFailed before after)) stub old new x =
+      (unwritten_by was.numbers (AuditFailed before after) stub x.turns.stub_is, x.turns.faults.0, x.turns.faults.1, x.turns.faults.2)
+  read_cause was now claim at mode pick (Err NoMemory) stub old new x = tt
+  read_cause was now claim at mode pick (Err (NotInFlight id)) stub old new x = absurd x.cause
+
+  read_turn_cause : (was now : SlotSeen D) (claim : Claim) (at : Key) (mode : Mode) (pick : Pick) (answer : Result ReadStart SlotFault) (stub : Option Stub)
+      (old new : List D) → BeginSays was now at mode pick answer stub old new → TurnCause ghosts (noted stub) was now claim (views ghosts old) (views ghosts new)
+  read_turn_cause was now claim at mode pick answer stub old new x =
+      answer_cause ghosts was now claim (views ghosts old) (views ghosts new) answer stub x.turns.stub_is
+      (read_cause was now claim at mode pick answer stub old new x)
+
   -- the begin of a read is a step, after which its pin is held
-  pub begin_turn : (was now : SlotSeen D) (at : Key) (answer : Result ReadStart SlotFault) (stub : Option Stub) (old new : List D)
-      → BeginSays was now at answer stub old new → (later : Claim) × HoldsStart was.numbers.index answer later
-      × TurnMoves ghosts.tells ghosts.files was now (noted stub) NoneShown (no_claim was.numbers.index) later (views ghosts old) (views ghosts new)
-  begin_turn was now at (Ok start) stub old new x =
+  pub begin_turn : (was now : SlotSeen D) (at : Key) (mode : Mode) (pick : Pick) (answer : Result ReadStart SlotFault) (stub : Option Stub) (old new : List D)
+      → BeginSays was now at mode pick answer stub old new → (later : Claim) × HoldsStart was.numbers.index answer later
+      × TurnMoves ghosts was now (noted stub) NoneShown (no_claim was.numbers.index) later (views ghosts old) (views ghosts new)
+  begin_turn was now at mode pick (Ok start) stub old new x =
       let p = x.holds.0 in (
         pinned_claim was.numbers.index p,
         record { pinned = p; ticket = x.holds.1.ticket_is ∙ sym x.holds.1.handle; purpose = x.holds.1.purpose; claim_is = refl },
@@ -88,7 +134,8 @@ module _ {D : Type 0} (ghosts : Ghosts D) where
           faults = entry_counts was.numbers (Ok start) stub was.faults now.faults x.turns.stub_is x.turns.faults;
           claims = record { slot = refl; elsewhere = λ other. absurd (other refl) };
           read = all_read ghosts old new x.read;
-          leaves = leaves_so was now at (Ok start) stub old new (no_claim was.numbers.index) (pinned_claim was.numbers.index p) x
+          cause = read_turn_cause was now (no_claim was.numbers.index) at mode pick (Ok start) stub old new x;
+          leaves = leaves_so was now at mode pick (Ok start) stub old new (no_claim was.numbers.index) (pinned_claim was.numbers.index p) x
               (λ unseen front rest records after state state_after d leaves.
               subst (λ (h : Holding). HoldsAt was.numbers.set was.numbers.index (last_of now.numbers) h unseen (views ghosts old)
               (among front (pinned_claim was.numbers.index p) rest) after state_after) (sym x.holds.2)
@@ -98,7 +145,7 @@ module _ {D : Type 0} (ghosts : Ghosts D) where
               (disks_of unseen was.numbers.set.out (views ghosts old)) hands) x.holds.2 (leaves hands stands))));
         },
       )
-  begin_turn was now at (Err fault) stub old new x = (
+  begin_turn was now at mode pick (Err fault) stub old new x = (
     no_claim was.numbers.index,
     refl,
     record {
@@ -108,7 +155,8 @@ module _ {D : Type 0} (ghosts : Ghosts D) where
       faults = entry_counts {T = ReadStart} was.numbers (Err fault) stub was.faults now.faults x.turns.stub_is x.turns.faults;
       claims = record { slot = refl; elsewhere = λ other. refl };
       read = all_read ghosts old new x.read;
-      leaves = leaves_so was now at (Err fault) stub old new (no_claim was.numbers.index) (no_claim was.numbers.index) x
+      cause = read_turn_cause was now (no_claim was.numbers.index) at mode pick (Err fault) stub old new x;
+      leaves = leaves_so was now at mode pick (Err fault) stub old new (no_claim was.numbers.index) (no_claim was.numbers.index) x
           (λ unseen front rest records after state state_after d leaves. record {
             tell = d.tell;
             stands = leaves (hands_of (claims_at was.numbers.index (among front (no_claim was.numbers.index) rest))) d.stands;
@@ -126,17 +174,17 @@ module _ {D : Type 0} (ghosts : Ghosts D) where
 untouched : (disks : List DriveView) → AllOnlyRead disks disks
 untouched disks = record { long = refl; each = λ k inside. record { goes_on = record { tells = refl; count = omega arith }; files = λ tells. refl } }
 
-module _ {D T : Type 0} (tells : D → Bool) (files : D → Files) where
+module _ {D T : Type 0} (ghosts : Ghosts D) where
   -- what the end of a read says
   pub record EndSays (was now : SlotSeen D) (ticket : ℕ) (answer : Result T SlotFault) (stub : Option Stub) : Type 0 where
     pub turns : TurnsQuietly was.numbers now.numbers was.entries now.entries was.faults now.faults answer stub
     pub holds : PinGoes ticket was.holding now.holding
-    pub leaves : Leaves tells files was.numbers now.numbers was.holding now.holding was.lanes now.lanes stub ShowsNoMore
+    pub leaves : Leaves ghosts.tells ghosts.files was.numbers now.numbers was.holding now.holding was.lanes now.lanes stub ShowsNoMore
         (MayLetGo was.numbers.set ticket was.holding)
 
   end_leaves : (was now : SlotSeen D) (p : Pinned) (answer : Result T SlotFault) (disks : List DriveView) → p.purpose ≡ ForRead
-      → EndSays was now p.ticket answer None → (records : Records) (state : State) → LanesStand tells files was records state
-      → TurnLeaves tells files was now None NoneShown (pinned_claim was.numbers.index p) (no_claim was.numbers.index) disks disks records state
+      → EndSays was now p.ticket answer None → (records : Records) (state : State) → LanesStand ghosts.tells ghosts.files was records state
+      → TurnLeaves ghosts was now None NoneShown (pinned_claim was.numbers.index p) (no_claim was.numbers.index) disks disks records state
   end_leaves was now p answer disks purpose x records state stands =
       let left = x.leaves records state stands in
       record {
@@ -156,7 +204,7 @@ module _ {D T : Type 0} (tells : D → Bool) (files : D → Files) where
   -- the end of a read is a step, after which nothing is held
   pub end_turn : (was now : SlotSeen D) (p : Pinned) (answer : Result T SlotFault) (disks : List DriveView) → p.purpose ≡ ForRead
       → EndSays was now p.ticket answer None
-      → TurnMoves tells files was now None NoneShown (pinned_claim was.numbers.index p) (no_claim was.numbers.index) disks disks
+      → TurnMoves ghosts was now None NoneShown (pinned_claim was.numbers.index p) (no_claim was.numbers.index) disks disks
   end_turn was now p answer disks purpose x = record {
     numbers = x.turns.numbers;
     note_is = tt;
@@ -164,5 +212,6 @@ module _ {D T : Type 0} (tells : D → Bool) (files : D → Files) where
     faults = x.turns.faults;
     claims = record { slot = refl; elsewhere = λ other. absurd (other refl) };
     read = untouched disks;
+    cause = tt;
     leaves = end_leaves was now p answer disks purpose x;
   }

@@ -34,6 +34,7 @@ use Rattle.object_ops.specs.declared.removal.DataFile.{DataFile}
 use Rattle.object_ops.specs.declared.removal.DataFile.TheVariants.{Manifest, Shard}
 use Rattle.object_ops.proofs.ClaimLemmas.{apart_on, at_other, at_own, each_on, flight_stays, hands_on, own_in_hand, pin_stays}
 use Rattle.object_ops.proofs.ElsewhereLemmas.{removed_elsewhere}
+use Rattle.object_ops.proofs.LosingLemmas.{not_its, removal_loses}
 use Rattle.object_ops.proofs.TrashLemmas.{met_taken}
 
 -- ---- names
@@ -45,11 +46,6 @@ goes named name other = by (bytes_eq name other) refl
     by : (b : Bool) → bytes_eq name other ≡ b → StaysOrGoes (named other) (with_name named name None other)
     by true same = inr (update_same bytes_eq named name None other same)
     by false apart = inl (update_other bytes_eq named name None other apart)
-
--- a name that is none of an id's two isn't that of its file
-not_its : (kind : DataFile) (id : VersionId) (other : List ℕ) → IsElsewhere id other → bytes_eq (name_by kind id) other ≡ false
-not_its Shard id other apart = apart.1
-not_its Manifest id other apart = apart.0
 
 -- ---- one removal
 
@@ -323,6 +319,9 @@ removal_is_call set slot left less old new claim all own taken one =
       was_so = one.call.was_so;
       goes_on = one.call.goes_on;
       keeps = λ told. keeps_others _ _ one.file.kind one.file.id (one.call.files told);
+      removes = λ id told loses. inl (subst (λ (v : VersionId). Contains claim.taken v)
+          (removal_loses one.file.kind one.file.id id _ _ (one.call.files told) loses)
+          (subst (λ (l : List VersionId). Contains l one.file.id) (sym (taken ∙ ap ids_of one.first)) (first_there one.file.id (ids_of less))));
       long = one.long;
       others = one.others;
       slot = refl;

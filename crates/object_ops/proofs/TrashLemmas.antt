@@ -1,6 +1,6 @@
 -- Trash is taken: a step without a note, after which an op has ids in hand.
-use Rattle.std.proofs.Common.{◌≡◌, ℕ, Bool, List, Contains, Option, None, Some, Result, Ok, Err, append-nil, inr, refl, sym, ap, subst, subst₂, arith}
-use Rattle.drive_base.specs.Files.{Files}
+use Rattle.std.proofs.Common.{◌≡◌, ℕ, List, Contains, Option, None, Some, Result, Ok, Err, append-nil, inr, refl, sym, ap, subst, subst₂, arith}
+use Rattle.drive_base.specs.declared.drive.Drive.{Ghosts}
 use Rattle.drive_base.specs.View.{DriveView}
 use Rattle.drive_base.specs.declared.plan.SetPlan.{SetPlan}
 use Rattle.drive_base.proofs.ViewLemmas.{untouched_are_only_read}
@@ -70,19 +70,19 @@ quiet_moves : (slot : ℕ) (stub : Option Stub) (records after : Records) (state
     → EntryMoves slot (entry_of stub) ShowsNoMore records state after now → (after ≡ records) × (now ≡ state)
 quiet_moves slot stub records after state now none x = subst (λ s. EntryMoves slot (entry_of s) ShowsNoMore records state after now) none x
 
-module _ {D : Type 0} (tells : D → Bool) (files : D → Files) where
+module _ {D : Type 0} (ghosts : Ghosts D) where
   -- what a section says that takes trash
   pub record TakeSays (most : ℕ) (rows : List PinRow) (was now : SlotSeen D) (answer : Result (List VersionId) SlotFault) (stub : Option Stub) : Type 0 where
     pub turns : TurnsQuietly was.numbers now.numbers was.entries now.entries was.faults now.faults answer stub
     pub stubless : stub ≡ None
     pub holds : TrashHolds most rows was.holding now.holding answer
-    pub leaves : Leaves tells files was.numbers now.numbers was.holding now.holding was.lanes now.lanes stub ShowsNoMore (TakesInHand answer)
+    pub leaves : Leaves ghosts.tells ghosts.files was.numbers now.numbers was.holding now.holding was.lanes now.lanes stub ShowsNoMore (TakesInHand answer)
 
   -- what it leaves of the lanes and of the slot's data
   take_leaves : (most : ℕ) (rows : List PinRow) (was now : SlotSeen D) (answer : Result (List VersionId) SlotFault) (stub : Option Stub) (ids : List VersionId)
       (claim : Claim) (disks : List DriveView) → TakeSays most rows was now answer stub → claim.slot ≡ was.numbers.index
-      → ((id : VersionId) → Contains ids id → Contains (taken_of answer) id) → (records : Records) (state : State) → LanesStand tells files was records state
-      → TurnLeaves tells files was now None NoneShown claim (with_taken claim ids) disks disks records state
+      → ((id : VersionId) → Contains ids id → Contains (taken_of answer) id) → (records : Records) (state : State) → LanesStand ghosts.tells ghosts.files was records state
+      → TurnLeaves ghosts was now None NoneShown claim (with_taken claim ids) disks disks records state
   take_leaves most rows was now answer stub ids claim disks x own were records state stands =
       let left = x.leaves records state stands in
       let flights = same_flights most rows was.holding now.holding answer x.holds in
@@ -130,7 +130,7 @@ module _ {D : Type 0} (tells : D → Bool) (files : D → Files) where
 
   -- so it is a step
   pub takes_trash : (most : ℕ) (rows : List PinRow) (was now : SlotSeen D) (answer : Result (List VersionId) SlotFault) (stub : Option Stub) (set : SetPlan) (left : List FileOn)
-      → TakeSays most rows was now answer stub → IsPlannedOf set was.numbers.index answer left → TakesTrash tells files was now left
+      → TakeSays most rows was now answer stub → IsPlannedOf set was.numbers.index answer left → TakesTrash ghosts was now left
   takes_trash most rows was now answer stub set left x plan claim disks own = record {
     numbers = x.turns.numbers;
     note_is = tt;
@@ -138,6 +138,7 @@ module _ {D : Type 0} (tells : D → Bool) (files : D → Files) where
     faults = x.turns.faults;
     claims = record { slot = refl; elsewhere = λ other. absurd (other own) };
     read = untouched_are_only_read disks;
+    cause = tt;
     leaves = λ records state stands. take_leaves most rows was now answer stub (ids_of left) claim disks x own
         (planned_taken set was.numbers.index answer left plan) records state stands;
   }

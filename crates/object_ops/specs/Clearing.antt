@@ -1,6 +1,6 @@
 -- What comes after a commit: trash is taken, and its files are removed.
-use Rattle.std.specs.Prelude.{◌≡◌, ◌≢◌, ◌⊎◌, ℕ, ◌+◌, ◌*◌, ◌<◌, ◌==◌, Bool, false, if◌then◌else◌, List, [], ◌∷◌, length, None, Result, Ok, Err}
-use Rattle.drive_base.specs.Files.{Files}
+use Rattle.std.specs.Prelude.{◌≡◌, ◌≢◌, ◌⊎◌, ℕ, ◌+◌, ◌*◌, ◌<◌, ◌==◌, false, if◌then◌else◌, List, [], ◌∷◌, length, None, Result, Ok, Err}
+use Rattle.drive_base.specs.declared.drive.Drive.{Ghosts}
 use Rattle.drive_base.specs.View.{DriveView, view_at}
 use Rattle.drive_base.specs.declared.plan.SetPlan.{SetPlan}
 use Rattle.stamp_id.specs.declared.version.VersionId.{VersionId}
@@ -45,11 +45,11 @@ IsPlannedOf set slot answer files = (files ≡ []) ⊎ ((ids : List VersionId) �
 abbrev pub with_taken : Claim → List VersionId → Claim
 with_taken claim ids = record { slot = claim.slot; flight = claim.flight; pin = claim.pin; stage = claim.stage; taken = ids; known = claim.known }
 
-module _ {D : Type 0} (tells : D → Bool) (files : D → Files) where
+module _ {D : Type 0} (ghosts : Ghosts D) where
   -- trash was taken, by a section without a note: an op of the slot has the ids in hand whose files it is to remove
   abbrev pub TakesTrash : SlotSeen D → SlotSeen D → List FileOn → Type 0
   TakesTrash was now left = (claim : Claim) (disks : List DriveView) → claim.slot ≡ was.numbers.index
-      → TurnMoves tells files was now None NoneShown claim (with_taken claim (ids_of left)) disks disks
+      → TurnMoves ghosts was now None NoneShown claim (with_taken claim (ids_of left)) disks disks
 
 -- the first file was removed from its drive, whatever the call gave, and no other drive was called
 pub record RemovesOne (old new : List FileOn) (disks_old disks_new : List DriveView) : Type 0 where

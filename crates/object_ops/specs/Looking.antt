@@ -1,9 +1,9 @@
 -- What the look at its bucket shows to a call on an object, and what its log says then.
-use Rattle.std.specs.Prelude.{◌≡◌, ◌⊎◌, ℕ, Bool, List, [], ◌∷◌, All, None, Some, Result, Ok, Err}
+use Rattle.std.specs.Prelude.{◌≡◌, ◌⊎◌, ℕ, List, [], ◌∷◌, All, None, Some, Result, Ok, Err}
 use Rattle.bucket_book.specs.Content.{IsBucketOf, content_of}
 use Rattle.call_types.specs.declared.refusal.Refusal.TheVariants.{NoSuchBucket}
 use Rattle.call_types.specs.declared.reply.Reply.TheVariants.{Refused as RefusedReply}
-use Rattle.drive_base.specs.Files.{Files}
+use Rattle.drive_base.specs.declared.drive.Drive.{Ghosts}
 use Rattle.drive_base.specs.View.{DriveView}
 use Rattle.slot_core.specs.declared.fault.SlotFault.{SlotFault}
 use Rattle.receipts.specs.Bucketing.{BucketIsThere}
@@ -33,10 +33,10 @@ SaysBucket bucket (There mode) log = BucketIsThere bucket mode log
 SaysBucket bucket (Refused why) log = EndsAtLook bucket (RefusedReply why) log
 SaysBucket bucket LacksMemory log = All ChangesNothing (sections_of log)
 
-module _ {D : Type 0} (tells : D → Bool) (files : D → Files) where
+module _ {D : Type 0} (ghosts : Ghosts D) where
   -- a look at the register of this name is a step that leaves any claim; where it is a bucket's, the log of the look says what it showed
   pub record LooksSo (name : List ℕ) (was now : SlotSeen D) (look : Look) (old new : List DriveView) : Type 0 where
     pub shown : Shown
-    pub turns : (claim : Claim) → TurnMoves tells files was now (noted look.stub) shown claim claim old new
+    pub turns : (claim : Claim) → TurnMoves ghosts was now (noted look.stub) shown claim claim old new
     pub says : (bucket : List ℕ) → name ≡ bucket_register bucket → was.numbers.index ≡ bucket_slot bucket
         → SaysBucket bucket look.looked (Turned was.numbers.index (noted look.stub) shown ∷ [])

@@ -84,7 +84,7 @@ impl Clearing {
         ensures due { AreDue set.now index (files_left self.new) }
         ensures few { length (files_left self.new) ≤ 32 * set.now.drives }
         ensures numbers { NumbersMove (numbers_of slot.old) (numbers_of slot.new) }
-        ensures trash { TakesTrash D.tells D.files (slot_seen A.entries A.count slot.old) (slot_seen A.entries A.count slot.new) (files_left self.new) }
+        ensures trash { TakesTrash D.Drive (slot_seen A.entries A.count slot.old) (slot_seen A.entries A.count slot.new) (files_left self.new) }
     {
         let answer = answer_of(slot.take_trash(alloc, MOST_TAKEN));
         self.takes = false;

@@ -44,7 +44,7 @@ impl DeleteOp {
         ensures left { left_of self.new < left_of self.old }
         ensures disks { length disks.new ≡ length disks.old }
         ensures numbers { NumbersMove (numbers_of slot.old) (numbers_of slot.new) }
-        ensures turns { TurnsSo D.tells D.files (DeleteStands self.old) (DeleteStands self.new) result
+        ensures turns { TurnsSo D.Drive (DeleteStands self.old) (DeleteStands self.new) result
             (slot_seen A.entries A.count slot.old) (slot_seen A.entries A.count slot.new) (views D.Drive disks.old) (views D.Drive disks.new) }
     {
         let look = look_at_bucket(alloc, slot, disks, self.name.as_str());
@@ -68,7 +68,7 @@ impl DeleteOp {
         ensures left { left_of self.new < left_of self.old }
         ensures disks { length disks.new ≡ length disks.old }
         ensures numbers { NumbersMove (numbers_of slot.old) (numbers_of slot.new) }
-        ensures turns { TurnsSo D.tells D.files (DeleteStands self.old) (DeleteStands self.new) result
+        ensures turns { TurnsSo D.Drive (DeleteStands self.old) (DeleteStands self.new) result
             (slot_seen A.entries A.count slot.old) (slot_seen A.entries A.count slot.new) (views D.Drive disks.old) (views D.Drive disks.new) }
     {
         let DeleteState::Committing(deed) = &self.state else {
@@ -89,7 +89,7 @@ impl DeleteOp {
         ensures same { IsSameDelete self.old self.new }
         ensures left { left_of self.new < left_of self.old }
         ensures numbers { NumbersMove (numbers_of slot.old) (numbers_of slot.new) }
-        ensures turns { (disks : List DriveView) → TurnsSo D.tells D.files (DeleteStands self.old) (DeleteStands self.new) None
+        ensures turns { (disks : List DriveView) → TurnsSo D.Drive (DeleteStands self.old) (DeleteStands self.new) None
             (slot_seen A.entries A.count slot.old) (slot_seen A.entries A.count slot.new) disks disks }
     {
         self.clearing

@@ -110,7 +110,7 @@ impl GetOp {
         ensures left { left_of self.new.state self.new.reading < 3 * 2 ^ 64 + 9 }
         ensures disks { length disks.new ≡ length disks.old }
         ensures numbers { NumbersMove (numbers_of slot.old) (numbers_of slot.new) }
-        ensures turns { TurnsSo D.tells D.files (StandsFor self.old) (StandsFor self.new) result
+        ensures turns { TurnsSo D.Drive (StandsFor self.old) (StandsFor self.new) result
             (slot_seen A.entries A.count slot.old) (slot_seen A.entries A.count slot.new) (views D.Drive disks.old) (views D.Drive disks.new) }
     {
         let look = look_at_bucket(alloc, slot, disks, self.name.as_str());
@@ -135,7 +135,7 @@ impl GetOp {
         ensures left { left_of self.new.state self.new.reading < 3 * 2 ^ 64 + 8 }
         ensures disks { length disks.new ≡ length disks.old }
         ensures numbers { NumbersMove (numbers_of slot.old) (numbers_of slot.new) }
-        ensures turns { TurnsSo D.tells D.files (StandsFor self.old) (StandsFor self.new) result
+        ensures turns { TurnsSo D.Drive (StandsFor self.old) (StandsFor self.new) result
             (slot_seen A.entries A.count slot.old) (slot_seen A.entries A.count slot.new) (views D.Drive disks.old) (views D.Drive disks.new) }
     {
         let turn = slot.begin_read(alloc, disks, &self.at, mode, &self.pick);
@@ -164,7 +164,7 @@ impl GetOp {
         ensures stays { StaysGet self.old self.new }
         ensures state { self.new.state ≡ state.Over cut }
         ensures numbers { NumbersMove (numbers_of slot.old) (numbers_of slot.new) }
-        ensures turns { (disks : List DriveView) → TurnsSo D.tells D.files (StandsFor self.old) (StandsFor self.new) result
+        ensures turns { (disks : List DriveView) → TurnsSo D.Drive (StandsFor self.old) (StandsFor self.new) result
             (slot_seen A.entries A.count slot.old) (slot_seen A.entries A.count slot.new) disks disks }
     {
         self.state = GetState::Over(cut);

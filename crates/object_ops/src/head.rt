@@ -111,7 +111,7 @@ impl HeadOp {
         ensures left { left_of self.new.state < 4 }
         ensures disks { length disks.new ≡ length disks.old }
         ensures numbers { NumbersMove (numbers_of slot.old) (numbers_of slot.new) }
-        ensures turns { TurnsSo D.tells D.files (StandsFor self.old) (StandsFor self.new) result
+        ensures turns { TurnsSo D.Drive (StandsFor self.old) (StandsFor self.new) result
             (slot_seen A.entries A.count slot.old) (slot_seen A.entries A.count slot.new) (views D.Drive disks.old) (views D.Drive disks.new) }
     {
         let look = look_at_bucket(alloc, slot, disks, self.name.as_str());
@@ -136,7 +136,7 @@ impl HeadOp {
         ensures left { left_of self.new.state < 3 }
         ensures disks { length disks.new ≡ length disks.old }
         ensures numbers { NumbersMove (numbers_of slot.old) (numbers_of slot.new) }
-        ensures turns { TurnsSo D.tells D.files (StandsFor self.old) (StandsFor self.new) result
+        ensures turns { TurnsSo D.Drive (StandsFor self.old) (StandsFor self.new) result
             (slot_seen A.entries A.count slot.old) (slot_seen A.entries A.count slot.new) (views D.Drive disks.old) (views D.Drive disks.new) }
     {
         let turn = slot.begin_read(alloc, disks, &self.at, mode, &self.pick);
@@ -155,7 +155,7 @@ impl HeadOp {
         ensures stays { StaysHead self.old self.new }
         ensures state { self.new.state ≡ state.Over cut }
         ensures numbers { NumbersMove (numbers_of slot.old) (numbers_of slot.new) }
-        ensures turns { (disks : List DriveView) → TurnsSo D.tells D.files (StandsFor self.old) (StandsFor self.new) result
+        ensures turns { (disks : List DriveView) → TurnsSo D.Drive (StandsFor self.old) (StandsFor self.new) result
             (slot_seen A.entries A.count slot.old) (slot_seen A.entries A.count slot.new) disks disks }
     {
         self.state = HeadState::Over(cut);

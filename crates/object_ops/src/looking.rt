@@ -50,7 +50,7 @@ pub(crate) fn look_at_bucket<D: Drive, A: Audit>(
     requires short { length name.now ≤ 1129 }
     ensures disks { length disks.new ≡ length disks.old }
     ensures numbers { NumbersMove (numbers_of slot.old) (numbers_of slot.new) }
-    ensures looks { LooksSo D.tells D.files name.now (slot_seen A.entries A.count slot.old) (slot_seen A.entries A.count slot.new) result
+    ensures looks { LooksSo D.Drive name.now (slot_seen A.entries A.count slot.old) (slot_seen A.entries A.count slot.new) result
         (views D.Drive disks.old) (views D.Drive disks.new) }
 {
     let turn = slot.peek(alloc, disks, name);

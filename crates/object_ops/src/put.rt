@@ -56,7 +56,7 @@ impl PutOp {
         ensures read { self.new.read ≡ self.old.read }
         ensures disks { length disks.new ≡ length disks.old }
         ensures numbers { NumbersMove (numbers_of slot.old) (numbers_of slot.new) }
-        ensures turns { TurnsSo D.tells D.files (PutStands self.old) (PutStands self.new) result
+        ensures turns { TurnsSo D.Drive (PutStands self.old) (PutStands self.new) result
             (slot_seen A.entries A.count slot.old) (slot_seen A.entries A.count slot.new) (views D.Drive disks.old) (views D.Drive disks.new) }
     {
         let look = look_at_bucket(alloc, slot, disks, self.name.as_str());
@@ -79,7 +79,7 @@ impl PutOp {
         ensures left { left_of self.new < left_of self.old }
         ensures read { self.new.read ≡ self.old.read }
         ensures numbers { NumbersMove (numbers_of slot.old) (numbers_of slot.new) }
-        ensures turns { (disks : List DriveView) → length disks ≡ self.old.set.drives → TurnsSo D.tells D.files (PutStands self.old) (PutStands self.new) result
+        ensures turns { (disks : List DriveView) → length disks ≡ self.old.set.drives → TurnsSo D.Drive (PutStands self.old) (PutStands self.new) result
             (slot_seen A.entries A.count slot.old) (slot_seen A.entries A.count slot.new) disks disks }
     {
         let Turn { answer, stub } = slot.begin_put(alloc, &self.at);
@@ -112,7 +112,7 @@ impl PutOp {
         ensures read { self.new.read ≡ self.old.read }
         ensures disks { length disks.new ≡ length disks.old }
         ensures numbers { NumbersMove (numbers_of slot.old) (numbers_of slot.new) }
-        ensures turns { TurnsSo D.tells D.files (PutStands self.old) (PutStands self.new) result
+        ensures turns { TurnsSo D.Drive (PutStands self.old) (PutStands self.new) result
             (slot_seen A.entries A.count slot.old) (slot_seen A.entries A.count slot.new) (views D.Drive disks.old) (views D.Drive disks.new) }
     {
         let PutState::Staging(work) = self.moved_out() else {
@@ -148,7 +148,7 @@ impl PutOp {
         ensures left { left_of self.new < left_of self.old }
         ensures read { self.new.read ≡ self.old.read }
         ensures numbers { NumbersMove (numbers_of slot.old) (numbers_of slot.new) }
-        ensures turns { (disks : List DriveView) → TurnsSo D.tells D.files (PutStands self.old) (PutStands self.new) result
+        ensures turns { (disks : List DriveView) → TurnsSo D.Drive (PutStands self.old) (PutStands self.new) result
             (slot_seen A.entries A.count slot.old) (slot_seen A.entries A.count slot.new) disks disks }
     {
         let PutState::Dropping(flight, cut) = self.moved_out() else {
@@ -169,7 +169,7 @@ impl PutOp {
         ensures left { left_of self.new < left_of self.old }
         ensures read { self.new.read ≡ self.old.read }
         ensures numbers { NumbersMove (numbers_of slot.old) (numbers_of slot.new) }
-        ensures turns { (disks : List DriveView) → TurnsSo D.tells D.files (PutStands self.old) (PutStands self.new) None
+        ensures turns { (disks : List DriveView) → TurnsSo D.Drive (PutStands self.old) (PutStands self.new) None
             (slot_seen A.entries A.count slot.old) (slot_seen A.entries A.count slot.new) disks disks }
     {
         self.clearing

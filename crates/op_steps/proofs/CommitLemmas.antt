@@ -1,5 +1,6 @@
 -- A commit that ends no put is a step that leaves any claim.
 use Rattle.std.proofs.Common.{◌≡◌, ◌<◌, ◌∙◌, ℕ, List, ◌++◌, Contains, Option, Some, None, Result, MatchOption, ap, inl, inr, refl, sym, subst, subst₂, arith}
+use Rattle.std.proofs.lemmas.Option.{none-some}
 use Rattle.stamp_id.specs.declared.version.VersionId.{VersionId}
 use Rattle.audit_trail.specs.declared.entry.Entry.{Entry}
 use Rattle.drive_base.specs.View.{views}
@@ -27,6 +28,7 @@ use Rattle.op_steps.specs.Committing.{CommitIsTurn, CommitSays}
 use Rattle.op_steps.specs.Moves.{ShowsBy, TurnLeaves}
 use Rattle.op_steps.specs.Notes.{noted}
 use Rattle.op_steps.specs.Store.{LanesStand, SlotSeen}
+use Rattle.op_steps.proofs.CauseLemmas.{commit_turn_cause}
 use Rattle.op_steps.proofs.DataLemmas.{data_read, last_rises}
 use Rattle.op_steps.proofs.LookLemmas.{all_read}
 use Rattle.op_steps.proofs.NoteLemmas.{audit_noted, entry_counts, entry_noted, same_entry}
@@ -77,7 +79,7 @@ module _ {D : Type 0} (ghosts : Ghosts D) where
   -- what a commit leaves of its lanes and of the slot's data
   commit_leaves : (was now : SlotSeen D) (deed : Commit) (at : ℕ) (answer : Result Committed SlotFault) (stub : Option Stub) (old new : List D) (claim : Claim)
       → CommitSays ghosts was now deed at answer stub old new → (records : Records) (state : State) → LanesStand ghosts.tells ghosts.files was records state
-      → TurnLeaves ghosts.tells ghosts.files was now (noted stub) NoneShown claim claim (views ghosts old) (views ghosts new) records state
+      → TurnLeaves ghosts was now (noted stub) NoneShown claim claim (views ghosts old) (views ghosts new) records state
   commit_leaves was now deed at answer stub old new claim x records state stands =
       let left = x.leaves records state stands in
       let flights = same_flights answer was.holding now.holding x.holds in
@@ -123,5 +125,7 @@ module _ {D : Type 0} (ghosts : Ghosts D) where
     faults = entry_counts was.numbers answer stub was.faults now.faults x.turns.stub_is x.turns.faults;
     claims = record { slot = refl; elsewhere = λ other. refl };
     read = all_read ghosts old new x.read;
+    cause = commit_turn_cause ghosts was now claim old new deed None at tt answer stub x.turns.stub_is x.says x.turns.spent.0 x.turns.faults
+        (λ id is. absurd (none-some (x.checks.refused id is).0.0 (x.checks.refused id is).0.1)) x.cause;
     leaves = commit_leaves was now deed at answer stub old new claim x;
   }

@@ -1,7 +1,9 @@
 -- A look is a step that leaves any claim.
-use Rattle.std.proofs.Common.{◌≡◌, ◌<◌, ◌∙◌, ℕ, List, [], ◌∷◌, Option, Some, None, Result, Ok, Err, MatchOption, length, refl, sym, subst, subst₂, arith}
+use Rattle.std.proofs.Common.{◌≡◌, ◌<◌, ◌∙◌, ℕ, List, [], ◌∷◌, Option, Some, None, Result, Ok, Err, MatchOption, ap, inl, inr, length, refl, sym, subst, subst₂, arith}
 use Rattle.std.proofs.lemmas.List.{get_or-map, length-map}
 use Rattle.audit_trail.specs.declared.entry.Entry.{Entry}
+use Rattle.body_print.specs.Names.{manifest_name, shard_name}
+use Rattle.drive_base.specs.Files.{Files}
 use Rattle.drive_base.specs.View.{AllOnlyRead, OnlyRead, blank_view, view, view_at, views}
 use Rattle.drive_base.specs.declared.drive.Drive.{Ghosts}
 use Rattle.slot_history.specs.Standing.{Records}
@@ -15,6 +17,7 @@ use Rattle.op_steps.specs.Claims.{Claim, among}
 use Rattle.op_steps.specs.Looking.{AreOnlyRead, LookIsTurn, LookSays, ReadIsCall, shown_by}
 use Rattle.op_steps.specs.Moves.{KeepsOthers, ShowsBy}
 use Rattle.op_steps.specs.Store.{SlotSeen}
+use Rattle.op_steps.proofs.CauseLemmas.{look_turn_cause}
 use Rattle.op_steps.proofs.DataLemmas.{data_read}
 use Rattle.op_steps.proofs.NoteLemmas.{audit_noted, entry_counts, entry_noted}
 use Rattle.op_steps.proofs.StayLemmas.{Stays, stays_leave}
@@ -72,6 +75,7 @@ module _ {D : Type 0} (ghosts : Ghosts D) where
     faults = entry_counts was.numbers answer stub was.faults now.faults x.turns.stub_is x.turns.faults;
     claims = record { slot = refl; elsewhere = λ other. refl };
     read = all_read old new x.read;
+    cause = look_turn_cause ghosts was now claim old new name answer stub x.turns.stub_is x.says x.turns.spent.0 x.turns.faults x.cause;
     leaves = stays_leave ghosts was now stub (shown_by answer) (ShowsContent name answer) (views ghosts old) (views ghosts new) claim
         (look_stays was now name answer stub old new x);
   }
@@ -86,6 +90,12 @@ read_is_call set k seen old new claim x = record {
       let same = (x.read.each k x.within).files tells in
       subst (λ files. KeepsOthers (view_at old k).files files) (sym same)
       (record { kept = λ name other. refl; shown = λ name other. refl; loose = λ name other. refl });
+  removes = λ id tells loses.
+      let same = (x.read.each k x.within).files tells in
+      elim loses [
+        | inl manifest ↦ absurd (manifest.2 (ap (λ (f : Files). f.kept (manifest_name id)) same ∙ manifest.1))
+        | inr shard ↦ absurd (shard.2 (ap (λ (f : Files). f.kept (shard_name id)) same ∙ shard.1))
+      ];
   long = x.read.long;
   others = x.others;
   slot = refl;

@@ -14,6 +14,7 @@ use Rattle.slot_core.specs.declared.stub.Stub.{Stub}
 use Rattle.op_steps.specs.Moves.{ShowsBy}
 use Rattle.op_steps.specs.Naming.{NamesIsTurn, NamesSays, names_by}
 use Rattle.op_steps.specs.Store.{SlotSeen}
+use Rattle.op_steps.proofs.CauseLemmas.{names_turn_cause}
 use Rattle.op_steps.proofs.NoteLemmas.{audit_noted, entry_counts, entry_noted}
 use Rattle.op_steps.proofs.StayLemmas.{Stays, stays_leave}
 
@@ -39,13 +40,14 @@ same_read disks = record {
 
 module _ {D : Type 0} (ghosts : Ghosts D) where
   pub names_is_turn : {Y : Type 0} → NamesIsTurn ghosts Y
-  names_is_turn was now from most answer stub disks claim x = record {
+  names_is_turn {Y = Y} was now from most answer stub disks claim x = record {
     numbers = x.turns.numbers;
     note_is = entry_noted was.numbers answer stub x.turns.stub_is;
     audit = audit_noted stub was.entries now.entries x.turns.audit;
     faults = entry_counts was.numbers answer stub was.faults now.faults x.turns.stub_is x.turns.faults;
     claims = record { slot = refl; elsewhere = λ other. refl };
     read = same_read disks;
+    cause = names_turn_cause ghosts was now claim {Y = Y} disks from most answer stub x.turns.stub_is x.says x.turns.faults x.lists;
     leaves = stays_leave ghosts was now stub (names_by from most answer) (ShowsNames from most answer) disks disks claim (record {
       numbers = x.turns.numbers;
       holds = x.holds;

@@ -1,9 +1,9 @@
 -- Logs of steps that go on by one step.
-use Rattle.std.proofs.Common.{◌≡◌, ◌∙◌, Bool, List, [], ◌∷◌, ◌++◌, map, append-nil, append_assoc, ap, refl, subst, sym}
+use Rattle.std.proofs.Common.{◌≡◌, ◌∙◌, List, [], ◌∷◌, ◌++◌, map, append-nil, append_assoc, ap, refl, subst, sym}
 use Rattle.std.proofs.lemmas.Grind.{flat_map-append}
 use Rattle.std.proofs.lemmas.List.{map-append}
 use Rattle.desk_base.specs.Telling.{Effect}
-use Rattle.drive_base.specs.Files.{Files}
+use Rattle.drive_base.specs.declared.drive.Drive.{Ghosts}
 use Rattle.drive_base.specs.declared.plan.SetPlan.{SetPlan}
 use Rattle.slot_core.specs.declared.stub.Stub.{Stub}
 use Rattle.receipts.specs.Events.{Event, Log, Section, notes_of, section_in, sections_of}
@@ -17,21 +17,21 @@ notes_join : (log more : Log) → notes_of (log ++ more) ≡ notes_of log ++ not
 notes_join log more = ap (map (λ (section : Section). section.note)) (flat_map-append section_in log more)
     ∙ map-append (λ (section : Section). section.note) (sections_of log) (sections_of more)
 
-module _ {D T : Type 0} (tells : D → Bool) (files : D → Files) (takes breaks : Effect T) (set : SetPlan) where
+module _ {D T : Type 0} (ghosts : Ghosts D) (takes breaks : Effect T) (set : SetPlan) where
   -- a log goes on by one step
-  pub ran_more : (log : Log) (event : Event) (a b c : Store D T) → Ran tells files takes breaks set log a b → StepMoves tells files takes breaks set event b c
-      → Ran tells files takes breaks set (log ++ event ∷ []) a c
-  ran_more [] event a b c same step = (c, subst (λ s. StepMoves tells files takes breaks set event s c) same step, refl)
+  pub ran_more : (log : Log) (event : Event) (a b c : Store D T) → Ran ghosts takes breaks set log a b → StepMoves ghosts takes breaks set event b c
+      → Ran ghosts takes breaks set (log ++ event ∷ []) a c
+  ran_more [] event a b c same step = (c, subst (λ s. StepMoves ghosts takes breaks set event s c) same step, refl)
   ran_more (first ∷ log) event a b c ran step = (ran.0, ran.1, ran_more log event ran.0 b c ran.2 step)
 
   -- nothing was done
-  pub so_none : (Old : Claim → Log → Type 0) (store : Claim → Store D T) (stubs : List Stub) → RanSo tells files takes breaks Old Old set store store stubs stubs
+  pub so_none : (Old : Claim → Log → Type 0) (store : Claim → Store D T) (stubs : List Stub) → RanSo ghosts takes breaks Old Old set store store stubs stubs
   so_none Old store stubs claim log holds =
       (claim, [], subst (λ l. Old claim l) (sym (append-nil log)) holds, refl, sym (append-nil (notes_by stubs)))
 
   -- one step more was
   pub so_more : (Old Mid New : Claim → Log → Type 0) (old mid new : Claim → Store D T) (s t u : List Stub)
-      → RanSo tells files takes breaks Old Mid set old mid s t → StepsSo tells files takes breaks Mid New set mid new t u → RanSo tells files takes breaks Old New set old new s u
+      → RanSo ghosts takes breaks Old Mid set old mid s t → StepsSo ghosts takes breaks Mid New set mid new t u → RanSo ghosts takes breaks Old New set old new s u
   so_more Old Mid New old mid new s t u ran steps claim log holds =
       let one = ran claim log holds in
       let two = steps one.0 (log ++ one.1) one.2 in

@@ -32,7 +32,7 @@ module _ {D : Type 0} (ghosts : Ghosts D) where
 
   pub stays_leave : (was now : SlotSeen D) (stub : Option Stub) (shown : Shown) (Shows : State → State → Type 0) (old new : List DriveView) (claim : Claim)
       → Stays was now stub shown Shows old new → (records : Records) (state : State) → LanesStand ghosts.tells ghosts.files was records state
-      → TurnLeaves ghosts.tells ghosts.files was now (noted stub) shown claim claim old new records state
+      → TurnLeaves ghosts was now (noted stub) shown claim claim old new records state
   stays_leave was now stub shown Shows old new claim x records state stands =
       let left = x.leaves records state stands in
       record {

@@ -1,9 +1,9 @@
 -- A section of one slot of a store, as a step of the store.
-use Rattle.std.proofs.Common.{◌≡◌, ◌<◌, ◌∙◌, ℕ, Bool, List, [], ◌∷◌, ◌++◌, Option, Some, None, get_or, length, option_to_list, set, append-nil, ap, refl, subst, sym, arith}
+use Rattle.std.proofs.Common.{◌≡◌, ◌<◌, ◌∙◌, ℕ, List, [], ◌∷◌, ◌++◌, Option, Some, None, get_or, length, option_to_list, set, append-nil, ap, refl, subst, sym, arith}
 use Rattle.std.proofs.lemmas.List.{get_or-map, length-map, map-append, map-set}
 use Rattle.audit_trail.specs.declared.entry.Entry.{Entry}
 use Rattle.desk_base.specs.Telling.{Effect}
-use Rattle.drive_base.specs.Files.{Files}
+use Rattle.drive_base.specs.declared.drive.Drive.{Ghosts}
 use Rattle.drive_base.specs.View.{DriveView}
 use Rattle.drive_base.specs.declared.plan.SetPlan.{SetPlan}
 use Rattle.slot_core.specs.Numbers.{NumbersMove}
@@ -45,12 +45,12 @@ module _ {D A : Type 0} (entries : A → Option (List Entry)) (count : A → ℕ
       subst (λ (l : List (SlotSeen D)). AreInOrder plan l new_disks) (sym (map-set (slot_seen entries count) slots k new))
       (order_stays plan (slots_seen entries count slots) old_disks new_disks k _ (slot_seen entries count new) order (seen_at slots k d inside) moves long)
 
-  module _ (tells : D → Bool) (files : D → Files) where
+  module _ (ghosts : Ghosts D) where
     -- what a section does to its slot it does in the store
     pub section_goes : (Old New : Claim → Log → Type 0) (plan : SetPlan) (slots : List (Slot D A)) (k : ℕ) (d new : Slot D A) (stub : Option Stub)
         (old_disks new_disks : List DriveView) → k < length slots → AreInOrder plan (slots_seen entries count slots) old_disks
-        → TurnsSo tells files Old New stub (slot_seen entries count (get_or slots k d)) (slot_seen entries count new) old_disks new_disks
-        → SectionsSo tells files Old New k stub (slots_seen entries count slots) (slots_seen entries count (set slots k new)) old_disks new_disks
+        → TurnsSo ghosts Old New stub (slot_seen entries count (get_or slots k d)) (slot_seen entries count new) old_disks new_disks
+        → SectionsSo ghosts Old New k stub (slots_seen entries count slots) (slots_seen entries count (set slots k new)) old_disks new_disks
     section_goes Old New plan slots k d new stub old_disks new_disks inside order turns claim log holds =
         let got = turns claim log holds in
         let at = seen_at slots k d inside in (
@@ -65,11 +65,11 @@ module _ {D A : Type 0} (entries : A → Option (List Entry)) (count : A → ℕ
           got.3,
         )
 
-module _ {D T : Type 0} (tells : D → Bool) (files : D → Files) (takes breaks : Effect T) where
+module _ {D T : Type 0} (ghosts : Ghosts D) (takes breaks : Effect T) where
   -- a section is one step, with its note
   pub turn_steps : (Old New : Claim → Log → Type 0) (plan : SetPlan) (k : ℕ) (stub : Option Stub) (old new : List (SlotSeen D)) (old_disks new_disks : List DriveView)
-      (stubs later : List Stub) → SectionsSo tells files Old New k stub old new old_disks new_disks → later ≡ stubs ++ option_to_list stub
-      → (feed : FeedSeen) (teller : TellerSeen T) → StepsSo tells files takes breaks Old New plan (λ claim. store_of old old_disks claim feed teller)
+      (stubs later : List Stub) → SectionsSo ghosts Old New k stub old new old_disks new_disks → later ≡ stubs ++ option_to_list stub
+      → (feed : FeedSeen) (teller : TellerSeen T) → StepsSo ghosts takes breaks Old New plan (λ claim. store_of old old_disks claim feed teller)
       (λ claim. store_of new new_disks claim feed teller) stubs later
   turn_steps Old New plan k stub old new old_disks new_disks stubs later sections kept feed teller claim log holds =
       let got = sections claim log holds in (
@@ -90,7 +90,7 @@ module _ {D T : Type 0} (tells : D → Bool) (files : D → Files) (takes breaks
   -- a section that could not be done is one step, without a note
   pub bar_steps : (Old New : Claim → Log → Type 0) (plan : SetPlan) (next : OpNext) (k : ℕ) (why : Barred) (was : SlotSeen D) (slots : List (SlotSeen D)) (disks : List DriveView)
       (stubs later : List Stub) → IsSlotAt slots k was → BarCause why was.numbers → next ≡ Section k → BarredSo Old New next why → later ≡ stubs
-      → (feed : FeedSeen) (teller : TellerSeen T) → StepsSo tells files takes breaks Old New plan (λ claim. store_of slots disks claim feed teller)
+      → (feed : FeedSeen) (teller : TellerSeen T) → StepsSo ghosts takes breaks Old New plan (λ claim. store_of slots disks claim feed teller)
       (λ claim. store_of slots disks claim feed teller) stubs later
   bar_steps Old New plan next k why was slots disks stubs later is cause at barred kept feed teller claim log holds = (
     claim,

@@ -2,8 +2,9 @@
 use Rattle.std.specs.Prelude.{◌≡◌, ℕ, List, None, Option, Result}
 use Rattle.drive_base.specs.View.{views}
 use Rattle.drive_base.specs.declared.drive.Drive.{Ghosts}
-use Rattle.slot_core.specs.Committing.{CommitHolds, FitsFlight, MayCommitData, SaysCommit, ShowsTrash}
-use Rattle.slot_core.specs.Stubs.{Says}
+use Rattle.slot_core.specs.CommitCauses.{CommitCause, deed_in}
+use Rattle.slot_core.specs.Committing.{ChecksFlight, CommitHolds, FitsFlight, MayCommitData, SaysCommit, ShowsTrash}
+use Rattle.slot_core.specs.Stubs.{Says, entry_of}
 use Rattle.slot_core.specs.Turning.{Leaves, Turns}
 use Rattle.slot_core.specs.declared.commit.Commit.{Commit}
 use Rattle.slot_core.specs.declared.commit.Committed.{Committed}
@@ -23,6 +24,8 @@ module _ {D : Type 0} (ghosts : Ghosts D) where
     pub turns : Turns was.numbers now.numbers was.entries now.entries was.faults now.faults answer stub
     pub says : Says stub (SaysCommit deed at answer)
     pub holds : CommitHolds None answer was.holding now.holding
+    pub checks : ChecksFlight None was.holding answer
+    pub cause : CommitCause ghosts.tells ghosts.files ghosts.count was.numbers now.numbers deed None at answer (deed_in (entry_of stub)) was.lanes now.lanes old new
     pub leaves : Leaves ghosts.tells ghosts.files was.numbers now.numbers was.holding now.holding was.lanes now.lanes stub
         (ShowsTrash deed answer was.holding.trash now.holding.trash) (MayCommitData deed now.holding)
     pub read : AreOnlyRead ghosts old new
@@ -31,4 +34,4 @@ module _ {D : Type 0} (ghosts : Ghosts D) where
   abbrev pub CommitIsTurn : Type 0
   CommitIsTurn = (was now : SlotSeen D) (deed : Commit) (at : ℕ) (answer : Result Committed SlotFault) (stub : Option Stub) (old new : List D) (claim : Claim)
       → CommitSays was now deed at answer stub old new
-      → TurnMoves ghosts.tells ghosts.files was now (noted stub) NoneShown claim claim (views ghosts old) (views ghosts new)
+      → TurnMoves ghosts was now (noted stub) NoneShown claim claim (views ghosts old) (views ghosts new)

@@ -1,11 +1,11 @@
 -- What the loop over an op's steps keeps, and what it leaves.
-use Rattle.std.specs.Prelude.{◌≡◌, ℕ, Bool, List, [], ◌∷◌, ◌++◌, Option}
+use Rattle.std.specs.Prelude.{◌≡◌, ℕ, List, [], ◌∷◌, ◌++◌, Option}
 use Rattle.call_types.specs.Feeds.{FeedView}
 use Rattle.call_types.specs.declared.feed.Cut.{Cut}
 use Rattle.desk_base.specs.Answering.{Task}
 use Rattle.desk_base.specs.Calls.{stated_length}
 use Rattle.desk_base.specs.Telling.{Effect}
-use Rattle.drive_base.specs.Files.{Files}
+use Rattle.drive_base.specs.declared.drive.Drive.{Ghosts}
 use Rattle.drive_base.specs.declared.plan.SetPlan.{SetPlan}
 use Rattle.slot_core.specs.declared.stub.Stub.{Stub}
 use Rattle.receipts.specs.Events.{Event, Log, notes_of}
@@ -36,17 +36,17 @@ pub record GoesOn (old new : OpSeen) : Type 0 where
 abbrev pub AddsNotes : Log → List Stub → List Stub → Type 0
 AddsNotes log old new = notes_by new ≡ notes_by old ++ notes_of log
 
-module _ {D T : Type 0} (tells : D → Bool) (files : D → Files) (takes breaks : Effect T) where
+module _ {D T : Type 0} (ghosts : Ghosts D) (takes breaks : Effect T) where
   -- one step was done: one event more, which moved the store; a store is given by what is held of it
   abbrev pub StepsSo : (Claim → Log → Type 0) → (Claim → Log → Type 0) → SetPlan → (Claim → Store D T) → (Claim → Store D T) → List Stub → List Stub → Type 0
   StepsSo Old New set old new stubs_old stubs_new = (claim : Claim) (log : Log) → Old claim log
-      → (later : Claim) × (event : Event) × New later (log ++ event ∷ []) × StepMoves tells files takes breaks set event (old claim) (new later)
+      → (later : Claim) × (event : Event) × New later (log ++ event ∷ []) × StepMoves ghosts takes breaks set event (old claim) (new later)
       × AddsNotes (event ∷ []) stubs_old stubs_new
 
   -- several were
   abbrev pub RanSo : (Claim → Log → Type 0) → (Claim → Log → Type 0) → SetPlan → (Claim → Store D T) → (Claim → Store D T) → List Stub → List Stub → Type 0
   RanSo Old New set old new stubs_old stubs_new = (claim : Claim) (log : Log) → Old claim log
-      → (later : Claim) × (more : Log) × New later (log ++ more) × Ran tells files takes breaks set more (old claim) (new later) × AddsNotes more stubs_old stubs_new
+      → (later : Claim) × (more : Log) × New later (log ++ more) × Ran ghosts takes breaks set more (old claim) (new later) × AddsNotes more stubs_old stubs_new
 
   -- a call was done: a log of its steps leads from the store before, of which it held nothing, to the store after; it pays what the call owes, and its
   -- notes are those of the stubs. Something of the store is still held only where some section could not be done
@@ -55,5 +55,5 @@ module _ {D T : Type 0} (tells : D → Bool) (files : D → Files) (takes breaks
     pub log : Log
     pub lets_go : LetsGo left log
     pub pays : Pays set task cut log
-    pub ran : Ran tells files takes breaks set log (old (no_claim slot)) (new left)
+    pub ran : Ran ghosts takes breaks set log (old (no_claim slot)) (new left)
     pub notes : notes_by stubs ≡ notes_of log

@@ -1,12 +1,17 @@
+pub mod Calling
+pub mod Causes
 pub mod Claims
 pub mod Committing
 pub mod Going
+pub mod Holding
 pub mod Laws
+pub mod Leading
 pub mod Looking
 pub mod Moves
 pub mod Naming
 pub mod Notes
 pub mod Ready
+pub mod Refusing
 pub mod Steps
 pub mod Store
 pub mod Words

@@ -6,9 +6,10 @@ use Rattle.drive_base.specs.declared.plan.SetPlan.{SetPlan}
 use Rattle.drive_base.specs.declared.drive.Drive.{Ghosts}
 use Rattle.register_caller.specs.Steps.{FilesStay}
 use Rattle.register_core.specs.Loops.{CountsRise, TellsStay}
+use Rattle.slot_core.specs.Causes.{PeekCause}
 use Rattle.slot_core.specs.Hands.{HandsStay}
 use Rattle.slot_core.specs.Sections.{SaysKept, ShowsContent}
-use Rattle.slot_core.specs.Stubs.{Says}
+use Rattle.slot_core.specs.Stubs.{Says, completed_by}
 use Rattle.slot_core.specs.Turning.{Leaves, Turns}
 use Rattle.slot_core.specs.declared.fault.SlotFault.{SlotFault}
 use Rattle.slot_core.specs.declared.stub.Stub.{Stub}
@@ -37,6 +38,7 @@ module _ {D : Type 0} (ghosts : Ghosts D) where
     pub turns : Turns was.numbers now.numbers was.entries now.entries was.faults now.faults answer stub
     pub says : Says stub (SaysKept name)
     pub holds : now.holding ≡ was.holding
+    pub cause : PeekCause ghosts.tells ghosts.files ghosts.count was.numbers now.numbers name answer (completed_by stub) was.lanes now.lanes old new
     pub leaves : Leaves ghosts.tells ghosts.files was.numbers now.numbers was.holding now.holding was.lanes now.lanes stub (ShowsContent name answer) HandsStay
     pub read : AreOnlyRead old new
 
@@ -44,7 +46,7 @@ module _ {D : Type 0} (ghosts : Ghosts D) where
   abbrev pub LookIsTurn : Type 0
   LookIsTurn = (was now : SlotSeen D) (name : List ℕ) (answer : Result (List ℕ) SlotFault) (stub : Option Stub) (old new : List D) (claim : Claim)
       → LookSays was now name answer stub old new
-      → TurnMoves ghosts.tells ghosts.files was now (noted stub) (shown_by answer) claim claim (views ghosts old) (views ghosts new)
+      → TurnMoves ghosts was now (noted stub) (shown_by answer) claim claim (views ghosts old) (views ghosts new)
 
 -- a call of a data drive in use, which gave this, or none, and by which all drives were only read
 pub record ReadSays (set : SetPlan) (k : ℕ) (seen : Seen) (old new : List DriveView) : Type 0 where

@@ -1,5 +1,5 @@
 -- What one step does to what it works on.
-use Rattle.std.specs.Prelude.{◌≡◌, ◌≢◌, ◌⊎◌, ℕ, ◌+◌, ◌<◌, ◌≤◌, Bool, IsTrue, List, length, min, max, Option, Some, None, MatchOption}
+use Rattle.std.specs.Prelude.{◌≡◌, ◌≢◌, ◌⊎◌, ℕ, ◌+◌, ◌<◌, ◌≤◌, IsTrue, List, Contains, length, min, max, Option, Some, None, MatchOption}
 use Rattle.std.specs.Int.{IsBitSet}
 use Rattle.std.specs.Io.KnownBytes.{IsAtEnd}
 use Rattle.audit_trail.specs.declared.entry.Entry.{Entry}
@@ -9,6 +9,7 @@ use Rattle.call_types.specs.declared.feed.Cut.{Cut}
 use Rattle.call_types.specs.declared.feed.Cut.TheVariants.{BodyCut, NoMemory, ReadFault, ShardCut, WriteFault}
 use Rattle.desk_base.specs.Telling.{Effect, Telling}
 use Rattle.drive_base.specs.Files.{Files}
+use Rattle.drive_base.specs.declared.drive.Drive.{Ghosts}
 use Rattle.drive_base.specs.View.{AllOnlyRead, DriveView, GoesOn, view_at}
 use Rattle.drive_base.specs.declared.plan.SetPlan.{SetPlan}
 use Rattle.fault_base.specs.Counts.{Rose}
@@ -16,7 +17,7 @@ use Rattle.field_reader.specs.Spelling.{IsBytes}
 use Rattle.file_access.specs.Reading.{HasLength, IsPieceAt}
 use Rattle.stamp_id.specs.declared.version.VersionId.{VersionId}
 use Rattle.vote_core.specs.Lane.{lane_at}
-use Rattle.slot_history.specs.Standing.{Records, Stands}
+use Rattle.slot_history.specs.Standing.{Flying, Records, Stands}
 use Rattle.slot_history.specs.State.{IsHeld, State}
 use Rattle.slot_data.specs.Disks.{Disks}
 use Rattle.slot_data.specs.Holding.{Holding}
@@ -29,6 +30,7 @@ use Rattle.receipts.specs.Events.Seen.{CutShort, Faulted, Missing, Showed, Sized
 use Rattle.receipts.specs.Events.Shown.{ContentShown, NamesShown, NoneShown}
 use Rattle.receipts.specs.declared.barred.Barred.{Barred}
 use Rattle.receipts.specs.declared.barred.Barred.TheVariants as barred
+use Rattle.op_steps.specs.Causes.{TurnCause}
 use Rattle.op_steps.specs.Claims.{Claim, DataHolds, among}
 use Rattle.op_steps.specs.Notes.{AuditCounts, AuditHas, IsNoted, entry_in}
 use Rattle.op_steps.specs.Store.{FeedSeen, LanesStand, SlotSeen, TellerSeen}
@@ -46,20 +48,21 @@ pub record ClaimMoves (index : ℕ) (claim later : Claim) : Type 0 where
   pub slot : later.slot ≡ claim.slot
   pub elsewhere : claim.slot ≢ index → later ≡ claim
 
-module _ {D : Type 0} (tells : D → Bool) (files : D → Files) where
+module _ {D : Type 0} (ghosts : Ghosts D) where
   -- what a section leaves of lanes that stood for a state: they stand for a state to which its entry moved, with the same records in the place of lanes that
   -- are out, and whatever other ops hold, the data goes on to hold, with any files on drives that are out
   pub record TurnLeaves (was now : SlotSeen D) (note : Option Note) (shown : Shown) (claim later : Claim) (disks_old disks_new : List DriveView)
       (records : Records) (state : State) : Type 0 where
     pub records_after : Records
     pub state_after : State
-    pub stands : LanesStand tells files now records_after state_after
+    pub stands : LanesStand ghosts.tells ghosts.files now records_after state_after
     pub stay : (name : List ℕ) (k : ℕ) → IsBitSet was.numbers.set.out k → lane_at (records_after name) k ≡ lane_at (records name) k
     pub moves : EntryMoves was.numbers.index (entry_in note) (ShowsBy (entry_in note) shown) records state records_after state_after
     pub holds : (unseen : Disks) (front rest : List Claim) → DataHolds was.numbers was.holding unseen disks_old (among front claim rest) records state
         → DataHolds now.numbers now.holding unseen disks_new (among front later rest) records_after state_after
 
-  -- one section of a slot: one turn more, with its note; its entry is what the audit got; data drives are only read; and what it leaves of its lanes
+  -- one section of a slot: one turn more, with its note; its entry is what the audit got; data drives are only read; where it was refused, why; and what it
+  -- leaves of its lanes
   pub record TurnMoves (was now : SlotSeen D) (note : Option Note) (shown : Shown) (claim later : Claim) (disks_old disks_new : List DriveView) : Type 0 where
     pub numbers : NumbersMove was.numbers now.numbers
     pub note_is : IsNoted was.numbers note
@@ -67,7 +70,8 @@ module _ {D : Type 0} (tells : D → Bool) (files : D → Files) where
     pub faults : AuditCounts note was.faults now.faults
     pub claims : ClaimMoves was.numbers.index claim later
     pub read : AllOnlyRead disks_old disks_new
-    pub leaves : (records : Records) (state : State) → LanesStand tells files was records state
+    pub cause : TurnCause ghosts note was now claim disks_old disks_new
+    pub leaves : (records : Records) (state : State) → LanesStand ghosts.tells ghosts.files was records state
         → TurnLeaves was now note shown claim later disks_old disks_new records state
 
 -- why a section could not be done: the slot's turns are spent. For want of memory there is no cause
@@ -110,6 +114,11 @@ pub record KeepsOthers (old new : Files) : Type 0 where
   pub shown : (name : List ℕ) → (IsDataName name → ⊥) → new.shown name ≡ old.shown name
   pub loose : (name : List ℕ) → (IsLooseName name → ⊥) → new.loose name ≡ old.loose name
 
+-- a drive keeps no longer what it kept under one of the two names of an id
+abbrev pub LosesFile : VersionId → Files → Files → Type 0
+LosesFile id old new = ((bytes : List ℕ) × (old.kept (manifest_name id) ≡ Some bytes) × (new.kept (manifest_name id) ≢ Some bytes))
+    ⊎ ((bytes : List ℕ) × (old.kept (shard_name id) ≡ Some bytes) × (new.kept (shard_name id) ≢ Some bytes))
+
 -- the lanes of a slot of these numbers stand for a state, with the puts that it lists
 abbrev pub RecordsStand : SlotNumbers → Holding → Records → State → Type 0
 RecordsStand numbers holding records state = Stands (quorum_of numbers) numbers.set.drives (last_of numbers) holding.flights records state
@@ -127,14 +136,17 @@ pub record KeepsData (set : SetPlan) (unseen : Disks) (disks : List DriveView) (
   pub stands : RecordsStand slot.numbers slot.holding slot.records slot.state
   pub holds : DataHolds slot.numbers slot.holding unseen disks claims slot.records slot.state
 
--- a step at a data drive, and none at another: one call, where the drive is in use, or none. A drive that tells keeps what is no data. Where the data of the
--- op's own slot holds, no drive says that nothing is being written under a loose name, and whatever other ops hold, the data of each slot goes on to hold
+-- a step at a data drive, and none at another: one call, where the drive is in use, or none. A drive that tells keeps what is no data, and of data all but
+-- files that the op took, or of its own put. Where the data of the op's own slot holds, no drive says that nothing is being written under a loose name, and
+-- whatever other ops hold, the data of each slot goes on to hold
 pub record CallMoves (set : SetPlan) (k : ℕ) (seen : Seen) (claim later : Claim) (old new : List DriveView) : Type 0 where
   pub within : k < length old
   pub in_use : IsCall seen → IsBitSet set.out k → ⊥
   pub was_so : WasSo seen (view_at old k) (view_at new k)
   pub goes_on : GoesOn (view_at old k) (view_at new k)
   pub keeps : IsTrue (view_at old k).tells → KeepsOthers (view_at old k).files (view_at new k).files
+  pub removes : (id : VersionId) → IsTrue (view_at old k).tells → LosesFile id (view_at old k).files (view_at new k).files
+      → Contains claim.taken id ⊎ ((f : Flying) × (claim.flight ≡ Some f) × (f.id ≡ id))
   pub long : length new ≡ length old
   pub others : (other : ℕ) → other ≢ k → view_at new other ≡ view_at old other
   pub slot : later.slot ≡ claim.slot

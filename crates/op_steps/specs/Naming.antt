@@ -3,7 +3,7 @@ use Rattle.std.specs.Prelude.{◌≡◌, ℕ, List, map, Option, Result, Ok, Err
 use Rattle.drive_base.specs.View.{DriveView}
 use Rattle.drive_base.specs.declared.drive.Drive.{Ghosts}
 use Rattle.slot_core.specs.Hands.{HandsStay}
-use Rattle.slot_core.specs.Listing.{SaysNothing, ShowsNames}
+use Rattle.slot_core.specs.Listing.{ListsNames, SaysNothing, ShowsNames}
 use Rattle.slot_core.specs.Stubs.{Says}
 use Rattle.slot_core.specs.Turning.{Leaves, TurnsUnspent}
 use Rattle.slot_core.specs.declared.fault.SlotFault.{SlotFault}
@@ -26,10 +26,11 @@ module _ {D : Type 0} (ghosts : Ghosts D) where
     pub turns : TurnsUnspent was.numbers now.numbers was.entries now.entries was.faults now.faults answer stub
     pub says : Says stub SaysNothing
     pub holds : now.holding ≡ was.holding
+    pub lists : ListsNames ghosts.tells ghosts.files ghosts.count was.numbers.set from most answer was.lanes now.lanes
     pub leaves : Leaves ghosts.tells ghosts.files was.numbers now.numbers was.holding now.holding was.lanes now.lanes stub (ShowsNames from most answer) HandsStay
 
   -- it is a step that leaves any claim, and the data drives
   abbrev pub NamesIsTurn : Type 0 → Type 0
   NamesIsTurn Y = (was now : SlotSeen D) (from : List ℕ) (most : ℕ) (answer : Result (List (String Y)) SlotFault) (stub : Option Stub) (disks : List DriveView)
       (claim : Claim) → NamesSays was now from most answer stub
-      → TurnMoves ghosts.tells ghosts.files was now (noted stub) (names_by from most answer) claim claim disks disks
+      → TurnMoves ghosts was now (noted stub) (names_by from most answer) claim claim disks disks

@@ -1,8 +1,8 @@
 -- The steps of an op on a store, one for each event of its log.
-use Rattle.std.specs.Prelude.{◌≡◌, ℕ, ◌<◌, Bool, List, [], ◌∷◌, length, slice_index_or, slice_set, Option}
+use Rattle.std.specs.Prelude.{◌≡◌, ℕ, ◌<◌, List, [], ◌∷◌, length, slice_index_or, slice_set, Option}
 use Rattle.call_types.specs.declared.feed.Cut.{Cut}
 use Rattle.desk_base.specs.Telling.{Effect, Telling}
-use Rattle.drive_base.specs.Files.{Files}
+use Rattle.drive_base.specs.declared.drive.Drive.{Ghosts}
 use Rattle.drive_base.specs.View.{DriveView}
 use Rattle.drive_base.specs.declared.plan.SetPlan.{SetPlan}
 use Rattle.receipts.specs.Events.{Event, Log, Note, Seen, Shown}
@@ -15,14 +15,14 @@ use Rattle.op_steps.specs.Store.{SlotSeen, Store, store_of}
 abbrev pub IsSlotAt : {D : Type 0} → List (SlotSeen D) → ℕ → SlotSeen D → Type 0
 IsSlotAt {D} slots k was = (k < length slots) × ((d : SlotSeen D) → slice_index_or slots k d ≡ was)
 
-module _ {D T : Type 0} (tells : D → Bool) (files : D → Files) where
+module _ {D T : Type 0} (ghosts : Ghosts D) where
   -- a section of the slot of this index; the other slots, feed and teller stay
   pub record Turns (k : ℕ) (note : Option Note) (shown : Shown) (old new : Store D T) : Type 0 where
     pub was : SlotSeen D
     pub now : SlotSeen D
     pub is : IsSlotAt old.slots k was
     pub disks : List DriveView
-    pub moves : TurnMoves tells files was now note shown old.claim new.claim old.disks disks
+    pub moves : TurnMoves ghosts was now note shown old.claim new.claim old.disks disks
     pub leaves : new ≡ store_of (slice_set old.slots k now) disks new.claim old.feed old.teller
 
 -- a section of it could not be done, and all stays
@@ -46,10 +46,10 @@ pub record TellsOne {D T : Type 0} (takes breaks : Effect T) (telling : Telling)
   pub moves : TellMoves takes breaks telling cut old.teller new.teller
   pub leaves : new ≡ store_of old.slots old.disks old.claim old.feed new.teller
 
-module _ {D T : Type 0} (tells : D → Bool) (files : D → Files) (takes breaks : Effect T) (set : SetPlan) where
+module _ {D T : Type 0} (ghosts : Ghosts D) (takes breaks : Effect T) (set : SetPlan) where
   -- what an event does to a store
   abbrev pub StepMoves : Event → Store D T → Store D T → Type 0
-  StepMoves (Turned k note shown) old new = Turns tells files k note shown old new
+  StepMoves (Turned k note shown) old new = Turns ghosts k note shown old new
   StepMoves (BarredFrom k why) old new = IsBarred k why old new
   StepMoves (Called k seen) old new = Calls set k seen old new
   StepMoves (Fed bytes cut) old new = Feeds bytes cut old new

@@ -2,6 +2,7 @@
 use Rattle.std.specs.Prelude.{◌≡◌, ℕ, ◌<◌, Bool, List, length, map, slice_index_or, Option}
 use Rattle.audit_trail.specs.declared.entry.Entry.{Entry}
 use Rattle.call_types.specs.Feeds.{FeedView}
+use Rattle.desk_base.specs.Telling.{Effect}
 use Rattle.drive_base.specs.Files.{Files}
 use Rattle.drive_base.specs.View.{DriveView}
 use Rattle.drive_base.specs.declared.plan.SetPlan.{SetPlan}
@@ -47,6 +48,10 @@ pub record TellerSeen (T : Type 0) : Type 0 where
 -- that of a teller
 abbrev pub teller_of : {T : Type 0} → T → ℕ → TellerSeen T
 teller_of teller faults = record { value = teller; faults = faults }
+
+-- what a telling does to a teller of which only the count of faults is seen
+abbrev pub any_effect : Effect (Unit {0})
+any_effect old telling new = Unit {0}
 
 -- a store, as one op has it, with slots over drives of one type and a teller
 pub record Store (D T : Type 0) : Type 0 where

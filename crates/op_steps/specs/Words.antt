@@ -1,8 +1,8 @@
 -- What each method of an op does, as a step of the log that stands for it.
-use Rattle.std.specs.Prelude.{◌≡◌, ◌⊎◌, ℕ, ◌<◌, Bool, List, [], ◌∷◌, ◌++◌, Contains, slice_set, Option}
+use Rattle.std.specs.Prelude.{◌≡◌, ◌⊎◌, ℕ, ◌<◌, List, [], ◌∷◌, ◌++◌, Contains, slice_set, Option}
 use Rattle.call_types.specs.declared.feed.Cut.{Cut}
 use Rattle.desk_base.specs.Telling.{Effect, Telling}
-use Rattle.drive_base.specs.Files.{Files}
+use Rattle.drive_base.specs.declared.drive.Drive.{Ghosts}
 use Rattle.drive_base.specs.View.{DriveView}
 use Rattle.drive_base.specs.declared.plan.SetPlan.{SetPlan}
 use Rattle.slot_core.specs.declared.stub.Stub.{Stub}
@@ -33,20 +33,20 @@ IsSection Feed = ⊥
 IsSection Tell = ⊥
 IsSection Done = ⊥
 
-module _ {D : Type 0} (tells : D → Bool) (files : D → Files) where
+module _ {D : Type 0} (ghosts : Ghosts D) where
   -- a section adds its note to the log, with what it showed
   abbrev pub TurnsSo : (Claim → Log → Type 0) → (Claim → Log → Type 0) → Option Stub → SlotSeen D → SlotSeen D → List DriveView → List DriveView → Type 0
   TurnsSo Old New stub was now disks_old disks_new = (claim : Claim) (log : Log) → Old claim log
       → (later : Claim) × (shown : Shown) × New later (log ++ Turned was.numbers.index (noted stub) shown ∷ [])
-      × TurnMoves tells files was now (noted stub) shown claim later disks_old disks_new
+      × TurnMoves ghosts was now (noted stub) shown claim later disks_old disks_new
 
-module _ {D : Type 0} (tells : D → Bool) (files : D → Files) where
+module _ {D : Type 0} (ghosts : Ghosts D) where
   -- a section of one slot of a store does so, and the others stay
   abbrev pub SectionsSo : (Claim → Log → Type 0) → (Claim → Log → Type 0) → ℕ → Option Stub → List (SlotSeen D) → List (SlotSeen D)
       → List DriveView → List DriveView → Type 0
   SectionsSo Old New k stub old new disks_old disks_new = (claim : Claim) (log : Log) → Old claim log
       → (later : Claim) × (shown : Shown) × (was : SlotSeen D) × (now : SlotSeen D) × New later (log ++ Turned k (noted stub) shown ∷ [])
-      × IsSlotAt old k was × (new ≡ slice_set old k now) × TurnMoves tells files was now (noted stub) shown claim later disks_old disks_new
+      × IsSlotAt old k was × (new ≡ slice_set old k now) × TurnMoves ghosts was now (noted stub) shown claim later disks_old disks_new
 
 -- nothing is held; or a section of its slot could not be done, and then no id is held that was taken from the trash
 abbrev pub LetsGo : Claim → Log → Type 0

@@ -17,7 +17,10 @@ mod refusing;
 mod run;
 mod turning;
 
-pub use laws::{commit_law, data_law, history_law, look_law, names_law, read_law};
+pub use laws::{
+    call_law, calls_law, cause_law, commit_law, data_law, history_law, look_law, names_law,
+    read_law, showing_laws,
+};
 pub use next::OpNext;
 pub use op::Op;
 pub use refusing::{call_refusal, section_refusal};

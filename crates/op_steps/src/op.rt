@@ -74,7 +74,7 @@ pub trait Op {
         ensures taken { taken self.new ≡ taken self.old }
         ensures disks { length disks.new ≡ length disks.old }
         ensures numbers { NumbersMove (numbers_of slot.old) (numbers_of slot.new) }
-        ensures turns { TurnsSo D.tells D.files (stands self.old) (stands self.new) result
+        ensures turns { TurnsSo D.Drive (stands self.old) (stands self.new) result
             (slot_seen A.entries A.count slot.old) (slot_seen A.entries A.count slot.new) (views D.Drive disks.old) (views D.Drive disks.new) };
 
     /// Is told that the section that `next` named can't be done, and why.

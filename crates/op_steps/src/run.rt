@@ -38,7 +38,7 @@ fn take_step<O: Op, D: Drive, A: Audit, F: Feed, T: Teller>(
     ensures left { O.left op.new < O.left op.old }
     ensures order { AreInOrder (O.set op.old) (slots_seen A.entries A.count slots.new) (views D.Drive disks.new) }
     ensures feed { IsFeedAt (O.task op.old) (O.taken op.new) (F.seen feed.new) }
-    ensures steps { StepsSo D.tells D.files T.takes T.breaks (O.stands op.old) (O.stands op.new) (O.set op.old)
+    ensures steps { StepsSo D.Drive T.takes T.breaks (O.stands op.old) (O.stands op.new) (O.set op.old)
         (λ claim. store_of (slots_seen A.entries A.count slots.old) (views D.Drive disks.old) claim
         (record { view = F.seen feed.old; faults = F.faults feed.old }) (teller_of teller.old (T.faults teller.old)))
         (λ claim. store_of (slots_seen A.entries A.count slots.new) (views D.Drive disks.new) claim
@@ -72,7 +72,7 @@ pub fn run_op<O: Op, D: Drive, A: Audit, F: Feed, T: Teller>(
     ensures pays { (claim : Claim) (log : Log) → O.stands op.new claim log → Pays (O.set op.old) (O.task op.old) (O.cut_at op.new) log }
     ensures ends { (claim : Claim) (log : Log) → O.stands op.new claim log → LetsGo claim log }
     ensures order { AreInOrder (O.set op.old) (slots_seen A.entries A.count slots.new) (views D.Drive disks.new) }
-    ensures ran { RanSo D.tells D.files T.takes T.breaks (O.stands op.old) (O.stands op.new) (O.set op.old)
+    ensures ran { RanSo D.Drive T.takes T.breaks (O.stands op.old) (O.stands op.new) (O.set op.old)
         (λ claim. store_of (slots_seen A.entries A.count slots.old) (views D.Drive disks.old) claim
         (record { view = F.seen feed.old; faults = F.faults feed.old }) (teller_of teller.old (T.faults teller.old)))
         (λ claim. store_of (slots_seen A.entries A.count slots.new) (views D.Drive disks.new) claim
@@ -109,7 +109,7 @@ pub fn call_op<O: Op, D: Drive, A: Audit, F: Feed, T: Teller>(
     requires order { AreInOrder (O.set op.old) (slots_seen A.entries A.count slots.old) (views D.Drive disks.old) }
     requires feed { IsFeedAt (O.task op.old) (O.taken op.old) (F.seen feed.old) }
     ensures order { AreInOrder (O.set op.old) (slots_seen A.entries A.count slots.new) (views D.Drive disks.new) }
-    ensures done { (slot : ℕ) → O.stands op.old (no_claim slot) [] → CallDone D.tells D.files T.takes T.breaks (O.set op.old) (O.task op.old) result.cut slot
+    ensures done { (slot : ℕ) → O.stands op.old (no_claim slot) [] → CallDone D.Drive T.takes T.breaks (O.set op.old) (O.task op.old) result.cut slot
         (λ claim. store_of (slots_seen A.entries A.count slots.old) (views D.Drive disks.old) claim
         (record { view = F.seen feed.old; faults = F.faults feed.old }) (teller_of teller.old (T.faults teller.old)))
         (λ claim. store_of (slots_seen A.entries A.count slots.new) (views D.Drive disks.new) claim

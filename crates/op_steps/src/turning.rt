@@ -44,7 +44,7 @@ fn section_at<O: Op, D: Drive, A: Audit>(
     ensures left { O.left op.new < O.left op.old }
     ensures taken { O.taken op.new ≡ O.taken op.old }
     ensures order { AreInOrder (O.set op.old) (slots_seen A.entries A.count slots.new) (views D.Drive disks.new) }
-    ensures sections { SectionsSo D.tells D.files (O.stands op.old) (O.stands op.new) index result (slots_seen A.entries A.count slots.old)
+    ensures sections { SectionsSo D.Drive (O.stands op.old) (O.stands op.new) index result (slots_seen A.entries A.count slots.old)
         (slots_seen A.entries A.count slots.new) (views D.Drive disks.old) (views D.Drive disks.new) }
 {
     op.section(alloc, &mut slots[index as usize], disks)
@@ -68,7 +68,7 @@ pub(crate) fn turn<O: Op, D: Drive, A: Audit, T: Teller>(
     ensures left { O.left op.new < O.left op.old }
     ensures taken { O.taken op.new ≡ O.taken op.old }
     ensures order { AreInOrder (O.set op.old) (slots_seen A.entries A.count slots.new) (views D.Drive disks.new) }
-    ensures steps { (feed : FeedSeen) (teller : TellerSeen T) → StepsSo D.tells D.files T.takes T.breaks (O.stands op.old) (O.stands op.new) (O.set op.old)
+    ensures steps { (feed : FeedSeen) (teller : TellerSeen T) → StepsSo D.Drive T.takes T.breaks (O.stands op.old) (O.stands op.new) (O.set op.old)
         (λ claim. store_of (slots_seen A.entries A.count slots.old) (views D.Drive disks.old) claim feed teller)
         (λ claim. store_of (slots_seen A.entries A.count slots.new) (views D.Drive disks.new) claim feed teller) stubs.old.items stubs.new.items }
 {

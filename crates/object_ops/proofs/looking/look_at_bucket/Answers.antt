@@ -12,6 +12,7 @@ returns-clause-looks g c =
       turns = peek.turns;
       says = peek.says;
       holds = peek.holds;
+      cause = peek.cause;
       leaves = peek.leaves;
       read = record { long = c.peek-turn.auto.disks; files = peek.disk_files; tells = peek.disk_tells; counts = peek.disk_counts };
     })

@@ -13,7 +13,7 @@ loop-alloc-init g c = record {
   task = refl;
   order = c.requires.order;
   feed = c.requires.feed;
-  ran = so_none g.D.Drive.tells g.D.Drive.files g.T.Teller.takes g.T.Teller.breaks (g.O.Op.set c.args.op.now) (g.O.Op.stands c.args.op.now)
+  ran = so_none g.D.Drive g.T.Teller.takes g.T.Teller.breaks (g.O.Op.set c.args.op.now) (g.O.Op.stands c.args.op.now)
       (λ claim. store_of (slots_seen g.A.Audit.entries g.A.Audit.count c.args.slots.now) (views g.D.Drive c.args.disks.now) claim
       (record { view = g.F.Feed.seen c.args.feed.now; faults = g.F.Feed.faults c.args.feed.now })
       (teller_of c.args.teller.now (g.T.Teller.faults c.args.teller.now))) c.args.stubs.now.items;
@@ -29,9 +29,9 @@ loop-alloc-preserved g c =
       order = subst (λ set. AreInOrder set (slots_seen g.A.Audit.entries g.A.Audit.count c.take_step.new.slots) (views g.D.Drive c.take_step.new.disks))
           kept.set step.order;
       feed = subst (λ task. IsFeedAt task (g.O.Op.taken c.take_step.new.op) (g.F.Feed.seen c.take_step.new.feed)) kept.task step.feed;
-      ran = so_more g.D.Drive.tells g.D.Drive.files g.T.Teller.takes g.T.Teller.breaks (g.O.Op.set c.args.op.now) (g.O.Op.stands c.args.op.now) (g.O.Op.stands c.loop-alloc.op)
+      ran = so_more g.D.Drive g.T.Teller.takes g.T.Teller.breaks (g.O.Op.set c.args.op.now) (g.O.Op.stands c.args.op.now) (g.O.Op.stands c.loop-alloc.op)
           (g.O.Op.stands c.take_step.new.op) _ _ _ c.args.stubs.now.items c.loop-alloc.stubs.items c.take_step.new.stubs.items kept.ran
-          (subst (λ set. StepsSo g.D.Drive.tells g.D.Drive.files g.T.Teller.takes g.T.Teller.breaks (g.O.Op.stands c.loop-alloc.op) (g.O.Op.stands c.take_step.new.op) set
+          (subst (λ set. StepsSo g.D.Drive g.T.Teller.takes g.T.Teller.breaks (g.O.Op.stands c.loop-alloc.op) (g.O.Op.stands c.take_step.new.op) set
           (λ claim. store_of (slots_seen g.A.Audit.entries g.A.Audit.count c.loop-alloc.slots) (views g.D.Drive c.loop-alloc.disks) claim
           (record { view = g.F.Feed.seen c.loop-alloc.feed; faults = g.F.Feed.faults c.loop-alloc.feed })
           (teller_of c.loop-alloc.teller (g.T.Teller.faults c.loop-alloc.teller)))

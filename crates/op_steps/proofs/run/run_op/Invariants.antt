@@ -11,7 +11,7 @@ invariant-loop-alloc g l = let O = g.O.Op in let D = g.D.Drive in let A = g.A.Au
   task : O.task l.op ≡ O.task l.initial.op;
   order : AreInOrder (O.set l.initial.op) (slots_seen A.entries A.count l.slots) (views D l.disks);
   feed : IsFeedAt (O.task l.initial.op) (O.taken l.op) (F.seen l.feed);
-  ran : RanSo D.tells D.files T.takes T.breaks (O.stands l.initial.op) (O.stands l.op) (O.set l.initial.op)
+  ran : RanSo D T.takes T.breaks (O.stands l.initial.op) (O.stands l.op) (O.set l.initial.op)
       (λ claim. store_of (slots_seen A.entries A.count l.initial.slots) (views D l.initial.disks) claim
       (record { view = F.seen l.initial.feed; faults = F.faults l.initial.feed }) (teller_of l.initial.teller (T.faults l.initial.teller)))
       (λ claim. store_of (slots_seen A.entries A.count l.slots) (views D l.disks) claim

@@ -23,6 +23,6 @@ returns-clause-order g c = seen_order g.A.Audit.entries g.A.Audit.count (g.O.Op.
     (length-map c.section.new.disks (view g.D.Drive) ∙ (c.section.ensures.disks ∙ sym (length-map c.args.disks.now (view g.D.Drive))))
 
 pub returns-clause-sections : goal.returns-clause-sections
-returns-clause-sections g c = section_goes g.A.Audit.entries g.A.Audit.count g.D.Drive.tells g.D.Drive.files (g.O.Op.stands c.args.op.now)
+returns-clause-sections g c = section_goes g.A.Audit.entries g.A.Audit.count g.D.Drive (g.O.Op.stands c.args.op.now)
     (g.O.Op.stands c.section.new.self) (g.O.Op.set c.args.op.now) c.args.slots.now c.args.index c.index-slots-index.result c.section.new.slot c.section.result
     (views g.D.Drive c.args.disks.now) (views g.D.Drive c.section.new.disks) c.requires.index c.requires.order c.section.ensures.turns

@@ -19,6 +19,8 @@ returns-clause-turns g c =
       turns = turn.turns;
       says = turn.says;
       holds = turn.holds;
+      checks = turn.checks;
+      cause = turn.cause;
       leaves = turn.leaves fits;
       read = record { long = c.commit-turn.auto.disks; files = turn.disk_files; tells = turn.disk_tells; counts = turn.disk_counts };
     })

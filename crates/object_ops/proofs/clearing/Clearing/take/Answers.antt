@@ -20,7 +20,7 @@ returns-clause-few g c = planned_few c.args.set.now c.args.index (pins_of c.args
 pub returns-clause-trash : goal.returns-clause-trash
 returns-clause-trash g c =
     let take = c.take_trash.ensures in
-    takes_trash g.D.Drive.tells g.D.Drive.files 16 (pins_of c.args.slot.now) (slot_seen g.A.Audit.entries g.A.Audit.count c.args.slot.now)
+    takes_trash g.D.Drive 16 (pins_of c.args.slot.now) (slot_seen g.A.Audit.entries g.A.Audit.count c.args.slot.now)
     (slot_seen g.A.Audit.entries g.A.Audit.count c.take_trash.new.self) c.take_trash.result.answer c.take_trash.result.stub c.args.set.now
     (files_of c.planned.result.items)
     (record { turns = take.turns; stubless = take.stubless; holds = take.holds; leaves = take.leaves })

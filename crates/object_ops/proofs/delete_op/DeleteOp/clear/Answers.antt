@@ -6,7 +6,7 @@ use Rattle.object_ops.proofs.delete_op.DeleteOp.clear.Goals as goal
 pub returns-clause-turns : goal.returns-clause-turns
 returns-clause-turns g c = λ disks.
     let op = c.args.self.now in
-    clear_so op.set op.at op.pick op.now g.D.Drive.tells g.D.Drive.files op.clearing c.take.new.self op.state c.requires.state.0
+    clear_so op.set op.at op.pick op.now g.D.Drive op.clearing c.take.new.self op.state c.requires.state.0
     (slot_seen g.A.Audit.entries g.A.Audit.count c.args.slot.now) (slot_seen g.A.Audit.entries g.A.Audit.count c.take.new.slot) disks c.requires.state.1
     c.requires.next c.take.ensures.trash
 

@@ -18,6 +18,8 @@ returns-clause-turns g c =
       turns = commit.turns;
       says = commit.says;
       holds = commit.holds;
+      checks = commit.checks;
+      cause = commit.cause;
       leaves = commit.leaves fits;
       read = record { long = c.commit-turn.auto.disks; files = commit.disk_files; tells = commit.disk_tells; counts = commit.disk_counts };
     })

@@ -9,7 +9,7 @@ use Rattle.object_ops.proofs.delete_op.DeleteOp.look.Goals as goal
 pub returns-clause-turns : goal.returns-clause-turns
 returns-clause-turns g c =
     let op = c.args.self.now in
-    look_so op.set op.at op.pick op.now g.D.Drive.tells g.D.Drive.files op.clearing op.state c.after_look.result c.as_str.result.now
+    look_so op.set op.at op.pick op.now g.D.Drive op.clearing op.state c.after_look.result c.as_str.result.now
     (slot_seen g.A.Audit.entries g.A.Audit.count c.args.slot.now) (slot_seen g.A.Audit.entries g.A.Audit.count c.look_at_bucket-look.new.slot)
     c.look_at_bucket-look.result (views g.D.Drive c.args.disks.now) (views g.D.Drive c.look_at_bucket-look.new.disks) c.requires.state
     (c.as_str.ensures.value ∙ op.named) c.requires.next c.look_at_bucket-look.ensures.looks c.after_look.ensures

@@ -21,7 +21,9 @@ returns-clause-turns g c =
     turn.answer c.started_of.result turn.stub c.args.disks.now c.begin_read-turn.new.disks c.requires.state c.requires.next
     (record {
       turns = read.turns;
+      says = read.says;
       holds = read.holds;
+      cause = read.cause;
       leaves = read.leaves;
       read = record { long = c.begin_read-turn.auto.disks; files = read.disk_files; tells = read.disk_tells; counts = read.disk_counts };
     })

@@ -23,10 +23,10 @@ pub returns-clause-turns : goal.returns-clause-turns
 returns-clause-turns g c = λ disks long.
     let op = c.args.self.now in
     let turn = c.begin_put-answer in
-    begin_so (ask_of op) op.read g.D.Drive.tells g.D.Drive.files op.clearing op.state c.begun.result c.args.mode turn.result.answer turn.result.stub
+    begin_so (ask_of op) op.read g.D.Drive op.clearing op.state c.begun.result c.args.mode turn.result.answer turn.result.stub
     (slot_seen g.A.Audit.entries g.A.Audit.count c.args.slot.now) (slot_seen g.A.Audit.entries g.A.Audit.count turn.new.self) disks c.requires.state
     (none_read_yet op.long op.read op.state c.args.mode c.requires.state op.counted) c.requires.next
-    (record { turns = turn.ensures.turns; holds = turn.ensures.holds; leaves = turn.ensures.leaves })
+    (record { turns = turn.ensures.turns; spent = turn.ensures.spent.0; holds = turn.ensures.holds; leaves = turn.ensures.leaves })
     (subst (λ r. BeginsTo op.set r op.long op.md5 c.args.mode turn.result.answer c.begun.result) (c.as_str.ensures.value ∙ op.registered) c.begun.ensures)
 
 pub returns-clause-left : goal.returns-clause-left

@@ -45,6 +45,7 @@ returns-in-Commits-clause-turns g c =
       turns = commit.turns;
       says = commit.says;
       holds = commit.holds;
+      checks = commit.checks;
       leaves = commit.leaves;
       read = record { long = turn.auto.disks; files = commit.disk_files; tells = commit.disk_tells; counts = commit.disk_counts };
       cause = commit.cause;
@@ -75,11 +76,11 @@ returns-in-GivesUp-clause-turns g c =
     let after = slot_seen g.A.Audit.entries g.A.Audit.count c.drop_put.new.self in
     let none = no_stub was.numbers c.drop_put.result.answer c.drop_put.result.stub drop.done drop.turns.stub_is in
     let D = g.D.Drive in
-    subst (λ s. TurnsSo D.tells D.files (PutStands op) (PutStandsAt (ask_of out) out.read c.begin.new.self (Telling (Refused c.in-GivesUp.why))) s was after
+    subst (λ s. TurnsSo D (PutStands op) (PutStandsAt (ask_of out) out.read c.begin.new.self (Telling (Refused c.in-GivesUp.why))) s was after
     (views D c.args.disks.now) (views D c.args.disks.now)) (sym none)
-    (end_gives_up op out c.begin.new.self work is may (c.begin.ensures.queue ∙ ap (λ k. k.queue.items) c.moved_out.ensures.clearing) c.moved_out.ensures.same c.moved_out.ensures.read D.tells D.files c.id.result c.in-GivesUp.why c.drop_put.result.answer was after (views D c.args.disks.now)
+    (end_gives_up op out c.begin.new.self work is may (c.begin.ensures.queue ∙ ap (λ k. k.queue.items) c.moved_out.ensures.clearing) c.moved_out.ensures.same c.moved_out.ensures.read D c.id.result c.in-GivesUp.why c.drop_put.result.answer was after (views D c.args.disks.now)
     (all_read op.long op.read op.state work is op.counted may.whole) c.requires.next
-    (subst (Ends out.at out.kind work.mode c.id.result work.stage) c.in-GivesUp.is c.end_of.ensures) (drop_says D.tells D.files was after work.flight.id c.drop_put.result.answer c.drop_put.result.stub none (record { turns = drop.turns; holds = drop.holds; leaves = drop.leaves })))
+    (subst (Ends out.at out.kind work.mode c.id.result work.stage) c.in-GivesUp.is c.end_of.ensures) (drop_says D was after work.flight.id c.drop_put.result.answer c.drop_put.result.stub none (record { turns = drop.turns; holds = drop.holds; leaves = drop.leaves })))
 
 pub returns-in-LacksMemory-clause-turns : goal.returns-in-LacksMemory-clause-turns
 returns-in-LacksMemory-clause-turns g c =
@@ -93,9 +94,9 @@ returns-in-LacksMemory-clause-turns g c =
     let after = slot_seen g.A.Audit.entries g.A.Audit.count c.drop_put-in-LacksMemory.new.self in
     let none = no_stub was.numbers c.drop_put-in-LacksMemory.result.answer c.drop_put-in-LacksMemory.result.stub drop.done drop.turns.stub_is in
     let D = g.D.Drive in
-    subst (λ s. TurnsSo D.tells D.files (PutStands op) (PutStandsAt (ask_of out) out.read c.begin.new.self (Told (Some NoMemory))) s was after
+    subst (λ s. TurnsSo D (PutStands op) (PutStandsAt (ask_of out) out.read c.begin.new.self (Told (Some NoMemory))) s was after
     (views D c.args.disks.now) (views D c.args.disks.now)) (sym none)
-    (end_lacks op out c.begin.new.self work is may (c.begin.ensures.queue ∙ ap (λ k. k.queue.items) c.moved_out.ensures.clearing) c.moved_out.ensures.same c.moved_out.ensures.read D.tells D.files c.drop_put-in-LacksMemory.result.answer was after (views D c.args.disks.now) c.requires.next (drop_says D.tells D.files was after work.flight.id c.drop_put-in-LacksMemory.result.answer c.drop_put-in-LacksMemory.result.stub none (record { turns = drop.turns; holds = drop.holds; leaves = drop.leaves })))
+    (end_lacks op out c.begin.new.self work is may (c.begin.ensures.queue ∙ ap (λ k. k.queue.items) c.moved_out.ensures.clearing) c.moved_out.ensures.same c.moved_out.ensures.read D c.drop_put-in-LacksMemory.result.answer was after (views D c.args.disks.now) c.requires.next (drop_says D was after work.flight.id c.drop_put-in-LacksMemory.result.answer c.drop_put-in-LacksMemory.result.stub none (record { turns = drop.turns; holds = drop.holds; leaves = drop.leaves })))
 
 pub invariant_of-self-clause-counted : goal.invariant_of-self-clause-counted
 invariant_of-self-clause-counted g c =

@@ -1,0 +1,107 @@
+-- Over a log data drives go on, and those that tell keep what is no data.
+use Rattle.std.proofs.Common.{◌≡◌, ◌≤◌, ◌∙◌, ℕ, IsTrue, List, [], ◌∷◌, length, inl, inr, refl, sym, ap, subst, arith}
+use Rattle.std.proofs.lemmas.Bool.{cases_eq, cases_lt}
+use Rattle.std.proofs.lemmas.List.{get_or_past}
+use Rattle.desk_base.specs.Telling.{Effect}
+use Rattle.drive_base.specs.Files.{Files}
+use Rattle.drive_base.specs.View.{AllOnlyRead, DriveView, GoesOn, blank_view, view_at}
+use Rattle.drive_base.specs.declared.drive.Drive.{Ghosts}
+use Rattle.drive_base.specs.declared.plan.SetPlan.{SetPlan}
+use Rattle.receipts.specs.Events.{Event, Seen}
+use Rattle.receipts.specs.Events.Event.{BarredFrom, Called, Fed, Told, Turned}
+use Rattle.op_steps.specs.Claims.{Claim}
+use Rattle.op_steps.specs.Laws.{DrivesKeep, RanKeepsFiles}
+use Rattle.op_steps.specs.Moves.{CallMoves, KeepsOthers}
+use Rattle.op_steps.specs.Steps.{StepMoves}
+use Rattle.op_steps.specs.Store.{Store}
+
+-- files that stay
+same_files : (old new : Files) → new ≡ old → KeepsOthers old new
+same_files old new same = subst (λ (f : Files). KeepsOthers old f) (sym same) (record { kept = λ name other. refl; shown = λ name other. refl; loose = λ name other. refl })
+
+-- a drive that stays
+same_goes : (old new : DriveView) → new ≡ old → GoesOn old new
+same_goes old new same = subst (λ (v : DriveView). GoesOn old v) (sym same) (record { tells = refl; count = omega arith })
+
+same_keeps : (old new : DriveView) → new ≡ old → KeepsOthers old.files new.files
+same_keeps old new same = same_files old.files new.files (ap (λ (v : DriveView). v.files) same)
+
+-- drives that stay
+pub drives_stay : (old new : List DriveView) → new ≡ old → DrivesKeep old new
+drives_stay old new same = record {
+  long = ap (λ (l : List DriveView). length l) same;
+  goes_on = λ k. same_goes (view_at old k) (view_at new k) (ap (λ (l : List DriveView). view_at l k) same);
+  keeps = λ k told. same_keeps (view_at old k) (view_at new k) (ap (λ (l : List DriveView). view_at l k) same);
+}
+
+-- what is kept twice
+keeps_twice : (old mid new : Files) → KeepsOthers old mid → KeepsOthers mid new → KeepsOthers old new
+keeps_twice old mid new first second = record {
+  kept = λ name other. second.kept name other ∙ first.kept name other;
+  shown = λ name other. second.shown name other ∙ first.shown name other;
+  loose = λ name other. second.loose name other ∙ first.loose name other;
+}
+
+goes_twice : (old mid new : DriveView) → GoesOn old mid → GoesOn mid new → GoesOn old new
+goes_twice old mid new first second = record {
+  tells = second.tells ∙ first.tells;
+  count = let a = first.count in let b = second.count in omega (arith, a, b);
+}
+
+-- by drives that go on twice
+pub drives_twice : (old mid new : List DriveView) → DrivesKeep old mid → DrivesKeep mid new → DrivesKeep old new
+drives_twice old mid new first second = record {
+  long = second.long ∙ first.long;
+  goes_on = λ k. goes_twice (view_at old k) (view_at mid k) (view_at new k) (first.goes_on k) (second.goes_on k);
+  keeps = λ k told. keeps_twice (view_at old k).files (view_at mid k).files (view_at new k).files (first.keeps k told)
+      (second.keeps k (subst (λ b. IsTrue b) (sym (first.goes_on k).tells) told));
+}
+
+-- behind the last drive there is none before and after
+past_same : (old new : List DriveView) (k : ℕ) → length new ≡ length old → length old ≤ k → view_at new k ≡ view_at old k
+past_same old new k long past = get_or_past new k blank_view (omega (arith, long, past)) ∙ sym (get_or_past old k blank_view past)
+
+-- drives that were only read
+drives_read : (old new : List DriveView) → AllOnlyRead old new → DrivesKeep old new
+drives_read old new read = record {
+  long = read.long;
+  goes_on = λ k. elim (cases_lt k (length old)) [
+    | inl inside ↦ (read.each k inside).goes_on
+    | inr past ↦ same_goes (view_at old k) (view_at new k) (past_same old new k read.long past)
+  ];
+  keeps = λ k told. elim (cases_lt k (length old)) [
+    | inl inside ↦ same_files (view_at old k).files (view_at new k).files ((read.each k inside).files told)
+    | inr past ↦ same_keeps (view_at old k) (view_at new k) (past_same old new k read.long past)
+  ];
+}
+
+-- drives of which one was called
+drives_called : (set : SetPlan) (j : ℕ) (seen : Seen) (claim later : Claim) (old new : List DriveView) → CallMoves set j seen claim later old new → DrivesKeep old new
+drives_called set j seen claim later old new x = record {
+  long = x.long;
+  goes_on = λ k. elim (cases_eq k j) [
+    | inl own ↦ subst (λ i. GoesOn (view_at old i) (view_at new i)) (sym own) x.goes_on
+    | inr other ↦ same_goes (view_at old k) (view_at new k) (x.others k other)
+  ];
+  keeps = λ k told. elim (cases_eq k j) [
+    | inl own ↦ subst (λ i. KeepsOthers (view_at old i).files (view_at new i).files) (sym own)
+        (x.keeps (subst (λ i. IsTrue (view_at old i).tells) own told))
+    | inr other ↦ same_keeps (view_at old k) (view_at new k) (x.others k other)
+  ];
+}
+
+module _ {D T : Type 0} (ghosts : Ghosts D) (takes breaks : Effect T) where
+  -- one step
+  step_files : (set : SetPlan) (event : Event) (old new : Store D T) → StepMoves ghosts takes breaks set event old new → DrivesKeep old.disks new.disks
+  step_files set (Turned k made shown) old new x =
+      subst (λ (s : Store D T). DrivesKeep old.disks s.disks) (sym x.leaves) (drives_read old.disks x.disks x.moves.read)
+  step_files set (BarredFrom k why) old new x = drives_stay old.disks new.disks (ap (λ (s : Store D T). s.disks) x.leaves)
+  step_files set (Called k seen) old new x = drives_called set k seen old.claim new.claim old.disks new.disks x.moves
+  step_files set (Fed bytes cut) old new x = drives_stay old.disks new.disks (ap (λ (s : Store D T). s.disks) x.leaves)
+  step_files set (Told telling cut) old new x = drives_stay old.disks new.disks (ap (λ (s : Store D T). s.disks) x.leaves)
+
+  -- and a log
+  pub files_keep : RanKeepsFiles ghosts takes breaks
+  files_keep set [] old new same = drives_stay old.disks new.disks (ap (λ (s : Store D T). s.disks) same)
+  files_keep set (event ∷ log) old new (mid, moves, ran) =
+      drives_twice old.disks mid.disks new.disks (step_files set event old mid moves) (files_keep set log mid new ran)

@@ -1,0 +1,213 @@
+-- A claim to nothing comes and goes, one that is left stays, and a whole log, or a whole call, keeps the data of every slot.
+use Rattle.std.proofs.Common.{◌≡◌, ◌⊎◌, ◌<◌, ◌∙◌, ℕ, Bool, true, false, List, [], ◌∷◌, ◌++◌, Contains, filter, flat_map, append-nil, cond, inl, inr, refl, sym, ap, subst, subst₂, ap₂, zero, suc, arith, length, Option, Some, None, option_to_list, option_map, nat_eq}
+use Rattle.std.proofs.lemmas.Grind.{flat_map-append}
+use Rattle.std.proofs.lemmas.Option.{none-some}
+use Rattle.std.proofs.lemmas.List.Elements.{Contains-append_cases, Contains-append_left, filter-append}
+use Rattle.desk_base.specs.Telling.{Effect}
+use Rattle.drive_base.specs.declared.drive.Drive.{Ghosts}
+use Rattle.drive_base.specs.View.{DriveView}
+use Rattle.drive_base.specs.declared.plan.SetPlan.{SetPlan}
+use Rattle.receipts.specs.Events.{Event, Log}
+use Rattle.receipts.specs.Events.Event.{BarredFrom}
+use Rattle.slot_data.specs.Disks.{Disks}
+use Rattle.slot_data.specs.Holding.{Hands, Holding, Known, Pinned}
+use Rattle.slot_data.specs.Standing.{DataStands}
+use Rattle.slot_core.specs.Views.{last_of}
+use Rattle.slot_history.specs.Standing.{Flying, Records}
+use Rattle.slot_history.specs.State.{State}
+use Rattle.stamp_id.specs.declared.version.VersionId.{VersionId}
+use Rattle.version_list.specs.State.{AreDistinct}
+use Rattle.op_steps.specs.Claims.{AllApart, Claim, HoldsAt, IsMet, claims_at, disks_of, flights_in, hands_of, is_at, no_claim, pins_in}
+use Rattle.op_steps.specs.Laws.{AllHold, EachStepKeepsData, HoldsLater, RanKeepsHistory}
+use Rattle.op_steps.specs.Leading.{Standing}
+use Rattle.op_steps.specs.Steps.{Ran}
+use Rattle.op_steps.specs.Store.{AreInOrder, SlotSeen, Store}
+use Rattle.op_steps.specs.Words.{LetsGo}
+use Rattle.op_steps.specs.Holding.{CallKeepsData, StoreHolds}
+use Rattle.op_steps.proofs.LeadingLemmas.{all_lead_join, leads_stay}
+
+-- what it adds of a part in which it has nothing
+adds_none : {X : Type 0} (f : Claim → List X) (b : Bool) (c : Claim) → f c ≡ [] → flat_map f (cond b (c ∷ []) []) ≡ []
+adds_none f true c e = ap (λ l. l ++ []) e
+adds_none f false c e = refl
+
+-- a claim alone, of the slot or of another
+alone : (index : ℕ) (c : Claim) → claims_at index (c ∷ []) ≡ cond (is_at index c) (c ∷ []) []
+alone index c = refl
+
+-- a part of claims to which one came that has nothing in it
+part_same : {X : Type 0} (f : Claim → List X) (index : ℕ) (claims : List Claim) (c : Claim) → f c ≡ []
+    → flat_map f (claims_at index (claims ++ c ∷ [])) ≡ flat_map f (claims_at index claims)
+part_same f index claims c e =
+    ap (λ l. flat_map f l) (filter-append (is_at index) claims (c ∷ []))
+    ∙ (flat_map-append f (claims_at index claims) (claims_at index (c ∷ []))
+    ∙ (ap (λ l. flat_map f (claims_at index claims) ++ l) (adds_none f (is_at index c) c e)
+    ∙ append-nil (flat_map f (claims_at index claims))))
+
+abbrev hands_with : List VersionId → List Known → Hands
+hands_with taken known = record { taken = taken; known = known }
+
+hands_same : (index : ℕ) (claims : List Claim) (slot : ℕ) → hands_of (claims_at index (claims ++ no_claim slot ∷ [])) ≡ hands_of (claims_at index claims)
+hands_same index claims slot = ap₂ hands_with
+    (part_same (λ (c : Claim). c.taken) index claims (no_claim slot) refl) (part_same (λ (c : Claim). c.known) index claims (no_claim slot) refl)
+
+flights_same : (index : ℕ) (claims : List Claim) (slot : ℕ) → flights_in (claims_at index (claims ++ no_claim slot ∷ [])) ≡ flights_in (claims_at index claims)
+flights_same index claims slot = part_same (λ (c : Claim). option_to_list (option_map (λ (f : Flying). f.id) c.flight)) index claims (no_claim slot) refl
+
+pins_same : (index : ℕ) (claims : List Claim) (slot : ℕ) → pins_in (claims_at index (claims ++ no_claim slot ∷ [])) ≡ pins_in (claims_at index claims)
+pins_same index claims slot = part_same (λ (c : Claim). option_to_list (option_map (λ (p : Pinned). p.ticket) c.pin)) index claims (no_claim slot) refl
+
+-- a claim to nothing is met
+nothing_met : (set : SetPlan) (holding : Holding) (unseen : Disks) (disks : List DriveView) (slot : ℕ) → IsMet set holding unseen disks (no_claim slot)
+nothing_met set holding unseen disks slot = record {
+  flight = λ f e. absurd (none-some _ e);
+  pin = λ p e. absurd (none-some _ e);
+  staged = λ s e. absurd (none-some _ e);
+  works = λ s e. absurd (none-some _ e);
+  known = λ x there. absurd (omega (arith, there.1));
+  unwritten = λ f k e inside out. absurd (none-some _ e);
+}
+
+-- the one claim of a part that has it is that one
+is_one : (b : Bool) (c d : Claim) → Contains (cond b (c ∷ []) []) d → d ≡ c
+is_one true c d (zero, inside, e) = sym e
+is_one true c d (suc k, inside, e) = absurd (omega (arith, inside))
+is_one false c d (k, inside, e) = absurd (omega (arith, inside))
+
+-- a claim of a slot is one that was there, or the one that came
+member : (index : ℕ) (claims : List Claim) (c d : Claim) → Contains (claims_at index (claims ++ c ∷ [])) d → Contains (claims_at index claims) d ⊎ (d ≡ c)
+member index claims c d there =
+    let apart : Contains (claims_at index claims ++ claims_at index (c ∷ [])) d =
+    subst (λ l. Contains l d) (filter-append (is_at index) claims (c ∷ [])) there in
+    elim (Contains-append_cases (claims_at index claims) (claims_at index (c ∷ [])) d apart) [
+      | inl old ↦ inl old
+      | inr new ↦ inr (is_one (is_at index c) c d new)
+    ]
+
+-- one that was there is there
+member_of : (index : ℕ) (claims : List Claim) (c d : Claim) → Contains (claims_at index claims) d → Contains (claims_at index (claims ++ c ∷ [])) d
+member_of index claims c d there = subst (λ l. Contains l d) (sym (filter-append (is_at index) claims (c ∷ [])))
+    (Contains-append_left (claims_at index claims) (claims_at index (c ∷ [])) d there)
+
+module _ (set : SetPlan) (index last : ℕ) (holding : Holding) (unseen : Disks) (disks : List DriveView) (claims : List Claim) (slot : ℕ) (records : Records) (state : State) where
+  -- a claim to nothing comes
+  holds_comes : HoldsAt set index last holding unseen disks claims records state → HoldsAt set index last holding unseen disks (claims ++ no_claim slot ∷ []) records state
+  holds_comes x = record {
+    tell = x.tell;
+    stands = subst (λ h. DataStands set index last records state holding (disks_of unseen set.out disks) h) (sym (hands_same index claims slot)) x.stands;
+    loose = x.loose;
+    met = λ c there. elim (member index claims (no_claim slot) c there) [
+      | inl old ↦ x.met c old
+      | inr new ↦ subst (λ d. IsMet set holding unseen disks d) (sym new) (nothing_met set holding unseen disks slot)
+    ];
+    apart = record {
+      flights = subst (λ (l : List VersionId). AreDistinct l) (sym (flights_same index claims slot)) x.apart.flights;
+      pins = subst (λ (l : List ℕ). AreDistinct l) (sym (pins_same index claims slot)) x.apart.pins;
+    };
+    flights_are = λ f there. let c = x.flights_are f there in (c.0, member_of index claims (no_claim slot) c.0 c.1, c.2);
+    pins_are = λ p there. let c = x.pins_are p there in (c.0, member_of index claims (no_claim slot) c.0 c.1, c.2);
+  }
+
+  -- and goes
+  holds_goes : HoldsAt set index last holding unseen disks (claims ++ no_claim slot ∷ []) records state → HoldsAt set index last holding unseen disks claims records state
+  holds_goes x = record {
+    tell = x.tell;
+    stands = subst (λ h. DataStands set index last records state holding (disks_of unseen set.out disks) h) (hands_same index claims slot) x.stands;
+    loose = x.loose;
+    met = λ c there. x.met c (member_of index claims (no_claim slot) c there);
+    apart = record {
+      flights = subst (λ (l : List VersionId). AreDistinct l) (flights_same index claims slot) x.apart.flights;
+      pins = subst (λ (l : List ℕ). AreDistinct l) (pins_same index claims slot) x.apart.pins;
+    };
+    flights_are = λ f there. let c = x.flights_are f there in elim (member index claims (no_claim slot) c.0 c.1) [
+      | inl old ↦ (c.0, old, c.2)
+      | inr new ↦ absurd (none-some f (subst (λ (d : Claim). d.flight ≡ Some f) new c.2))
+    ];
+    pins_are = λ p there. let c = x.pins_are p there in elim (member index claims (no_claim slot) c.0 c.1) [
+      | inl old ↦ (c.0, old, c.2)
+      | inr new ↦ absurd (none-some p (subst (λ (d : Claim). d.pin ≡ Some p) new c.2))
+    ];
+  }
+
+module _ {D T : Type 0} (ghosts : Ghosts D) (takes breaks : Effect T) where
+  -- of a whole store: a claim to nothing may come to the claims that are there
+  claim_comes : (unseen : Disks) (store : Store D T) (claims : List Claim) (at : ℕ → Standing) → store.claim ≡ no_claim store.claim.slot
+      → StoreHolds ghosts.tells ghosts.files unseen store.slots store.disks claims at → AllHold ghosts.tells ghosts.files unseen store claims [] at
+  claim_comes unseen store claims at none holds k was is =
+      let x = holds k was is in
+      record {
+        stands = x.stands;
+        holds = subst (λ (c : Claim). HoldsAt was.numbers.set was.numbers.index (last_of was.numbers) was.holding unseen store.disks (claims ++ c ∷ [])
+            (at k).records (at k).state) (sym none)
+            (holds_comes was.numbers.set was.numbers.index (last_of was.numbers) was.holding unseen store.disks claims store.claim.slot (at k).records (at k).state x.holds);
+      }
+
+  -- it may go
+  claim_goes : (unseen : Disks) (store : Store D T) (claims : List Claim) (at : ℕ → Standing) → store.claim ≡ no_claim store.claim.slot
+      → AllHold ghosts.tells ghosts.files unseen store claims [] at → StoreHolds ghosts.tells ghosts.files unseen store.slots store.disks claims at
+  claim_goes unseen store claims at none holds k was is =
+      let x = holds k was is in
+      record {
+        stands = x.stands;
+        holds = holds_goes was.numbers.set was.numbers.index (last_of was.numbers) was.holding unseen store.disks claims store.claim.slot (at k).records (at k).state
+            (subst (λ (c : Claim). HoldsAt was.numbers.set was.numbers.index (last_of was.numbers) was.holding unseen store.disks (claims ++ c ∷ [])
+            (at k).records (at k).state) none x.holds);
+      }
+
+  -- and any may stay, as that of a call that has ended
+  claim_stays : (unseen : Disks) (store : Store D T) (claims : List Claim) (at : ℕ → Standing) → AllHold ghosts.tells ghosts.files unseen store claims [] at
+      → StoreHolds ghosts.tells ghosts.files unseen store.slots store.disks (claims ++ store.claim ∷ []) at
+  claim_stays unseen store claims at holds k was is = let x = holds k was is in record { stands = x.stands; holds = x.holds }
+
+  -- a whole log keeps the data of every slot, and the op stays at its slot
+  log_keeps : EachStepKeepsData ghosts takes breaks → RanKeepsHistory ghosts takes breaks → (set : SetPlan) (log : Log) (old new : Store D T) (unseen : Disks)
+      (front rest : List Claim) (at : ℕ → Standing) → AreInOrder set old.slots old.disks → old.claim.slot < 64 → Ran ghosts takes breaks set log old new
+      → AllHold ghosts.tells ghosts.files unseen old front rest at
+      → (new.claim.slot ≡ old.claim.slot) × HoldsLater ghosts.tells ghosts.files set log unseen new front rest at
+  log_keeps step order set [] old new unseen front rest at in_order inside same holds = (
+    ap (λ (s : Store D T). s.claim.slot) same,
+    record {
+      later = at;
+      lead = λ k. leads_stay set k (at k);
+      holds = subst (λ (s : Store D T). AllHold ghosts.tells ghosts.files unseen s front rest at) (sym same) holds;
+    },
+  )
+  log_keeps step order set (event ∷ log) old new unseen front rest at in_order inside (mid, moves, ran) holds =
+      let first = step set event old mid unseen front rest at in_order inside moves holds in
+      let ordered = (order set (event ∷ []) old mid in_order (mid, moves, refl)).0 in
+      let within : mid.claim.slot < 64 = subst (λ (n : ℕ). n < 64) (sym first.0) inside in
+      let second = log_keeps step order set log mid new unseen front rest first.1.later ordered within ran first.1.holds in (
+        second.0 ∙ first.0,
+        record {
+          later = second.1.later;
+          lead = all_lead_join set (event ∷ []) log at first.1.later second.1.later first.1.lead second.1.lead;
+          holds = second.1.holds;
+        },
+      )
+
+  -- so does a whole call, with what it leaves in hand
+  pub call_keeps : EachStepKeepsData ghosts takes breaks → RanKeepsHistory ghosts takes breaks → CallKeepsData ghosts takes breaks
+  call_keeps step order set log old new unseen claims at in_order inside none ran lets holds =
+      let came = claim_comes unseen old claims at none holds in
+      let after = (log_keeps step order set log old new unseen claims [] at in_order inside ran came).1 in
+      elim lets [
+        | inl nothing ↦ record {
+          left = [];
+          are_left = λ c there. absurd (omega (arith, there.1));
+          later = after.later;
+          lead = after.lead;
+          holds = subst (λ (l : List Claim). StoreHolds ghosts.tells ghosts.files unseen new.slots new.disks l after.later) (sym (append-nil claims))
+              (claim_goes unseen new claims after.later nothing after.holds);
+        }
+        | inr barred ↦ record {
+          left = new.claim ∷ [];
+          are_left = λ c there.
+              let same = is_one true new.claim c there in (
+                subst (λ (d : Claim). d.taken ≡ []) (sym same) barred.0,
+                (barred.1.0, subst (λ (d : Claim). Contains log (BarredFrom d.slot barred.1.0)) (sym same) barred.1.1),
+              );
+          later = after.later;
+          lead = after.lead;
+          holds = claim_stays unseen new claims after.later after.holds;
+        }
+      ]

@@ -1,0 +1,88 @@
+-- Entries run with what their sections showed, those of one log after those of another; and so slots are led by them.
+use Rattle.std.proofs.Common.{◌≡◌, ◌∙◌, ℕ, List, [], ◌∷◌, ◌++◌, Option, Some, None, inl, inr, refl, sym, subst}
+use Rattle.std.proofs.lemmas.Grind.{flat_map-append}
+use Rattle.audit_trail.specs.declared.entry.Deed.{Deed}
+use Rattle.audit_trail.specs.declared.entry.Entry.{Entry}
+use Rattle.drive_base.specs.View.{DriveView}
+use Rattle.drive_base.specs.declared.drive.Drive.{Ghosts}
+use Rattle.drive_base.specs.declared.plan.SetPlan.{SetPlan}
+use Rattle.slot_history.specs.Sections.{OwnStep}
+use Rattle.slot_history.specs.Standing.{Records}
+use Rattle.slot_history.specs.State.{State}
+use Rattle.slot_history.specs.Waiting.{Lates}
+use Rattle.slot_history.proofs.RunLemmas.{runs_join}
+use Rattle.slot_core.specs.Turning.{EntryMoves}
+use Rattle.receipts.specs.Events.{Log, Note, Shown}
+use Rattle.op_steps.specs.Claims.{Claim}
+use Rattle.op_steps.specs.Leading.{AllLead, Entered, LeadsTo, RunsShowing, ShowingJoins, ShowingParts, ShowingRuns, Standing, entered_at, entered_by, entered_in}
+use Rattle.op_steps.specs.Moves.{ShowsBy, TurnLeaves}
+use Rattle.op_steps.specs.Notes.{entry_in}
+use Rattle.op_steps.specs.Store.{SlotSeen}
+
+-- late steps join
+lates_join : (slot : ℕ) (old mid new : State) → Lates old mid → Lates mid new → Lates old new
+lates_join slot old mid new first second = runs_join slot [] [] old mid new first second
+
+-- late steps before a run are part of it
+lates_first : (slot : ℕ) (run : List Entered) (old mid new : State) → Lates old mid → RunsShowing slot run mid new → RunsShowing slot run old new
+lates_first slot [] old mid new first runs = lates_join slot old mid new first runs
+lates_first slot (e ∷ run) old mid new first (before, after, lates, moves, shows, rest) =
+    (before, after, lates_join slot old mid before first lates, moves, shows, rest)
+
+-- runs join
+pub showing_joins : ShowingJoins
+showing_joins slot [] second old mid new first runs = lates_first slot second old mid new first runs
+showing_joins slot (e ∷ run) second old mid new (before, after, lates, moves, shows, rest) runs =
+    (before, after, lates, moves, shows, showing_joins slot run second after mid new rest runs)
+
+-- and part
+pub showing_parts : ShowingParts
+showing_parts slot [] e second old new runs = runs
+showing_parts slot (x ∷ first) e second old new (before, after, lates, moves, shows, rest) =
+    let part = showing_parts slot first e second after new rest in
+    (part.0, part.1, (before, after, lates, moves, shows, part.2), part.3, part.4, part.5)
+
+-- their entries alone run
+pub showing_runs : ShowingRuns
+showing_runs slot [] old new lates = lates
+showing_runs slot (e ∷ run) old new (before, after, lates, moves, shows, rest) = (before, after, lates, moves, showing_runs slot run after new rest)
+
+-- a refused change that took effect is a late step after its deed
+own_lates : (deed : Deed) (after new : State) → OwnStep deed after new → Lates after new
+own_lates deed after new (inl stays) = ([], stays)
+own_lates deed after new (inr own) = (own.0 ∷ [], (new, own.2, refl))
+
+-- what the entry of a section moves runs by it, with what the section showed
+entry_shows : (slot : ℕ) (entry : Option Entry) (shown : Shown) (records after : Records) (state moved : State)
+    → EntryMoves slot entry (ShowsBy entry shown) records state after moved → RunsShowing slot (entered_by entry shown) state moved
+entry_shows slot None shown records after state moved x = ([], x.1)
+entry_shows slot (Some entry) shown records after state moved x =
+    (x.0.before, x.0.after, (x.0.lates, x.0.late_steps), x.0.moves, x.1, own_lates entry.deed x.0.after moved x.0.own)
+
+-- no entry leads a slot on
+pub leads_stay : (set : SetPlan) (slot : ℕ) (at : Standing) → LeadsTo set slot [] at at
+leads_stay set slot at = record { stay = λ name k out. refl; runs = ([], refl) }
+
+-- a slot is led by some entries and then by others
+pub leads_join : (set : SetPlan) (slot : ℕ) (one two : List Entered) (was mid now : Standing) → LeadsTo set slot one was mid → LeadsTo set slot two mid now
+    → LeadsTo set slot (one ++ two) was now
+leads_join set slot one two was mid now first second = record {
+  stay = λ name k out. second.stay name k out ∙ first.stay name k out;
+  runs = showing_joins slot one two was.state mid.state now.state first.runs second.runs;
+}
+
+-- so it is of each slot, over one log and then another
+pub all_lead_join : (set : SetPlan) (one two : Log) (at mid later : ℕ → Standing) → AllLead set one at mid → AllLead set two mid later → AllLead set (one ++ two) at later
+all_lead_join set one two at mid later first second slot =
+    subst (λ (run : List Entered). LeadsTo set slot run (at slot) (later slot)) (sym (flat_map-append (entered_in slot) one two))
+    (leads_join set slot (entered_at slot one) (entered_at slot two) (at slot) (mid slot) (later slot) (first slot) (second slot))
+
+module _ {D : Type 0} (ghosts : Ghosts D) where
+  -- what a section leaves
+  pub leaves_lead : (was now : SlotSeen D) (note : Option Note) (shown : Shown) (claim later : Claim) (disks_old disks_new : List DriveView) (at : Standing)
+      → (x : TurnLeaves ghosts was now note shown claim later disks_old disks_new at.records at.state)
+      → LeadsTo was.numbers.set was.numbers.index (entered_by (entry_in note) shown) at (record { records = x.records_after; state = x.state_after })
+  leaves_lead was now note shown claim later disks_old disks_new at x = record {
+    stay = x.stay;
+    runs = entry_shows was.numbers.index (entry_in note) shown at.records x.records_after at.state x.state_after x.moves;
+  }

@@ -1,0 +1,16 @@
+use Rattle.op_steps.proofs.FileLemmas.{files_keep}
+use Rattle.op_steps.proofs.HoldingLemmas.{call_keeps}
+use Rattle.op_steps.proofs.StepDataLemmas.{step_data}
+use Rattle.op_steps.proofs.StepLemmas.{history_runs}
+use Rattle.op_steps.specs.Store.{any_effect}
+use Rattle.op_steps.proofs.laws.call_law.Goals as goal
+
+pub returns-clause-history : goal.returns-clause-history
+returns-clause-history g c = history_runs g.D.Drive any_effect any_effect
+
+pub returns-clause-files : goal.returns-clause-files
+returns-clause-files g c = files_keep g.D.Drive any_effect any_effect
+
+pub returns-clause-data : goal.returns-clause-data
+returns-clause-data g c = call_keeps g.D.Drive any_effect any_effect (step_data g.D.Drive any_effect any_effect)
+    (history_runs g.D.Drive any_effect any_effect)

@@ -1,0 +1,78 @@
+-- Where the entries of a log lead the slots of a store, with what their sections showed.
+use Rattle.std.specs.Prelude.{◌≡◌, ℕ, List, [], ◌∷◌, ◌++◌, if◌then◌else◌, map, nat_eq, Option, Some, None}
+use Rattle.std.specs.Int.{IsBitSet}
+use Rattle.std.specs.List.{flat_map}
+use Rattle.audit_trail.specs.declared.entry.Entry.{Entry}
+use Rattle.drive_base.specs.declared.plan.SetPlan.{SetPlan}
+use Rattle.vote_core.specs.Lane.{lane_at}
+use Rattle.slot_history.specs.Moving.{Moves, Runs}
+use Rattle.slot_history.specs.Standing.{Records}
+use Rattle.slot_history.specs.State.{State}
+use Rattle.slot_history.specs.Waiting.{Lates}
+use Rattle.receipts.specs.Events.{Event, Log, Shown}
+use Rattle.receipts.specs.Events.Event.{BarredFrom, Called, Fed, Told, Turned}
+use Rattle.op_steps.specs.Moves.{ShowsBy}
+use Rattle.op_steps.specs.Notes.{entry_in}
+
+-- an entry of a slot, with what its section showed
+pub record Entered : Type 0 where
+  pub entry : Entry
+  pub shown : Shown
+
+-- that of a section, if it wrote one
+abbrev pub entered_by : Option Entry → Shown → List Entered
+entered_by None shown = []
+entered_by (Some entry) shown = record { entry = entry; shown = shown } ∷ []
+
+-- those of a slot in a log
+abbrev pub entered_in : ℕ → Event → List Entered
+entered_in slot (Turned k note shown) = if nat_eq k slot then entered_by (entry_in note) shown else []
+entered_in slot (BarredFrom k why) = []
+entered_in slot (Called k seen) = []
+entered_in slot (Fed bytes cut) = []
+entered_in slot (Told telling cut) = []
+
+abbrev pub entered_at : ℕ → Log → List Entered
+entered_at slot log = flat_map (entered_in slot) log
+
+-- the entries alone
+abbrev pub entries_of : List Entered → List Entry
+entries_of run = map (λ (e : Entered). e.entry) run
+
+abbrev pub entries_at : ℕ → Log → List Entry
+entries_at slot log = entries_of (entered_at slot log)
+
+-- entries of a slot lead from one state to another as they do in a history (`Runs`), and what each section showed was so when its deed took place
+abbrev pub RunsShowing : ℕ → List Entered → State → State → Type 0
+RunsShowing slot [] old new = Lates old new
+RunsShowing slot (e ∷ more) old new = (before after : State) × Lates old before × Moves slot e.entry before after
+    × ShowsBy (Some e.entry) e.shown before after × RunsShowing slot more after new
+
+-- what the lanes of a slot stand for: the records that they keep, and a state
+pub record Standing : Type 0 where
+  pub records : Records
+  pub state : State
+
+-- a slot is led by these entries from what its lanes stood for to what they stand for now, with the same records in the place of lanes that are out
+pub record LeadsTo (set : SetPlan) (slot : ℕ) (run : List Entered) (was now : Standing) : Type 0 where
+  pub stay : (name : List ℕ) (k : ℕ) → IsBitSet set.out k → lane_at (now.records name) k ≡ lane_at (was.records name) k
+  pub runs : RunsShowing slot run was.state now.state
+
+-- each slot is led so by its entries in a log
+abbrev pub AllLead : SetPlan → Log → (ℕ → Standing) → (ℕ → Standing) → Type 0
+AllLead set log at later = (slot : ℕ) → LeadsTo set slot (entered_at slot log) (at slot) (later slot)
+
+-- where entries run with what their sections showed, they run
+abbrev pub ShowingRuns : Type 0
+ShowingRuns = (slot : ℕ) (run : List Entered) (old new : State) → RunsShowing slot run old new → Runs slot (entries_of run) old new
+
+-- such runs join
+abbrev pub ShowingJoins : Type 0
+ShowingJoins = (slot : ℕ) (first second : List Entered) (old mid new : State) → RunsShowing slot first old mid → RunsShowing slot second mid new
+    → RunsShowing slot (first ++ second) old new
+
+-- and each section of one showed what was so between those before it and those after it
+abbrev pub ShowingParts : Type 0
+ShowingParts = (slot : ℕ) (first : List Entered) (e : Entered) (second : List Entered) (old new : State) → RunsShowing slot (first ++ e ∷ second) old new
+    → (before after : State) × RunsShowing slot first old before × Moves slot e.entry before after × ShowsBy (Some e.entry) e.shown before after
+    × RunsShowing slot second after new
