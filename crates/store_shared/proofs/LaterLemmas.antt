@@ -1,0 +1,70 @@
+-- A call that is not served yet is told so.
+use Rattle.std.proofs.Common.{◌<◌, ℕ, List, [], ◌∷◌, Option, ap, inl, refl, arith}
+use Rattle.std.specs.Prelude.{Result, Ok, Err}
+use Rattle.call_types.specs.declared.feed.Cut.{Cut}
+use Rattle.call_types.specs.declared.refusal.Refusal.TheVariants.{NotImplemented}
+use Rattle.call_types.specs.declared.reply.Reply.TheVariants.{Refused}
+use Rattle.desk_base.specs.Answering.{Task}
+use Rattle.desk_base.specs.Telling.{Effect, Telling}
+use Rattle.desk_base.specs.Telling.Telling.{Head as TheHead}
+use Rattle.desk_base.specs.declared.call.Call.{Call}
+use Rattle.desk_base.specs.declared.call.Call.TheVariants.{ListBuckets, CreateBucket, HeadBucket, GetVersioning, PutVersioning, Put, Get, Head, Delete, List2, ListVersions, Create, Part, Complete, Abort}
+use Rattle.drive_base.specs.View.{DriveView}
+use Rattle.drive_base.specs.declared.drive.Drive.{Ghosts}
+use Rattle.drive_base.specs.declared.plan.SetPlan.{SetPlan}
+use Rattle.receipts.specs.Events.Event.{Told}
+use Rattle.receipts.specs.Owes.{OwesCall}
+use Rattle.op_steps.specs.Claims.{no_claim}
+use Rattle.op_steps.specs.Notes.{notes_by}
+use Rattle.op_steps.specs.Ready.{IsReady}
+use Rattle.op_steps.specs.Store.{FeedSeen, SlotSeen, TellerSeen, store_of}
+use Rattle.op_steps.proofs.TellLemmas.{told_pays}
+use Rattle.store_shared.specs.Answers.{NotesAre, cut_by}
+use Rattle.store_shared.specs.Later.{HasNoStub, IsLater, TellsLater}
+use Rattle.store_shared.specs.declared.receipt.Receipt.{Receipt}
+use Rattle.store_shared.proofs.ServeLemmas.{IsDone}
+
+-- that is what is owed before anything was done
+later_owed : (set : SetPlan) (call : Call) (now : ℕ) → IsLater call → OwesCall set call now (Refused NotImplemented) []
+later_owed set ListBuckets now later = absurd later
+later_owed set (CreateBucket bucket) now later = absurd later
+later_owed set (HeadBucket bucket) now later = absurd later
+later_owed set (GetVersioning bucket) now later = absurd later
+later_owed set (PutVersioning bucket long) now later = absurd later
+later_owed set (Put at content md5 long) now later = absurd later
+later_owed set (Get at pick ask) now later = absurd later
+later_owed set (Head at pick) now later = absurd later
+later_owed set (Delete at pick) now later = absurd later
+later_owed set (List2 bucket page) now later = (refl, refl)
+later_owed set (ListVersions bucket page) now later = (refl, refl)
+later_owed set (Create at content) now later = (refl, refl)
+later_owed set (Part at upload number md5 long) now later = (refl, refl)
+later_owed set (Complete at upload long) now later = (refl, refl)
+later_owed set (Abort at upload) now later = (refl, refl)
+
+is_ready : (set : SetPlan) (task : Task) → IsLater task.call → IsReady set task (Refused NotImplemented) []
+is_ready set task later = record {
+  untold = λ k d l. let below : k < 0 = l in absurd (omega arith);
+  uncut = refl;
+  owed = later_owed set task.call task.now later;
+}
+
+-- a receipt without stubs has the notes of a log without sections
+no_notes : (result : Result Receipt Cut) (telling : Telling) (cut : Option Cut) → HasNoStub result → NotesAre result (Told telling cut ∷ [])
+no_notes (Ok receipt) telling cut none = ap notes_by none
+no_notes (Err why) telling cut none = ([], refl)
+
+-- a call that is told so is done, and nothing of the store was touched
+pub later_done : {D T : Type 0} (ghosts : Ghosts D) (takes breaks : Effect T) (set : SetPlan) (task : Task) (result : Result Receipt Cut)
+    (slots : List (SlotSeen D)) (disks : List DriveView) (feed : FeedSeen) (old new : TellerSeen T) → IsLater task.call → TellsLater takes breaks result old new
+    → IsDone ghosts takes breaks set task result (λ claim. store_of slots disks claim feed old) (λ claim. store_of slots disks claim feed new)
+later_done ghosts takes breaks set task result slots disks feed old new later (moves, none) = record {
+  slot = 0;
+  in_store = omega arith;
+  left = no_claim 0;
+  log = Told (TheHead (Refused NotImplemented)) (cut_by result) ∷ [];
+  lets_go = inl refl;
+  pays = told_pays takes breaks set task (Refused NotImplemented) [] (cut_by result) old new refl (λ more. refl) (is_ready set task later) moves;
+  ran = (store_of slots disks (no_claim 0) feed new, record { moves = moves; leaves = refl }, refl);
+  notes = no_notes result (TheHead (Refused NotImplemented)) (cut_by result) none;
+}

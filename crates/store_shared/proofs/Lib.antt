@@ -1,0 +1,17 @@
+pub mod HolderClosingLemmas
+pub mod HolderDataLemmas
+pub mod HolderFileLemmas
+pub mod HolderFreshLemmas
+pub mod HolderKeptLemmas
+pub mod HolderLemmas
+pub mod HolderLostLemmas
+pub mod HolderOutLemmas
+pub mod LaterLemmas
+pub mod LawLemmas
+pub mod OpeningLemmas
+pub mod OrderLemmas
+pub mod ServeLemmas
+pub mod TermLemmas
+pub mod UnitLemmas
+pub mod WireLemmas
+pub mod WireTellLemmas

@@ -1,0 +1,9 @@
+pub mod Answers
+pub mod Holders
+pub mod Later
+pub mod Laws
+pub mod Opening
+pub mod OpeningAll
+pub mod Paging
+pub mod Passes
+pub mod Serving

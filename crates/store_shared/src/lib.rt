@@ -1,0 +1,36 @@
+//! The desk of a store: what serves calls over its slots and data drives.
+//!
+//! A [`PlainPass`] has the 64 slots and the data drives of a store for itself, so its calls are served one after another. [`PlainDesk`] is its desk: each call
+//! is served by the one loop of `op_steps` over the call's op, and gives a [`Receipt`] with the stubs of its sections. A call that is not served yet is told
+//! so. What the desk answers is said in `specs/Answers.antt`: a log of the call's steps leads from the pass before to the pass after, and this log pays what
+//! the call owes. That the desk tells what a desk must, and that a call which is cut has its cause, follows from the log. By its laws the log is that of one
+//! call on the store of the pass, so that the laws of calls of `op_steps` hold of it.
+//!
+//! The crate stands on `op_steps` for the loop, on `receipts` for what is owed, on `object_ops` and `bucket_ops` for the ops, on `slot_core` for slots and
+//! their stubs, and on `desk_base` for what a desk is.
+#![tactic(auto)]
+
+mod desk;
+mod later;
+mod laws;
+mod lives;
+mod opened;
+mod opening;
+mod paging;
+mod parts;
+mod pass;
+mod plain;
+mod receipt;
+mod serving;
+
+pub use laws::{answers_law, pass_law};
+pub use lives::opened_law;
+pub use opened::{NotOpened, StoreParts};
+pub use opening::open_all;
+pub use parts::PassParts;
+pub use pass::PlainPass;
+pub use plain::PlainDesk;
+pub use receipt::Receipt;
+
+#[cfg(test)]
+mod tests;
