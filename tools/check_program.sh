@@ -1,9 +1,11 @@
 #!/usr/bin/env bash
-# Runs the built program as a user does, and compares its replies, its exit status and what it says on standard
-# error. Its last line is 'N passed, M failed'; it ends with 1 where a case failed.
+# Runs the built program as a user does, and compares its replies, its exit status and what it says on standard error. Each refusal that a
+# client can bring about is asked for once; those of drives stand in tools/check_kill.sh. With the word `slow` a key gets its 10,000
+# versions too, which takes minutes. Its last line is 'N passed, M failed'; it ends with 1 where a case failed.
 set -uo pipefail
 
 top="$(cd "$(dirname "$(readlink -f "${BASH_SOURCE[0]}")")/.." && pwd)"
+ostore="${OSTORE:-$top/ostore}"
 work="$(mktemp -d)"
 trap 'rm -rf "$work"' EXIT
 passed=0
@@ -15,66 +17,166 @@ fails() {
     echo "check_program: $1" >&2
 }
 
+# timeless FILE: its bytes with each moment that a header tells left out
+timeless() {
+    LC_ALL=C sed -E 's/^(Date|Last-Modified): [^\r]*\r$/\1\r/' "$1"
+}
+
 # check NAME STATUS REPLIES ERRORS WORD..: standard input is the request
 check() {
     local name="$1" status="$2" replies="$3" errors="$4" got
     shift 4
-    (cd / && "$top/ostore" "$@") >"$work/replies" 2>"$work/errors"
+    (cd / && "$ostore" "$@") >"$work/replies" 2>"$work/errors"
     got=$?
     if [[ $got != "$status" ]]; then
         fails "$name: status $got, wanted $status"
-    elif ! cmp -s "$work/replies" <(printf '%b' "$replies"); then
-        fails "$name: other replies"
+    elif ! cmp -s <(timeless "$work/replies") <(printf '%b' "$replies"); then
+        fails "$name: other replies: $(timeless "$work/replies" | head -c 600)"
     elif ! cmp -s "$work/errors" <(printf '%b' "$errors"); then
-        fails "$name: other words on standard error"
+        fails "$name: other words on standard error: $(cat "$work/errors")"
     else
         passed=$((passed + 1))
     fi
 }
 
+# refuses STATUS CODE MESSAGE: the last reply to standard input, in memory, is this refusal, and closes where it has to
+refuses() {
+    local status="$1" code="$2" message="$3" got wanted=0
+    "$ostore" pipe >"$work/replies" 2>"$work/errors"
+    got=$?
+    case "$code" in BadRequest | RequestHeaderTooLong | MissingContentLength | EntityTooLarge) wanted=9 ;; esac
+    [[ "$message" != 'Chunked bodies are not served.' ]] || wanted=9
+    tac "$work/replies" | LC_ALL=C awk '{ print } /^HTTP\/1\.1 / { exit }' | tac >"$work/last"
+    if [[ $got != "$wanted" ]]; then
+        fails "$code: status $got, wanted $wanted"
+    elif [[ "$(head -c 13 "$work/last")" != "HTTP/1.1 $status " ]]; then
+        fails "$code: another status: $(head -1 "$work/last")"
+    elif ! grep -aqF "<Code>$code</Code><Message>$message</Message>" "$work/last"; then
+        fails "$code: another document: $(tail -1 "$work/last")"
+    elif [[ $wanted == 9 ]] && ! grep -aq $'^Connection: close\r$' "$work/last"; then
+        fails "$code: it doesn't say that it closes"
+    else
+        passed=$((passed + 1))
+    fi
+}
+
+ask() { printf '%b' "$*"; }
+
 tag='ETag: "5d41402abc4b2a76b9719d911017c592"\r\n'
+kind='Content-Type: binary/octet-stream\r\n'
 first='x-amz-version-id: 00000000-0001-801c-8000-000000000001\r\n'
-marker='x-amz-delete-marker: true\r\nx-amz-version-id: 00000000-0001-801c-8000-000000000003\r\n'
-stored="HTTP/1.1 200 OK\r\nContent-Length: 0\r\n$tag\r\n"
-found="HTTP/1.1 200 OK\r\nContent-Length: 5\r\n$tag\r\nhello"
-missing='HTTP/1.1 404 Not Found\r\nContent-Length: 0\r\n\r\n'
-refused='HTTP/1.1 400 Bad Request\r\nContent-Length: 0\r\n\r\n'
-named="HTTP/1.1 200 OK\r\nContent-Length: 0\r\n$tag$first\r\n"
-deleted="HTTP/1.1 204 No Content\r\n$marker\r\n"
-hidden="HTTP/1.1 404 Not Found\r\nContent-Length: 0\r\n$marker\r\n"
+marker_id='00000000-0001-801c-8000-000000000003'
+marker="x-amz-delete-marker: true\r\nx-amz-version-id: $marker_id\r\n"
+made='HTTP/1.1 200 OK\r\nDate\r\nContent-Length: 0\r\nLocation: /pic\r\n\r\n'
+done='HTTP/1.1 200 OK\r\nDate\r\nContent-Length: 0\r\n\r\n'
+stored="HTTP/1.1 200 OK\r\nDate\r\nContent-Length: 0\r\n$tag\r\n"
+found="HTTP/1.1 200 OK\r\nDate\r\nContent-Length: 5\r\n${kind}Last-Modified\r\n${tag}Accept-Ranges: bytes\r\n\r\nhello"
+part="HTTP/1.1 206 Partial Content\r\nDate\r\nContent-Length: 3\r\n${kind}Content-Range: bytes 1-3/5\r\nLast-Modified\r\n${tag}Accept-Ranges: bytes\r\n\r\nell"
+headed="HTTP/1.1 200 OK\r\nDate\r\nContent-Length: 5\r\n${kind}Last-Modified\r\n${tag}Accept-Ranges: bytes\r\n\r\n"
+named="HTTP/1.1 200 OK\r\nDate\r\nContent-Length: 0\r\n$tag$first\r\n"
+gone='HTTP/1.1 204 No Content\r\nDate\r\n\r\n'
+hidden="HTTP/1.1 204 No Content\r\nDate\r\n$marker\r\n"
+make='PUT /pic HTTP/1.1\r\n\r\n'
+document='<VersioningConfiguration><Status>Enabled</Status></VersioningConfiguration>'
+enable="PUT /pic?versioning HTTP/1.1\r\nContent-Length: ${#document}\r\n\r\n$document"
 put='PUT /pic/a HTTP/1.1\r\nContent-Length: 5\r\n\r\nhello'
 get='GET /pic/a HTTP/1.1\r\n\r\n'
+range='GET /pic/a HTTP/1.1\r\nRange: bytes=1-3\r\n\r\n'
+head='HEAD /pic/a HTTP/1.1\r\n\r\n'
 delete='DELETE /pic/a HTTP/1.1\r\n\r\n'
 
-"$top/ostore" pipe </dev/null || {
+"$ostore" pipe </dev/null || {
     fails 'the program does not run'
     echo "$passed passed, $failed failed"
     exit 1
 }
 
-check 'a body is stored and found' 0 "$stored$found" '' pipe < <(printf '%b' "$put$get")
-check 'a bucket without versioning' 0 "$stored$found" '' pipe off < <(printf '%b' "$put$get")
-check 'a marker hides a version' 0 "$named$deleted$hidden" '' pipe on < <(printf '%b' "$put$delete$get")
-check 'a key without a version' 0 "$missing" '' pipe suspended < <(printf '%b' "$get")
+check 'a body is stored and found' 0 "$made$stored$found" '' pipe < <(ask "$make$put$get")
+check 'a part of it, and its head' 0 "$made$stored$part$headed" '' pipe < <(ask "$make$put$range$head")
+check 'it is deleted' 0 "$made$stored$gone" '' pipe < <(ask "$make$put$delete")
+check 'a marker hides a version' 0 "$made$done$named$hidden" '' pipe < <(ask "$make$enable$put$delete")
+check 'six drives' 0 "$made$stored$found" '' --drives 6 --parity=2 pipe < <(ask "$make$put$get")
 check 'no input' 0 '' '' pipe </dev/null
+check 'the client closes' 0 "${made/Date/Date\\r\\nConnection: close}" '' pipe < <(ask 'PUT /pic HTTP/1.1\r\nConnection: close\r\n\r\n')
 check 'no words' 2 '' 'ostore: usage\n' </dev/null
-check 'another mode' 2 '' 'ostore: usage\n' pipe now </dev/null
-check 'a word too many' 2 '' 'ostore: usage\n' pipe on on </dev/null
+check 'a command that is not there yet' 2 '' 'ostore: usage\n' serve </dev/null
+check 'a word too many' 2 '' 'ostore: usage\n' pipe pipe </dev/null
+check 'an option twice' 2 '' 'ostore: usage\n' --drives 4 --drives 4 pipe </dev/null
+check 'too many drives' 2 '' 'ostore: usage\n' --drives 17 pipe </dev/null
+check 'too much parity' 2 '' 'ostore: usage\n' --drives 5 --parity 3 pipe </dev/null
+check 'a bare dash' 2 '' 'ostore: usage\n' --root - pipe </dev/null
 check 'a word that is not UTF-8' 2 '' 'ostore: usage\n' $'pipe\xff' </dev/null
 check 'an input that fails' 4 '' 'ostore: read fault\n' pipe <"$work"
-check 'an input that is cut' 8 '' 'ostore: input cut\n' pipe < <(printf 'GET /pic')
-check 'a head of no request' 9 "$refused" 'ostore: closed\n' pipe < <(printf 'HEAD /pic/a HTTP/1.1\r\n\r\n')
+check 'an input that is cut' 8 '' 'ostore: input cut\n' pipe < <(ask 'GET /pic')
+check 'a body that is cut' 8 "$made" 'ostore: input cut\n' pipe < <(ask "${make}PUT /pic/a HTTP/1.1\r\nContent-Length: 9\r\n\r\nhello")
 
-(printf '%b' "$put" | "$top/ostore" pipe >/dev/full) 2>"$work/errors"
+(ask "$make" | "$ostore" pipe >/dev/full) 2>"$work/errors"
 if [[ $? == 5 && "$(cat "$work/errors")" == 'ostore: write fault' ]]; then
     passed=$((passed + 1))
 else
     fails 'an output that is full'
 fi
 
-# The largest body that is taken comes back byte for byte, and a larger one closes the connection.
+# Over folders what one process stored the next one finds, and status tells how often the set was opened.
+mkdir "$work/store"
+root=(--root "$work/store")
+line() { printf '{"drives":4,"formats":[%s],"parity":2,"set":"00000000-0000-0000-0000-000000000000","term":%d}\n' "$1" "$2"; }
+fresh='"absent","absent","absent","absent"'
+good='"good","good","good","good"'
+check 'fresh drives' 0 "$(line "$fresh" 0)\n" '' "${root[@]}" status </dev/null
+check 'a body is stored on folders' 0 "$made$stored" '' "${root[@]}" pipe < <(ask "$make$put")
+check 'the next process finds it' 0 "$found" '' "${root[@]}" pipe < <(ask "$get")
+check 'drives that were opened twice' 0 "$(line "$good" 2)\n" '' "${root[@]}" status </dev/null
+mv "$work/store/1" "$work/away"
+check 'it is found without a drive' 0 "$found" '' "${root[@]}" pipe < <(ask "$get")
+check 'a drive that is away' 0 "$(line '"good","absent","good","good"' 3)\n" '' "${root[@]}" status </dev/null
+rm -rf "$work/store/1"
+mv "$work/away" "$work/store/1"
+check 'it is back' 0 "$found$stored" '' "${root[@]}" pipe < <(ask "$get$put")
+check 'another set' 3 '' 'ostore: opening refused\n' "${root[@]}" --set 00000000-0000-0000-0000-000000000001 pipe </dev/null
+check 'other numbers' 3 '' 'ostore: opening refused\n' "${root[@]}" --parity 1 pipe </dev/null
+check 'a root that is not there' 3 '' 'ostore: opening refused\n' --root "$work/none" pipe </dev/null
+flock "$work/store" "$ostore" "${root[@]}" pipe </dev/null 2>"$work/errors"
+if [[ $? == 3 && "$(cat "$work/errors")" == 'ostore: opening refused' ]]; then
+    passed=$((passed + 1))
+else
+    fails 'a root that is locked'
+fi
+
+# The MD5 of `x`.
+md5='Content-MD5: ndTkYSaMgDT1yFZOFVxnpg==\r\n'
+long="$(printf '%1025s' '' | tr ' ' k)"
+many="$(printf 'x: y\\r\\n%.0s' {1..65})"
+other='00000000-0001-801c-8000-00000000000f'
+refuses 400 BadRequest 'The request head is malformed.' < <(ask 'GET\r\n\r\n')
+refuses 400 RequestHeaderTooLong 'The request head is too long.' < <(ask "GET / HTTP/1.1\r\n$many\r\n")
+refuses 411 MissingContentLength 'The Content-Length header is missing.' < <(ask 'PUT /pic/a HTTP/1.1\r\n\r\n')
+refuses 501 NotImplemented 'Chunked bodies are not served.' < <(ask 'PUT /pic/a HTTP/1.1\r\nTransfer-Encoding: chunked\r\n\r\n')
+refuses 400 InvalidURI 'The target is not a path in UTF-8.' < <(ask 'GET /%ff HTTP/1.1\r\n\r\n')
+refuses 501 NotImplemented 'This call is not served.' < <(ask 'GET /pic?acl HTTP/1.1\r\n\r\n')
+refuses 501 NotImplemented 'This call is not served.' < <(ask "${make}GET /pic?list-type=2 HTTP/1.1\r\n\r\n")
+refuses 501 NotImplemented 'This call is not served.' < <(ask "${make}POST /pic/a?uploads HTTP/1.1\r\n\r\n")
+refuses 400 InvalidBucketName 'The bucket name is not valid.' < <(ask 'PUT /Pic HTTP/1.1\r\n\r\n')
+refuses 400 KeyTooLongError 'The key is longer than 1024 bytes.' < <(ask "GET /pic/$long HTTP/1.1\r\n\r\n")
+refuses 400 InvalidArgument 'Invalid value of versionId.' < <(ask 'GET /pic/a?versionId=1 HTTP/1.1\r\n\r\n')
+refuses 400 InvalidDigest 'The Content-MD5 is not valid.' < <(ask "${make}PUT /pic/a HTTP/1.1\r\nContent-MD5: x\r\nContent-Length: 5\r\n\r\nhello")
+refuses 400 EntityTooLarge 'The body is longer than the limit.' < <(ask 'PUT /pic/a HTTP/1.1\r\nContent-Length: 5368709121\r\n\r\n')
+refuses 400 MalformedXML 'The document is not well formed at byte 0.' < <(ask "${make}PUT /pic?versioning HTTP/1.1\r\nContent-Length: 1\r\n\r\nx")
+refuses 404 NoSuchBucket 'The specified bucket does not exist.' < <(ask "$put")
+refuses 409 BucketAlreadyOwnedByYou 'The bucket is there already.' < <(ask "$make$make")
+refuses 400 BadDigest 'The Content-MD5 differs from the body.' < <(ask "${make}PUT /pic/a HTTP/1.1\r\n${md5}Content-Length: 5\r\n\r\nhello")
+refuses 404 NoSuchKey 'The specified key does not exist.' < <(ask "$make$get")
+refuses 404 NoSuchVersion 'The specified version does not exist.' < <(ask "$make${put}GET /pic/a?versionId=$other HTTP/1.1\r\n\r\n")
+refuses 405 MethodNotAllowed 'The specified version is a delete marker.' \
+    < <(ask "$make$enable$put${delete}GET /pic/a?versionId=$marker_id HTTP/1.1\r\n\r\n")
+refuses 416 InvalidRange 'The range is not satisfiable.' < <(ask "$make${put}GET /pic/a HTTP/1.1\r\nRange: bytes=5-\r\n\r\n")
+if [[ "${1:-}" == slow ]]; then
+    refuses 400 TooManyVersions 'The key has 10000 versions.' < <(ask "$make$enable"; for _ in {1..10001}; do ask "$delete"; done)
+fi
+
+# A large body comes back byte for byte.
 head -c 16777216 /dev/urandom >"$work/body"
-{ printf 'PUT /pic/a HTTP/1.1\r\nContent-Length: 16777216\r\n\r\n'; cat "$work/body"; printf '%b' "$get"; } | "$top/ostore" pipe >"$work/replies"
+{ ask "${make}PUT /pic/a HTTP/1.1\r\nContent-Length: 16777216\r\n\r\n"; cat "$work/body"; ask "$get"; } | "$ostore" pipe >"$work/replies"
 status=$?
 tail -c 16777216 "$work/replies" >"$work/back"
 if [[ $status == 0 ]] && cmp -s "$work/body" "$work/back"; then
@@ -82,7 +184,6 @@ if [[ $status == 0 ]] && cmp -s "$work/body" "$work/back"; then
 else
     fails "a body of 16 MiB: status $status, or another body"
 fi
-check 'a body of a byte more' 9 "$refused" 'ostore: closed\n' pipe < <(printf 'PUT /pic/a HTTP/1.1\r\nContent-Length: 16777217\r\n\r\n')
 
 echo "$passed passed, $failed failed"
 [[ $failed == 0 ]]

@@ -1,116 +1,96 @@
 #!/usr/bin/env bash
-# Compares what `survey` of term_gate tells of four drives over folders with the lines that the command `status` is to print:
-# one JSON object with the number of drives, what each has for a format, the parity, the set's UUID and the greatest term. It
-# makes a temporary repository with copies of the crates and of a small caller, proves that, builds it and runs it, which takes
-# some minutes the first time. The lines are those of fresh drives, of drives that were opened twice as a set, and of the same
-# drives where one has a damaged format and one can't be opened.
-set -euo pipefail
+# Brings about each exit status of the program that a script can, over drives in memory and over folders, and compares the line that the command
+# `status` gives of fresh drives, of a store that was written, and of one whose drives are damaged, gone or another set's. `status` has to leave the
+# files of a store as they are. Its last line is 'N passed, M failed'; it ends with 1 where a case failed. No command ends with 7 yet, and no script
+# brings about want of memory (6).
+set -uo pipefail
 
-source "$(dirname "$(readlink -f "${BASH_SOURCE[0]}")")/../bench/common.sh"
+source "$(dirname "$(readlink -f "${BASH_SOURCE[0]}")")/run_program.sh"
 
-new_program status_lines fault_base drive_base drive_file call_types term_gate uuid
-cat >"$work/crates/status_lines/src/main.rt" <<'END_OF_PROGRAM'
-//! Prints what the drives of a set have for formats, as one JSON object a line.
-#![tactic(auto)]
-
-ghost use Rattle.std.specs.Prelude.{◌≡◌, length};
-
-use drive_base::{Drive, SetPlan};
-use drive_file::FileDrive;
-use fault_base::NoMemory;
-use std::alloc::Global;
-use std::process::ExitCode;
-use term_gate::{Seen, Survey, open_set, survey};
-use uuid::Uuid;
-
-const DRIVES: u8 = 4;
-
-const PARITY: u8 = 2;
-
-/// The set's id.
-const SET: [u8; 16] = [0; 16];
-
-fn main(rt: HostRuntime) -> ExitCode {
-    match print_lines(&rt, rt.alloc()) {
-        Some(()) => ExitCode::SUCCESS,
-        None => {
-            let _ = eprintln!(rt; "status_lines: no memory or a failed call");
-            ExitCode::FAILURE
-        }
-    }
+# The line of the command `status`: line_of FORMATS TERM [PARITY]
+line_of() {
+    printf '{"drives":4,"formats":[%s],"parity":%s,"set":"00000000-0000-0000-0000-000000000000","term":%s}\\n' "$1" "${3:-2}" "$2"
 }
 
-fn print_lines(rt: &HostRuntime, alloc: Global) -> Option<()> {
-    let mut drives = [
-        FileDrive::open(*rt, alloc, "drive0").ok()?,
-        FileDrive::open(*rt, alloc, "drive1").ok()?,
-        FileDrive::open(*rt, alloc, "drive2").ok()?,
-        FileDrive::open(*rt, alloc, "drive3").ok()?,
-    ];
-    print_status(rt, alloc, &mut drives)?;
-    for _ in 0..2u64 {
-        let set = SetPlan::new(SET, DRIVES, PARITY);
-        if open_set(alloc, &mut drives, set).is_err() {
-            return None;
-        }
-    }
-    print_status(rt, alloc, &mut drives)?;
-    place(&mut drives[1], b"no format")?;
-    drives[3] = FileDrive::closed(*rt, alloc);
-    print_status(rt, alloc, &mut drives)
-}
+fresh='"absent","absent","absent","absent"'
+good='"good","good","good","good"'
+bucket='PUT /pic HTTP/1.1\r\nHost: x\r\nContent-Length: 0\r\n\r\n'
+short='PUT /pic/a HTTP/1.1\r\nHost: x\r\nContent-Length: 5\r\n\r\nhel'
+made='HTTP/1.1 200 OK\r\nDate: -\r\nContent-Length: 0\r\nLocation: /pic\r\n\r\n'
+words='<Code>BadRequest</Code><Message>The request head is malformed.</Message><Resource></Resource>'
+document="<?xml version=\"1.0\" encoding=\"UTF-8\"?><Error>$words</Error>"
+closing="HTTP/1.1 400 Bad Request\r\nDate: -\r\nConnection: close\r\nContent-Length: ${#document}\r\nContent-Type: application/xml\r\n\r\n$document"
+store="$work/store"
+mkdir "$store"
 
-/// Puts these bytes in place of a drive's format.
-fn place<D: Drive>(drive: &mut D, bytes: &[u8]) -> Option<()> {
-    drive.append("w1", bytes).ok()?;
-    drive.sync("w1").ok()?;
-    drive.rename("w1", "format").ok()
-}
+# 0 and 2: the words
+check 'no input' 0 '' '' pipe </dev/null
+check 'fresh drives in memory' 0 "$(line_of "$fresh" 0)" '' status </dev/null
+check 'another parity' 0 "$(line_of "$fresh" 0 1)" '' --parity=1 status </dev/null
+check 'no words' 2 '' 'ostore: usage\n' </dev/null
+check 'another command' 2 '' 'ostore: usage\n' heal </dev/null
+check 'a word too many' 2 '' 'ostore: usage\n' pipe now </dev/null
+check 'an option twice' 2 '' 'ostore: usage\n' --drives 4 --drives 4 status </dev/null
+check 'too many parity drives' 2 '' 'ostore: usage\n' --drives 4 --parity 3 status </dev/null
+check 'a word that is not UTF-8' 2 '' 'ostore: usage\n' $'pipe\xff' </dev/null
+check 'no door is opened yet' 2 '' 'ostore: usage\n' serve </dev/null
 
-fn print_status<D: Drive>(rt: &HostRuntime, alloc: Global, drives: &mut [D; 4]) -> Option<()> {
-    let seen = survey(alloc, drives.as_mut_slice(), SetPlan::new(SET, DRIVES, PARITY)).ok()?;
-    let line = status_line(alloc, &seen).ok()?;
-    println!(rt; "{line}").ok()
-}
+# 4, 8 and 9: the source, and a refusal that closes
+check 'an input that fails' 4 '' 'ostore: read fault\n' pipe <"$work"
+check 'an input that is cut in a head' 8 '' 'ostore: input cut\n' pipe < <(printf 'GET /pic')
+check 'an input that is cut in a body' 8 "$made" 'ostore: input cut\n' pipe < <(printf '%b' "$bucket$short")
+check 'a head of no request' 9 "$closing" 'ostore: closed\n' pipe < <(printf 'no request\r\n\r\n')
 
-fn status_line(alloc: Global, seen: &Survey) -> Result<String, NoMemory> {
-    let mut line = String::new(alloc);
-    line.push_str("{\"drives\":4,\"formats\":[")?;
-    let mut comma = "";
-    for format in seen.formats.as_slice() {
-        line.push_str(comma)?;
-        line.push_str(word_of(*format))?;
-        comma = ",";
-    }
-    let id = Uuid::from_bytes(SET).hyphenated();
-    let term = seen.term;
-    let Ok(rest) = format!(in alloc; "],\"parity\":2,\"set\":\"{id}\",\"term\":{term}}}") else {
-        return Err(NoMemory);
-    };
-    line.push_str(rest.as_str())?;
-    Ok(line)
-}
+# 5: the sink
+for command in pipe status; do
+    printf '%b' "$bucket" | "$program" "$command" >/dev/full 2>"$work/errors"
+    status=$?
+    holds "$command into an output that is full: status $status" test "$status $(cat "$work/errors")" == '5 ostore: write fault'
+done
 
-fn word_of(seen: Seen) -> &'static str {
-    match seen {
-        Seen::Good => "\"good\"",
-        Seen::Absent => "\"absent\"",
-        Seen::Damaged => "\"damaged\"",
-        Seen::Failed => "\"failed\"",
-        Seen::Other => "\"other\"",
-    }
-}
-END_OF_PROGRAM
+# 3 and the survey, over folders
+check 'a root that is not there' 3 '' 'ostore: opening refused\n' --root "$work/none" pipe </dev/null
+check 'its survey' 0 "$(line_of '"failed","failed","failed","failed"' 0)" '' --root "$work/none" status </dev/null
+check 'fresh folders' 0 "$(line_of "$fresh" 0)" '' --root "$store" status </dev/null
+check 'a bucket is stored' 0 "$made" '' --root "$store" pipe < <(printf '%b' "$bucket")
+sums_of "$store" >"$work/before"
+check 'a store that was written' 0 "$(line_of "$good" 1)" '' --root "$store" status </dev/null
+check 'the same again' 0 "$(line_of "$good" 1)" '' --root "$store" status </dev/null
+holds 'a survey changed a file' cmp -s "$work/before" <(sums_of "$store")
+check 'another set' 3 '' 'ostore: opening refused\n' --root "$store" --set 67e55044-10b1-426f-9247-bb680e5fe0c8 pipe </dev/null
+holds 'a refused set changed a file' cmp -s "$work/before" <(sums_of "$store")
+check 'opened again' 0 '' '' --root "$store" pipe </dev/null
+check 'its term' 0 "$(line_of "$good" 2)" '' --root "$store" status </dev/null
 
-run_program status_lines --
-rm -rf "$work/disk"
-mkdir "$work/disk"
-(cd "$work/disk" && "$work/crates/status_lines/out/status_lines") >"$work/out"
-set='"parity":2,"set":"00000000-0000-0000-0000-000000000000"'
-cat >"$work/want" <<END
-{"drives":4,"formats":["absent","absent","absent","absent"],$set,"term":0}
-{"drives":4,"formats":["good","good","good","good"],$set,"term":2}
-{"drives":4,"formats":["good","damaged","good","failed"],$set,"term":2}
-END
-cat "$work/out"
-diff "$work/want" "$work/out" || fail 1 "other lines were wanted"
+# A root that another process has locked
+(flock 9 && exec sleep 20) 9<"$store" &
+holder=$!
+sleep 0.2
+check 'a root that is locked' 3 '' 'ostore: opening refused\n' --root "$store" pipe </dev/null
+kill "$holder" && wait "$holder" 2>/dev/null
+
+# Drives that fail, are damaged, and another's
+cp -a "$store" "$work/few"
+for drive in 2 3; do rm -r "$work/few/$drive/data" && : >"$work/few/$drive/data"; done
+check 'drives that fail' 0 "$(line_of '"good","good","failed","failed"' 2)" '' --root "$work/few" status </dev/null
+check 'too few drives' 3 '' 'ostore: opening refused\n' --root "$work/few" pipe </dev/null
+holds 'no format on drive 0' flip_kind "$store/0/data" OFMT
+check 'a damaged format' 0 "$(line_of '"damaged","good","good","good"' 2)" '' --root "$store" status </dev/null
+files_of "$store/1/data" OFMT | xargs -0 -I {} cp {} "$work/format"
+files_of "$store/2/data" OFMT | xargs -0 -I {} cp "$work/format" {}
+check "another drive's format" 0 "$(line_of '"damaged","good","other","good"' 2)" '' --root "$store" status </dev/null
+check 'drives in another order' 3 '' 'ostore: opening refused\n' --root "$store" pipe </dev/null
+
+# 10: a reply is cut where too few drives have its second stripe
+cut="$work/cut"
+mkdir "$cut"
+head -c 2097152 /dev/urandom >"$work/body"
+run --root "$cut" pipe < <(printf '%bPUT /pic/a HTTP/1.1\r\nHost: x\r\nContent-Length: 2097152\r\n\r\n' "$bucket" && cat "$work/body")
+for drive in 0 1 2; do
+    find "$cut/$drive/data" -type f -size +1M -print0 | while IFS= read -r -d '' shard; do flip "$shard" 1000000; done
+done
+run --root "$cut" pipe < <(printf 'GET /pic/a HTTP/1.1\r\nHost: x\r\n\r\n')
+holds "a reply that is cut: status $status" test "$status $(cat "$work/errors")" == '10 ostore: reply cut'
+holds 'its first stripe' cmp -s <(tail -c 1048576 "$work/replies") <(head -c 1048576 "$work/body")
+
+finish

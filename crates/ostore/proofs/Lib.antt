@@ -1,34 +1,11 @@
-pub mod BlankLines
-pub mod BodyLemmas
-pub mod BroughtLemmas
-pub mod ChangeLemmas
-pub mod ClearLemmas
-pub mod CommitLemmas
-pub mod ConnectionLemmas
-pub mod CountLemmas
-pub mod DeleteLemmas
-pub mod DrawnLemmas
-pub mod DriveLemmas
-pub mod Filling
-pub mod FindingLemmas
-pub mod GetLemmas
-pub mod GoneLemmas
-pub mod HeadLemmas
-pub mod HolderLemmas
-pub mod KeyFileLemmas
-pub mod ListLemmas
-pub mod LostLemmas
-pub mod MakingLemmas
-pub mod NameLemmas
-pub mod PutLemmas
-pub mod PutMakes
-pub mod ReplyLemmas
-pub mod SessionLemmas
-pub mod StagingLemmas
-pub mod StandsLemmas
-pub mod StateLemmas
-pub mod StoreLemmas
-pub mod TrashLemmas
-pub mod TurnLemmas
-pub mod WordLemmas
-pub mod WriteLemmas
+mod ClosingLemmas
+mod DocumentLemmas
+mod FitsLemmas
+mod PipeLemmas
+mod PlaceLemmas
+mod ProgramLemmas
+mod RigLemmas
+mod RunLemmas
+mod SessionLemmas
+mod ShutLemmas
+mod SurveyLemmas

@@ -1,114 +1,143 @@
--- Turns and connections, put together.
-use Rattle.std.proofs.Common.{◌≡◌, inl, inr, ℕ, ◌≤◌, Bool, List, [], ◌∷◌, ◌++◌, take, Option, Some, None, refl, sym, ap, ◌∙◌, subst, arith, append_assoc, append-nil}
-use Rattle.std.specs.Io.KnownBytes.{prepend_known, append_known}
-use Rattle.fault_base.specs.Counts.{Rose}
-use Rattle.ostore.specs.declared.connection.ConnectionEnd.{ConnectionEnd}
-use Rattle.ostore.specs.declared.connection.ConnectionEnd.TheVariants.{Over, Closed, InputCut, ReadFault, WriteFault, NoMemory}
-use Rattle.call_types.specs.declared.names.Mode.{Mode}
-use Rattle.ostore.specs.Objects.{answer_text}
-use Rattle.ostore.specs.Replies.{bad_request}
-use Rattle.ostore.specs.Drives.{AllTell, NoneFell}
-use Rattle.ostore.specs.Session.{Exchange, Moment, ShowOnly, Rests, Run, bytes_of, texts_of, Wires, Moved, EndsSo}
+-- A connection over the desk of a store is calls on that store, one after another.
+use Rattle.std.proofs.Common.{◌≡◌, ◌<◌, ◌∙◌, ◌+◌, ℕ, List, [], ◌∷◌, ◌++◌, Option, Result, Ok, Err, length, refl, sym, ap, subst, subst₂, inl, inr, arith}
+use Rattle.audit_trail.specs.declared.entry.Entry.{Entry}
+use Rattle.call_types.specs.declared.feed.Cut.{Cut}
+use Rattle.call_types.specs.declared.feed.Cut.TheVariants as cut
+use Rattle.desk_base.specs.Answering.{Task}
+use Rattle.desk_base.specs.Telling.{Telling}
+use Rattle.drive_base.specs.Files.{Files}
+use Rattle.drive_base.specs.View.{DriveView, views}
+use Rattle.drive_base.specs.declared.drive.Drive.{Ghosts}
+use Rattle.drive_base.specs.declared.plan.SetPlan.{SetPlan}
+use Rattle.receipts.specs.Events.{Log}
+use Rattle.op_steps.specs.Calling.{CallsKeep, CallsRan}
+use Rattle.op_steps.specs.Store.{AreInOrder, SlotSeen, slots_seen}
+use Rattle.serve_loop.specs.Deeds.{CameTo, IsCut, IsMade, Wires}
+use Rattle.serve_loop.specs.Exchanges.{Ask, Exchange, asked, refused, unread}
+use Rattle.serve_loop.specs.Session.{EndsSo, Run, Session}
+use Rattle.serve_loop.specs.declared.ends.ConnectionEnd.{ConnectionEnd}
+use Rattle.serve_loop.specs.declared.ends.ConnectionEnd.TheVariants.{Over, Closed, InputCut, ReadFault, WriteFault, ReplyCut, NoMemory}
+use Rattle.store_shared.specs.Answers.{PlainAnswers}
+use Rattle.store_shared.specs.Laws.{AnswersAreCalls, PassesAreInOrder}
+use Rattle.store_shared.specs.Passes.{disks_of, set_of, slots_of}
+use Rattle.store_shared.specs.declared.pass.PlainPass.{PlainPass}
+use Rattle.store_shared.specs.declared.receipt.Receipt.{Receipt}
+use Rattle.ostore.specs.Logs.{came_logs, cut_call_logs, desk_answers, end_logs, made_logs, run_logs, session_logs}
 
--- ---- counts
+-- a store in order is of one set
+one_set : {D : Type 0} (one two : SetPlan) (slots : List (SlotSeen D)) (disks : List DriveView) → AreInOrder one slots disks → AreInOrder two slots disks
+    → one ≡ two
+one_set one two [] disks first second = absurd (let n = first.count in omega (arith, n))
+one_set one two (slot ∷ slots) disks first second =
+    let inside : 0 < length (slot ∷ slots) = (let n = first.count in omega (arith, n)) in
+    sym (first.set_is 0 slot inside) ∙ second.set_is 0 slot inside
 
-pub rose_later : (a b c : ℕ) → a ≤ b → Rose b c → Rose a c
-rose_later a b c low rose = (omega arith, elim rose.1 [ inl up ↦ inl (omega arith) | inr last ↦ inr last ])
+-- calls, and more calls behind them
+ran_join : {D : Type 0} (ghosts : Ghosts D) (set : SetPlan) (one two : List Log) (slots : List (SlotSeen D)) (disks : List DriveView)
+    (mid : List (SlotSeen D)) (mid_disks : List DriveView) (after : List (SlotSeen D)) (after_disks : List DriveView)
+    → CallsRan ghosts set one slots disks mid mid_disks → CallsRan ghosts set two mid mid_disks after after_disks
+    → CallsRan ghosts set (one ++ two) slots disks after after_disks
+ran_join ghosts set [] two slots disks mid mid_disks after after_disks (same, drives) rest =
+    subst₂ (λ s d. CallsRan ghosts set two s d after after_disks) same drives rest
+ran_join ghosts set (log ∷ one) two slots disks mid mid_disks after after_disks (next, next_disks, call, more) rest =
+    (next, next_disks, call, ran_join ghosts set one two next next_disks mid mid_disks after after_disks more rest)
 
-pub none_fell_same : (counts : List ℕ) → NoneFell counts counts
-none_fell_same counts = record { drives = refl; each = λ k d lt. omega arith }
+module _ {D A : Type 0} (ghosts : Ghosts D) (entries : A → Option (List Entry)) (count : A → ℕ) where
+  -- calls with these logs lead from one pass to another one, of the same set
+  pub record Calls (logs : List Log) (old new : PlainPass D A) : Type 0 where
+    pub set_is : set_of new ≡ set_of old
+    pub ran : CallsRan ghosts (set_of old) logs (slots_seen entries count (slots_of old)) (views ghosts (disks_of old))
+        (slots_seen entries count (slots_of new)) (views ghosts (disks_of new))
 
--- ---- runs
+  -- none lead nowhere
+  calls_stay : (old new : PlainPass D A) → new ≡ old → Calls [] old new
+  calls_stay old new same = record {
+    set_is = ap (λ (p : PlainPass D A). set_of p) same;
+    ran = (ap (λ (p : PlainPass D A). slots_seen entries count (slots_of p)) same, ap (λ (p : PlainPass D A). views ghosts (disks_of p)) same);
+  }
 
-pub run_append : (clock : Option ℕ) (mode : Mode) (tells : List Bool) (first second : List Exchange) (a b c : Moment)
-    → Run clock mode tells a first b → Run clock mode tells b second c → Run clock mode tells a (first ++ second) c
-run_append clock mode tells [] second a b c same run = subst (λ m. Run clock mode tells m second c) (sym same) run
-run_append clock mode tells (exchange ∷ exchanges) second a b c (mid, step, run) more = (mid, step, run_append clock mode tells exchanges second mid b c run more)
+  -- some, and more behind them
+  calls_join : (one two : List Log) (old mid new : PlainPass D A) → Calls one old mid → Calls two mid new → Calls (one ++ two) old new
+  calls_join one two old mid new first second = record {
+    set_is = second.set_is ∙ first.set_is;
+    ran = ran_join ghosts (set_of old) one two (slots_seen entries count (slots_of old)) (views ghosts (disks_of old)) (slots_seen entries count (slots_of mid))
+        (views ghosts (disks_of mid)) (slots_seen entries count (slots_of new)) (views ghosts (disks_of new)) first.ran
+        (subst (λ set. CallsRan ghosts set two (slots_seen entries count (slots_of mid)) (views ghosts (disks_of mid))
+        (slots_seen entries count (slots_of new)) (views ghosts (disks_of new))) first.set_is second.ran);
+  }
 
-pub bytes_of-append : (first second : List Exchange) → bytes_of (first ++ second) ≡ bytes_of first ++ bytes_of second
-bytes_of-append [] second = refl
-bytes_of-append (exchange ∷ exchanges) second =
-    ap (λ l. exchange.bytes ++ l) (bytes_of-append exchanges second) ∙ sym (append_assoc exchange.bytes (bytes_of exchanges) (bytes_of second))
+  module _ (keeps : (set : SetPlan) → CallsKeep ghosts set) (passes : PassesAreInOrder ghosts entries count)
+      (answers : AnswersAreCalls ghosts entries count) where
+    -- whatever the desk answers is one call
+    calls_one : (task : Task) (body : List ℕ) (tale : List Telling) (result : Result Receipt Cut) (old new : PlainPass D A)
+        (did : PlainAnswers ghosts entries count task old new body tale result) → Calls (did.log ∷ []) old new
+    calls_one task body tale result old new did =
+        let slots = slots_seen entries count (slots_of old) in
+        let disks = views ghosts (disks_of old) in
+        let slots_after = slots_seen entries count (slots_of new) in
+        let disks_after = views ghosts (disks_of new) in
+        let ran : CallsRan ghosts (set_of old) (did.log ∷ []) slots disks slots_after disks_after =
+        (slots_after, disks_after, answers task old new body tale result did, (refl, refl)) in
+        let kept = keeps (set_of old) (did.log ∷ []) slots disks slots_after disks_after (passes old) ran in
+        record { set_is = one_set (set_of new) (set_of old) slots_after disks_after (passes new) kept.in_order; ran = ran }
 
-pub texts_of-append : (mode : Mode) (first second : List Exchange) → texts_of mode (first ++ second) ≡ texts_of mode first ++ texts_of mode second
-texts_of-append mode [] second = refl
-texts_of-append mode (exchange ∷ exchanges) second =
-    ap (λ l. answer_text mode exchange.answer ++ l) (texts_of-append mode exchanges second) ∙ sym (append_assoc (answer_text mode exchange.answer) (texts_of mode exchanges) (texts_of mode second))
+    -- an answer that was made
+    calls_made : (ask : Ask) (now : ℕ) (body : List ℕ) (tale : List Telling) (old new : PlainPass D A)
+        (made : IsMade (desk_answers ghosts entries count) ask now body tale old new) → Calls (made_logs ghosts entries count ask now body tale old new made) old new
+    calls_made (unread why) now body tale old new made = calls_stay old new made.1
+    calls_made (refused head size why) now body tale old new made = calls_stay old new made.1
+    calls_made (asked head size call) now body tale old new (receipt, served) =
+        calls_one (record { call = call; now = now }) served.taken tale (Ok receipt) old new served.did
 
--- ---- bytes from the source and to the sink
+    -- a call that was cut
+    calls_cut : (why : Cut) (ask : Ask) (now : ℕ) (body : List ℕ) (tale : List Telling) (old new : PlainPass D A)
+        (is_cut : IsCut (desk_answers ghosts entries count) why ask now body tale old new)
+        → Calls (cut_call_logs ghosts entries count why ask now body tale old new is_cut) old new
+    calls_cut why (unread refusal) now body tale old new is_cut = absurd is_cut
+    calls_cut why (refused head size refusal) now body tale old new is_cut = absurd is_cut
+    calls_cut why (asked head size call) now body tale old new (first, reason, served) =
+        calls_one (record { call = call; now = now }) served.taken tale (Err first) old new served.did
 
-prepend_both : (first second : List ℕ) (left : Option (List ℕ)) → prepend_known first (prepend_known second left) ≡ prepend_known (first ++ second) left
-prepend_both first second None = refl
-prepend_both first second (Some left) = ap Some (sym (append_assoc first second left))
+    -- a request that was cut
+    calls_came : (why : Cut) (x : Exchange) (old new : PlainPass D A) (came : CameTo (desk_answers ghosts entries count) why x old new)
+        → Calls (came_logs ghosts entries count why x old new came) old new
+    calls_came why x old new (inl nothing) = calls_stay old new nothing.1
+    calls_came why x old new (inr (inl made)) = calls_made x.ask x.now x.body x.tale old new made
+    calls_came why x old new (inr (inr is_cut)) = calls_cut why x.ask x.now x.body x.tale old new is_cut
 
-append_both : (given : Option (List ℕ)) (first second : List ℕ) → append_known (append_known given first) second ≡ append_known given (first ++ second)
-append_both None first second = refl
-append_both (Some given) first second = ap Some (append_assoc given first second)
+    module _ (clock : Option ℕ) where
+      -- exchanges, one after another
+      calls_run : (number : ℕ) (old : PlainPass D A) (xs : List Exchange) (new : PlainPass D A)
+          (run : Run (desk_answers ghosts entries count) clock number old xs new) → Calls (run_logs ghosts entries count clock number old xs new run) old new
+      calls_run number old [] new run = calls_stay old new (sym run)
+      calls_run number old (x ∷ xs) new (mid, answered, stays, rest) =
+          calls_join (made_logs ghosts entries count x.ask x.now x.body x.tale old mid answered.made) (run_logs ghosts entries count clock (number + 1) mid xs new rest)
+          old mid new (calls_made x.ask x.now x.body x.tale old mid answered.made) (calls_run (number + 1) mid xs new rest)
 
-pub moved_later : (taken more given others : List ℕ) (a b c : Wires) → Moved taken given a b → Moved more others b c → Moved (taken ++ more) (given ++ others) a c
-moved_later taken more given others a b c first second = record {
-  took = first.took ∙ ap (prepend_known taken) second.took ∙ prepend_both taken more c.left;
-  gave = second.gave ∙ ap (λ g. append_known g others) first.gave ∙ append_both a.given given others;
-  reads = omega (arith, first.reads, second.reads);
-  writes = omega (arith, first.writes, second.writes);
-}
+      -- the end
+      calls_end : (end : ConnectionEnd) (number : ℕ) (old new : PlainPass D A) (taken out : List ℕ) (before after : Wires)
+          (ends : EndsSo (desk_answers ghosts entries count) clock end number old new taken out before after)
+          → Calls (end_logs ghosts entries count clock end number old new taken out before after ends) old new
+      calls_end Over number old new taken out before after (inl still) = calls_stay old new still.2
+      calls_end Over number old new taken out before after (inr parts) =
+          calls_made parts.x.ask parts.x.now parts.x.body parts.x.tale old new parts.answered.made
+      calls_end Closed number old new taken out before after parts =
+          calls_made parts.x.ask parts.x.now parts.x.body parts.x.tale old new parts.answered.made
+      calls_end InputCut number old new taken out before after (inl still) = calls_stay old new still.2
+      calls_end InputCut number old new taken out before after (inr (read, stated, cuts)) = calls_came (cut.BodyCut read stated) cuts.x old new cuts.short.came
+      calls_end ReadFault number old new taken out before after (inl still) = calls_stay old new still.1
+      calls_end ReadFault number old new taken out before after (inr cuts) = calls_came cut.ReadFault cuts.x old new cuts.short.came
+      calls_end WriteFault number old new taken out before after cuts = calls_came cut.WriteFault cuts.x old new cuts.short.came
+      calls_end (ReplyCut whys) number old new taken out before after cuts = calls_came (cut.ShardCut whys) cuts.x old new cuts.short.came
+      calls_end NoMemory number old new taken out before after (inl still) = calls_stay old new still.1
+      calls_end NoMemory number old new taken out before after (inr cuts) = calls_came cut.NoMemory cuts.x old new cuts.short.came
 
-pub nothing_taken : (left : Option (List ℕ)) → left ≡ prepend_known [] left
-nothing_taken None = refl
-nothing_taken (Some left) = refl
-
-pub nothing_given : (given : Option (List ℕ)) → given ≡ append_known given []
-nothing_given None = refl
-nothing_given (Some given) = ap Some (sym (append-nil given))
-
--- ---- endings
-
--- where nothing changed, however the connection ended
-pub rests_same : (tells : List Bool) (tail : List ℕ) (moment : Moment) (end : ConnectionEnd) → (AllTell tells → ShowOnly moment.objects moment.drives)
-    → Rests tells end tail moment moment
-rests_same tells tail moment NoMemory shows = record { objects = inl refl; shows = shows; keys = λ all key k d inside. refl; datas = λ all key id had has. (λ k d inside. refl, λ k d inside. refl); counts = none_fell_same moment.counts }
-rests_same tells tail moment Over shows = refl
-rests_same tells tail moment InputCut shows = refl
-rests_same tells tail moment ReadFault shows = refl
-rests_same tells tail moment WriteFault shows = refl
-rests_same tells tail moment Closed shows = refl
-
-pub ends_later : (mode : Mode) (end : ConnectionEnd) (exchanges : List Exchange) (tail out : List ℕ) (a b c : Wires)
-    → a.read_faults ≤ b.read_faults → a.write_faults ≤ b.write_faults → EndsSo mode end exchanges tail out b c → EndsSo mode end exchanges tail out a c
-ends_later mode Over exchanges tail out a b c reads writes ends = ends
-ends_later mode InputCut exchanges tail out a b c reads writes ends = ends
-ends_later mode ReadFault exchanges tail out a b c reads writes ends = (ends.0, rose_later _ _ _ reads ends.1, ends.2)
-ends_later mode WriteFault exchanges tail out a b c reads writes ends = (rose_later _ _ _ writes ends.0, ends.1)
-ends_later mode NoMemory exchanges tail out a b c reads writes ends = ends
-ends_later mode Closed exchanges tail out a b c reads writes ends = ends
-
--- the same ending after more exchanges
-pub ends_after : (mode : Mode) (end : ConnectionEnd) (earlier exchanges : List Exchange) (tail out : List ℕ) (a b : Wires)
-    → EndsSo mode end exchanges tail out a b → EndsSo mode end (earlier ++ exchanges) tail (texts_of mode earlier ++ out) a b
-ends_after mode Over earlier exchanges tail out a b ends = (ends.0, ends.1, ap (λ l. texts_of mode earlier ++ l) ends.2 ∙ sym (texts_of-append mode earlier exchanges))
-ends_after mode InputCut earlier exchanges tail out a b ends = (ends.0, ends.1, ends.2, ap (λ l. texts_of mode earlier ++ l) ends.3 ∙ sym (texts_of-append mode earlier exchanges))
-ends_after mode ReadFault earlier exchanges tail out a b ends = (ends.0, ends.1, ap (λ l. texts_of mode earlier ++ l) ends.2 ∙ sym (texts_of-append mode earlier exchanges))
-ends_after mode NoMemory earlier exchanges tail out a b ends = (ends.0, ap (λ l. texts_of mode earlier ++ l) ends.1 ∙ sym (texts_of-append mode earlier exchanges))
-ends_after mode Closed earlier exchanges tail out a b ends =
-    (ends.0, ap (λ l. texts_of mode earlier ++ l) ends.1 ∙ sym (append_assoc (texts_of mode earlier) (texts_of mode exchanges) bad_request) ∙ ap (λ l. l ++ bad_request) (sym (texts_of-append mode earlier exchanges)))
-ends_after mode WriteFault earlier exchanges tail out a b (rose, inl cut) = (
-  rose,
-  inl (record {
-    earlier = earlier ++ cut.earlier;
-    last = cut.last;
-    n = cut.n;
-    are = ap (λ l. earlier ++ l) cut.are ∙ sym (append_assoc earlier cut.earlier (cut.last ∷ []));
-    nothing = cut.nothing;
-    given = ap (λ l. texts_of mode earlier ++ l) cut.given ∙ sym (append_assoc (texts_of mode earlier) (texts_of mode cut.earlier) (take cut.n (answer_text mode cut.last.answer)))
-        ∙ ap (λ l. l ++ take cut.n (answer_text mode cut.last.answer)) (sym (texts_of-append mode earlier cut.earlier));
-  }),
-)
-ends_after mode WriteFault earlier exchanges tail out a b (rose, inr cut) = (
-  rose,
-  inr (record {
-    n = cut.n;
-    refused = cut.refused;
-    given = ap (λ l. texts_of mode earlier ++ l) cut.given ∙ sym (append_assoc (texts_of mode earlier) (texts_of mode exchanges) (take cut.n bad_request))
-        ∙ ap (λ l. l ++ take cut.n bad_request) (sym (texts_of-append mode earlier exchanges));
-  }),
-)
+      -- a whole connection
+      pub calls_session : (old new : PlainPass D A) (end : ConnectionEnd) (before after : Wires)
+          (session : Session (desk_answers ghosts entries count) clock old new end before after)
+          → Calls (session_logs ghosts entries count clock old new end before after session) old new
+      calls_session old new end before after session =
+          calls_join (run_logs ghosts entries count clock 0 old session.exchanges session.stop session.run)
+          (end_logs ghosts entries count clock end (length session.exchanges) session.stop new session.taken session.out before after session.ends)
+          old session.stop new (calls_run 0 old session.exchanges session.stop session.run)
+          (calls_end end (length session.exchanges) session.stop new session.taken session.out before after session.ends)

@@ -1,40 +1,34 @@
--- The program's words and its exit status.
-use Rattle.std.specs.Prelude.{◌≡◌, ◌⊎◌, ℕ, Bool, IsTrue, List, [], ◌∷◌, length, map, codes, All, String}
-use Rattle.std.specs.String.{string_bytes}
-use Rattle.call_types.specs.declared.names.Mode.{Mode}
-use Rattle.call_types.specs.declared.names.Mode.TheVariants.{Never, Enabled, Suspended}
-use Rattle.drive_base.specs.Files.{Files, no_files}
-use Rattle.ostore.specs.declared.connection.ConnectionEnd.{ConnectionEnd}
-use Rattle.ostore.specs.declared.connection.ConnectionEnd.TheVariants.{Over, Closed, InputCut, ReadFault, WriteFault, NoMemory}
+-- The promise of the program.
+use Rattle.std.specs.Prelude.{◌≡◌, ◌⊎◌, ℕ, List, Option, String}
+use Rattle.audit_trail.specs.declared.entry.Entry.{Entry}
+use Rattle.drive_base.specs.declared.drive.Drive.{Ghosts}
+use Rattle.serve_loop.specs.Deeds.{Wires}
+use Rattle.ostore.specs.Rigs.{IsRigOf}
+use Rattle.ostore.specs.Running.{DidNothing, Pipes}
+use Rattle.ostore.specs.Statuses.{out_of_memory, usage}
+use Rattle.ostore.specs.Surveying.{Surveyed}
+use Rattle.command_line.specs.Words.{Says}
+use Rattle.command_line.specs.declared.plan.Command.{Command}
+use Rattle.command_line.specs.declared.plan.Command.TheVariants.{Pipe, Serve, Status}
+use Rattle.command_line.specs.declared.plan.Plan.{Plan}
+use Rattle.ostore.specs.declared.rig.Ended.{Ended}
+use Rattle.ostore.specs.declared.rig.Rig.{Rig}
 
--- the word for a mode of the bucket
-abbrev pub mode_word : Mode → List ℕ
-mode_word Never = codes "off"
-mode_word Enabled = codes "on"
-mode_word Suspended = codes "suspended"
+module _ {D A : Type 0} (ghosts : Ghosts D) (entries : A → Option (List Entry)) (count : A → ℕ) where
+  -- nothing was done: the words say nothing that is done, or there was no memory to read them
+  abbrev pub EndsUndone : Rig D A → Ended D A (Unit {0}) → Wires → Wires → Type 0
+  EndsUndone rig ended before after = DidNothing ghosts entries count usage rig ended before after ⊎ DidNothing ghosts entries count out_of_memory rig ended before after
 
--- the words `pipe` and that for a mode; `pipe` alone is `pipe off`
-abbrev pub IsPipeWords : List (List ℕ) → Mode → Type 0
-IsPipeWords words mode = (words ≡ codes "pipe" ∷ mode_word mode ∷ []) ⊎ ((words ≡ codes "pipe" ∷ []) × (mode ≡ Never))
+  -- what a command comes to; want of memory before it begins leaves all
+  abbrev pub Does : Command → Option ℕ → Rig D A → Ended D A (Unit {0}) → Wires → Wires → Type 0
+  Does Pipe clock rig ended before after = Pipes ghosts entries count clock rig ended before after ⊎ DidNothing ghosts entries count out_of_memory rig ended before after
+  Does Status clock rig ended before after = Surveyed ghosts rig ended before after ⊎ DidNothing ghosts entries count out_of_memory rig ended before after
+  Does Serve clock rig ended before after = EndsUndone rig ended before after
 
--- the same of the program's words
-abbrev pub IsPipe : {Y : Type 0} → List (String Y) → Mode → Type 0
-IsPipe words mode = IsPipeWords (map string_bytes words) mode
+-- words are no command line
+abbrev pub SaysNothing : {Y : Type 0} → List (String Y) → Type 0
+SaysNothing words = (plan : Plan) → Says words plan → ⊥
 
--- the exit status of words that are no command
-abbrev pub usage : ℕ
-usage = 2
-
--- the exit status for each way in which a connection ends
-abbrev pub status_of : ConnectionEnd → ℕ
-status_of Over = 0
-status_of ReadFault = 4
-status_of WriteFault = 5
-status_of NoMemory = 6
-status_of InputCut = 8
-status_of Closed = 9
-
--- four drives, and none of those that tell has a file
-pub record AreFresh {D : Type 0} (tells : D → Bool) (files : D → Files) (drives : List D) : Type 0 where
-  pub four : length drives ≡ 4
-  pub empty : All (λ d. IsTrue (tells d) → files d ≡ no_files) drives
+-- the rig is that which the words say
+abbrev pub Fits : {D A Y : Type 0} → List (String Y) → Rig D A → Type 0
+Fits words rig = (plan : Plan) → Says words plan → IsRigOf plan.set rig

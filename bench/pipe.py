@@ -1,0 +1,195 @@
+"""What `bench/pipe.sh` does, over the program that OSTORE names: pipe.py [MEMORY [FOLDERS [MIB]]]"""
+
+import collections
+import itertools
+import os
+import pathlib
+import re
+import shutil
+import subprocess
+import sys
+import tempfile
+import threading
+import time
+
+PROGRAM = os.environ["OSTORE"]
+SIZE = 1024
+OK = b"HTTP/1.1 200 OK\r\n"
+MAKE = b"PUT /bench HTTP/1.1\r\nContent-Length: 0\r\n\r\n"
+# What a large body repeats.
+PIECE = os.urandom((1 << 20) - 1)
+
+
+def puts(count, first=0):
+    """PUTs of 1 KiB, each to a key of its own."""
+    for number in range(first, first + count):
+        yield b"PUT /bench/k%d HTTP/1.1\r\nContent-Length: %d\r\n\r\n" % (number, SIZE) + b"x" * SIZE
+
+
+def gets(count):
+    for number in range(count):
+        yield b"GET /bench/k%d HTTP/1.1\r\n\r\n" % number
+
+
+class Process:
+    """A `pipe` process, to which requests are written while its replies are read."""
+
+    def __init__(self, words):
+        self.began = time.monotonic()
+        self.process = subprocess.Popen([PROGRAM, *words, "pipe"], stdin=subprocess.PIPE, stdout=subprocess.PIPE, bufsize=0)
+        self.ask([b"GET / HTTP/1.1\r\n\r\n"], 1)
+        self.opening = time.monotonic() - self.began
+
+    def ask(self, requests, replies, length=0):
+        """The seconds for requests that are answered 200, so often; the last reply has a body of `length` bytes that repeat PIECE."""
+        began = time.monotonic()
+        writer = threading.Thread(target=self.write, args=(requests,))
+        writer.start()
+        if length:
+            self.read_large(length)
+        else:
+            self.read(replies)
+        writer.join()
+        return time.monotonic() - began
+
+    def write(self, requests):
+        with open(self.process.stdin.fileno(), "wb", buffering=1 << 20, closefd=False) as stream:
+            stream.writelines(requests)
+
+    def read(self, replies):
+        """Reads up to this reply, and the documents behind it that have come."""
+        told, found = b"", 0
+        while found < replies:
+            piece = self.process.stdout.read(1 << 16)
+            if not piece:
+                sys.exit(f"pipe.py: the program ended behind {found} replies of {replies}")
+            told = told[-len(OK) + 1 :] + piece
+            found += told.count(OK)
+
+    def read_large(self, length):
+        """Reads one reply with this body."""
+        head = b""
+        while b"\r\n\r\n" not in head:
+            head += self.process.stdout.read(1)
+        if not head.startswith(OK):
+            sys.exit(f"pipe.py: a request was refused: {head!r}")
+        with open(self.process.stdout.fileno(), "rb", buffering=1 << 20, closefd=False) as stream:
+            for piece in body_of(length):
+                if stream.read(len(piece)) != piece:
+                    sys.exit("pipe.py: another body came back")
+
+    def end(self):
+        """Ends the input, and answers the most resident MiB, as the system tells them of the program alone."""
+        told = pathlib.Path(f"/proc/{self.process.pid}/status").read_text()
+        self.process.stdin.close()
+        while self.process.stdout.read(1 << 16):
+            pass
+        if self.process.wait():
+            sys.exit(f"pipe.py: the program ended with {self.process.returncode}")
+        return int(re.search(r"VmHWM:\s*(\d+)", told)[1]) / 1024
+
+
+def small(name, words, count):
+    """Prints what the opening and small requests take, and makes the bucket."""
+    process = Process(words)
+    process.ask([MAKE], 1)
+    put = process.ask(puts(count), count)
+    get = process.ask(gets(count), count)
+    print(
+        f"{name}: opened in {process.opening * 1000:.0f} ms, {count} PUTs of 1 KiB {count / put:.0f} a second, "
+        f"as many GETs {count / get:.0f} a second, at most {process.end():.0f} MiB",
+        flush=True,
+    )
+
+
+def traced(words, requests, replies):
+    """The calls of the system that a process makes, as strace tells them."""
+    with tempfile.NamedTemporaryFile() as trace, tempfile.TemporaryFile() as given:
+        given.writelines(requests)
+        given.seek(0)
+        calls = "trace=open,openat,fsync,fdatasync,rename,renameat,renameat2,stat,statx,newfstatat,read,pread64,unlink,unlinkat"
+        command = ["strace", "-f", "-y", "-e", calls, "-o", trace.name, PROGRAM, *words, "pipe"]
+        told = subprocess.run(command, stdin=given, stdout=subprocess.PIPE, check=True).stdout
+        if told.count(b"HTTP/1.1 200 OK") != replies:
+            sys.exit("pipe.py: a request was refused under strace")
+        return pathlib.Path(trace.name).read_text(errors="replace").splitlines()
+
+
+def kinds_of(lines, root):
+    """How many calls of drives, and syncs of folders, calls of the system below a root are."""
+    kinds = collections.Counter()
+    for line in lines:
+        call = re.match(r"\d+\s+(\w+)\(", line)
+        path = re.search(re.escape(root) + r"/\d+/(?:\d+|data)(?:/([^\s\">]*))?", line)
+        if not call or not path:
+            continue
+        name, below = call[1], path[1] or ""
+        is_loose, is_file = below.startswith("loose/"), below not in ("", "loose") and not below.endswith("_")
+        if name in ("open", "openat"):
+            if "O_APPEND" in line:
+                kinds["append"] += 1
+            elif is_file and not is_loose:
+                kinds["read"] += 1
+        elif name in ("fsync", "fdatasync"):
+            # A loose file is synced by a call of the drive, and a folder within a rename.
+            kinds["sync" if is_loose and is_file else "folder"] += 1
+        elif name.startswith("rename"):
+            kinds["rename"] += 1
+        elif name in ("stat", "statx", "newfstatat"):
+            # A rename looks whether its loose file is there; the rest are sizes.
+            if is_file and not is_loose and "AT_EMPTY_PATH" not in line:
+                kinds["size"] += 1
+        elif name.startswith("unlink"):
+            kinds["discard" if is_loose else "remove"] += 1
+    return kinds
+
+
+def count(name, words, root):
+    """Prints what one PUT of 1 KiB to a fresh key adds to the calls of the system, the mean of ten, and one to a key that is there."""
+    if not shutil.which("strace"):
+        print(f"{name}: strace is not installed, so nothing is counted")
+        return
+    for what, requests in (("a fresh key", lambda n: [*puts(n, 1_000_000 + 100 * n)]), ("a key that is there", lambda n: [*puts(n)])):
+        one = kinds_of(traced(words, requests(1), 1), root)
+        more = kinds_of(traced(words, requests(11), 11), root)
+        each = {kind: (more[kind] - one[kind]) / 10 for kind in more}
+        folders = each.pop("folder", 0)
+        calls = ", ".join(f"{each[kind]:g} {kind}" for kind in ("size", "read", "append", "sync", "rename", "discard", "remove") if each.get(kind))
+        syncs = each.get("sync", 0) + folders
+        print(f"{name}: a PUT to {what}: {calls}; {syncs:g} fsyncs, {folders:g} of them of folders", flush=True)
+
+
+def body_of(length):
+    """A body of so many bytes, piece by piece."""
+    while length > 0:
+        yield PIECE[: min(length, len(PIECE))]
+        length -= len(PIECE)
+
+
+def large(name, words, mib, has_bucket):
+    """Prints MB/s of a PUT and of a GET of one body, and the most resident memory."""
+    length = mib << 20
+    process = Process(words)
+    if not has_bucket:
+        process.ask([MAKE], 1)
+    head = b"PUT /bench/large HTTP/1.1\r\nContent-Length: %d\r\n\r\n" % length
+    put = process.ask(itertools.chain([head], body_of(length)), 1)
+    get = process.ask([b"GET /bench/large HTTP/1.1\r\n\r\n"], 1, length)
+    rates = [length / 1e6 / seconds for seconds in (put, get)]
+    print(f"{name}: PUT of {mib} MiB {rates[0]:.0f} MB/s, GET {rates[1]:.0f} MB/s, at most {process.end():.0f} MiB", flush=True)
+
+
+def main():
+    numbers = [int(word) for word in sys.argv[1:]]
+    in_memory, over_folders, mib = (*numbers, *[20_000, 500, 1024][len(numbers) :])
+    for name, options in (("2+2", ["--drives", "4", "--parity", "2"]), ("4+2", ["--drives", "6", "--parity", "2"])):
+        small(f"{name}, memory", options, in_memory)
+        large(f"{name}, memory", options, min(mib, 256), False)
+        with tempfile.TemporaryDirectory(prefix="bench_pipe-") as root:
+            words = ["--root", root, *options]
+            small(f"{name}, folders", words, over_folders)
+            count(f"{name}, folders", words, root)
+            large(f"{name}, folders", words, mib, True)
+
+
+main()

@@ -1,0 +1,115 @@
+//! A rig over folders.
+
+ghost use Rattle.std.specs.Prelude.{◌≡◌, All, IfOk, length};
+ghost use Rattle.ostore.specs.Rigs.{HasLanes, IsRigOf};
+
+use crate::opening::SLOTS;
+use crate::rig::Rig;
+use audit_trail::NullAudit;
+use drive_base::SetPlan;
+use drive_file::{FileDrive, RootLock};
+use itoa::Buffer;
+use slot_core::SlotParts;
+use std::alloc::AllocError;
+use std::fs::{self, File, OpenFile};
+use std::rt::Files;
+
+/// The lock of a root, if it is to be had.
+pub fn root_lock<R: Files<File = File>>(rt: &R, root: &str) -> Option<RootLock> {
+    RootLock::take(rt, root).ok()
+}
+
+/// A rig over the folders `ROOT/INDEX/SLOT` and `ROOT/INDEX/data`, with audits that keep nothing. Where a folder can't be opened, or the root isn't locked, a
+/// drive stands for it whose every call fails.
+pub fn file_rig<R: Files + AllocGlobal + Clone + Drop>(
+    rt: &R,
+    set: SetPlan,
+    root: &str,
+    is_locked: bool,
+) -> Result<Rig<FileDrive<R>, NullAudit>, AllocError>
+    ensures { IfOk result (λ rig. IsRigOf set rig) }
+{
+    if is_locked {
+        make_parents(rt, set.drives, root)?;
+    }
+    let slots = file_slots(rt, set.drives, root, is_locked)?;
+    let disks = row(rt, set.drives, root, "data", is_locked)?;
+    Rig::with_row(rt.alloc(), set, slots, disks)
+}
+
+/// The lanes and audits of the slots, with so many lanes each.
+fn file_slots<R: Files + AllocGlobal + Clone + Drop>(
+    rt: &R,
+    drives: u8,
+    root: &str,
+    is_locked: bool,
+) -> Result<Vec<SlotParts<FileDrive<R>, NullAudit>>, AllocError>
+    ensures count { IfOk result (λ slots. length slots.items ≡ 64) }
+    ensures lanes { IfOk result (λ slots. All (HasLanes drives) slots.items) }
+{
+    let mut slots = Vec::with_capacity(rt.alloc(), SLOTS)?;
+    for slot in 0..SLOTS {
+        let mut digits = Buffer::new();
+        let lanes = row(rt, drives, root, digits.format(slot), is_locked)?;
+        slots.push(SlotParts {
+            lanes,
+            audit: NullAudit::new(),
+        })?;
+    }
+    Ok(slots)
+}
+
+/// Makes the folder of each drive where it isn't there. One that can't be made shows when the folders in it are opened.
+fn make_parents<R: Files + AllocGlobal>(rt: &R, drives: u8, root: &str) -> Result<(), AllocError> {
+    for index in 0..drives {
+        let path = drive_folder(rt, root, index)?;
+        let _ = fs::create_dir(rt, path.as_str());
+    }
+    if let Ok(folder) = fs::open(rt, root) {
+        let _ = folder.sync_all();
+    }
+    Ok(())
+}
+
+/// The path of a drive's folder.
+fn drive_folder<R: AllocGlobal>(rt: &R, root: &str, index: u8) -> Result<String, AllocError> {
+    let mut digits = Buffer::new();
+    let mut path = String::from_str(rt.alloc(), root)?;
+    path.push('/')?;
+    path.push_str(digits.format(index))?;
+    Ok(path)
+}
+
+/// The drives over the folders of this name, one of each drive.
+fn row<R: Files + AllocGlobal + Clone + Drop>(
+    rt: &R,
+    drives: u8,
+    root: &str,
+    name: &str,
+    is_locked: bool,
+) -> Result<Vec<FileDrive<R>>, AllocError>
+    ensures { IfOk result (λ row. length row.items ≡ drives) }
+{
+    let mut row = Vec::with_capacity(rt.alloc(), drives as usize)?;
+    for index in 0..drives {
+        let mut path = drive_folder(rt, root, index)?;
+        path.push('/')?;
+        path.push_str(name)?;
+        row.push(drive(rt, path.as_str(), is_locked)?)?;
+    }
+    Ok(row)
+}
+
+/// The drive over a folder, or one whose every call fails.
+fn drive<R: Files + AllocGlobal + Clone + Drop>(
+    rt: &R,
+    path: &str,
+    is_locked: bool,
+) -> Result<FileDrive<R>, AllocError> {
+    if is_locked {
+        if let Ok(drive) = FileDrive::open(rt.clone()?, rt.alloc(), path) {
+            return Ok(drive);
+        }
+    }
+    Ok(FileDrive::closed(rt.clone()?, rt.alloc()))
+}

@@ -1,0 +1,91 @@
+//! The command `pipe`.
+
+ghost use Rattle.std.specs.Prelude.{◌≡◌, Some, None};
+ghost use Rattle.ostore.specs.Logs.{desk_answers};
+ghost use Rattle.ostore.specs.Rigs.{IsRigOf};
+ghost use Rattle.ostore.specs.Running.{Pipes};
+ghost use Rattle.ostore.specs.Statuses.{refusal_status};
+ghost use Rattle.serve_loop.specs.Deeds.{wires};
+ghost use Rattle.serve_loop.specs.Session.{Session};
+
+use crate::laws::connection_law;
+use crate::opening::{Shop, Shut, close, open};
+use crate::rig::{Ended, Rig};
+use crate::statuses::{status_of, status_of_refusal};
+use audit_trail::Audit;
+use drive_base::Drive;
+use io_base::{Clock, Sink, Source};
+use serve_loop::{Served, serve_connection};
+use std::alloc::Global;
+use store_shared::{PlainDesk, PlainPass};
+
+/// A run that has ended, with its source.
+#[derive(Drop)]
+pub struct Finished<D, A, S> {
+    /// How it ended.
+    pub ended: Ended<D, A, ()>,
+    /// The source, behind all that was taken from it.
+    pub source: S,
+}
+
+/// Serves one connection over the store of a rig, from the source to the sink.
+pub fn pipe<S: Source + Drop, K: Sink, D: Drive, A: Audit, C: Clock>(
+    alloc: Global,
+    source: S,
+    sink: &mut K,
+    rig: Rig<D, A>,
+    clock: &C,
+) -> Finished<D, A, S>
+    requires fits { IsRigOf rig.set rig }
+    ensures { Pipes D.Drive A.entries A.count (C.moment clock.now) rig result.ended
+        (wires (S.left source) (K.given sink.old) (S.faults source) (K.faults sink.old))
+        (wires (S.left result.source) (K.given sink.new) (S.faults result.source) (K.faults sink.new)) }
+{
+    connection_law::<D, A>();
+    match open(alloc, rig) {
+        Ok(shop) => {
+            let Shop { mut pass, away } = shop;
+            let served = connection(alloc, &mut pass, source, sink, clock);
+            Finished {
+                ended: Ended::with(status_of(&served.end), close(pass, away)),
+                source: served.source,
+            }
+        }
+        Err(back) => Finished {
+            ended: shut(back),
+            source,
+        },
+    }
+}
+
+/// The end of a run for which the store was not opened.
+fn shut<D: Drive, A: Audit>(back: Shut<D, A>) -> Ended<D, A, ()>
+    ensures status { result.status ≡ refusal_status back.why }
+    ensures rig { result.rig ≡ Some back.rig }
+    ensures opening { result.opening ≡ Some back.why }
+    ensures line { result.line ≡ None }
+{
+    Ended {
+        status: status_of_refusal(&back.why),
+        rig: Some(back.rig),
+        opening: Some(back.why),
+        line: None,
+        door: (),
+    }
+}
+
+/// Serves one connection over an open store.
+fn connection<S: Source + Drop, K: Sink, D: Drive, A: Audit, C: Clock>(
+    alloc: Global,
+    pass: &mut PlainPass<D, A>,
+    source: S,
+    sink: &mut K,
+    clock: &C,
+) -> Served<S>
+    ensures { Session (desk_answers D.Drive A.entries A.count) (C.moment clock.now) pass.old pass.new result.end
+        (wires (S.left source) (K.given sink.old) (S.faults source) (K.faults sink.old))
+        (wires (S.left result.source) (K.given sink.new) (S.faults result.source) (K.faults sink.new)) }
+{
+    let desk: PlainDesk<D, A> = PlainDesk::new();
+    serve_connection(alloc, &desk, pass, source, sink, clock)
+}

@@ -1,0 +1,112 @@
+"""A `pipe` process as its client sees it: a request is written, and its reply read before the next one."""
+
+import pathlib
+import subprocess
+import time
+
+PROGRAM = pathlib.Path(__file__).resolve().parent.parent / "ostore"
+
+
+class Cut(Exception):
+    """The process ended before it gave a whole reply."""
+
+
+class Reply:
+    """A reply: its status, its headers by their names in lower case, its body, and its Date and head as bytes."""
+
+    def __init__(self, status, headers, body):
+        self.status = status
+        self.headers = headers
+        self.body = body
+
+    @property
+    def version(self):
+        """The version that the reply names."""
+        return self.headers.get("x-amz-version-id")
+
+    @property
+    def is_marker(self):
+        """Whether it names a delete marker."""
+        return self.headers.get("x-amz-delete-marker") == "true"
+
+    def __str__(self):
+        return f"{self.status} {self.headers} {self.body[:400]!r}"
+
+
+def request_of(method, target, body=None, headers=()):
+    """The bytes of a request."""
+    lines = [f"{method} {target} HTTP/1.1", "Host: store", *headers]
+    if body is not None:
+        lines.append(f"Content-Length: {len(body)}")
+    return "\r\n".join([*lines, "", ""]).encode() + (body or b"")
+
+
+class Pipe:
+    """The program with these words before `pipe`."""
+
+    def __init__(self, words, program=PROGRAM):
+        self.process = subprocess.Popen(
+            [str(program), *words, "pipe"],
+            stdin=subprocess.PIPE,
+            stdout=subprocess.PIPE,
+            stderr=subprocess.PIPE,
+        )
+        self.began = time.monotonic()
+
+    def ask(self, method, target, body=None, headers=()):
+        """The reply to a request. Cut where the process ends before."""
+        try:
+            self.process.stdin.write(request_of(method, target, body, headers))
+            self.process.stdin.flush()
+        except (BrokenPipeError, ConnectionResetError):
+            raise Cut from None
+        return self.reply(method)
+
+    def reply(self, method):
+        """The next reply, which is that to a request of this method."""
+        head = self.head()
+        if head[0] == 100:
+            head = self.head()
+        status, headers = head
+        length = 0 if method == "HEAD" or status == 204 else int(headers["content-length"])
+        body = self.process.stdout.read(length)
+        if len(body) < length:
+            raise Cut
+        return Reply(status, headers, body)
+
+    def head(self):
+        """The next head, as its status and its headers."""
+        lines = []
+        while not lines or lines[-1] != b"\r\n":
+            line = self.process.stdout.readline()
+            if not line.endswith(b"\n"):
+                raise Cut
+            lines.append(line)
+        headers = {}
+        for line in lines[1:-1]:
+            name, _, value = line.decode("latin-1").rstrip("\r\n").partition(": ")
+            headers[name.lower()] = value
+        return int(lines[0].split()[1]), headers
+
+    def kill(self):
+        """Ends the process by SIGKILL."""
+        self.process.kill()
+
+    def wait(self):
+        """The exit status of a process that ends or was killed, and what it said on standard error."""
+        said = self.process.stderr.read().decode(errors="replace").strip()
+        status = self.process.wait()
+        for stream in (self.process.stdin, self.process.stdout, self.process.stderr):
+            try:
+                stream.close()
+            except BrokenPipeError:
+                pass
+        return status, said
+
+    def close(self):
+        """Ends the input, and waits."""
+        try:
+            self.process.stdin.close()
+        except BrokenPipeError:
+            pass
+        return self.wait()
