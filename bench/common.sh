@@ -34,6 +34,17 @@ new_program() {
     mkdir -p "$work/crates/$name/src"
 }
 
+# Takes the libraries that this checkout has built; rt uses those that are of the same text, and builds the others.
+take_libraries() {
+    local folder crate
+    for folder in "$top"/crates/*/out/rlib; do
+        crate="$(basename "${folder%/out/rlib}")"
+        [[ -d "$folder" && -d "$work/crates/$crate" ]] || continue
+        mkdir -p "$work/crates/$crate/out/rlib"
+        cp -rl "$folder/." "$work/crates/$crate/out/rlib/" 2>/dev/null || cp -r "$folder/." "$work/crates/$crate/out/rlib/"
+    done
+}
+
 # Proves, builds and runs a program, and leaves what it prints in "$work/out": run_program NAME [FLAG..]
 run_program() {
     local name="$1"

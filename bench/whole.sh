@@ -4,8 +4,13 @@
 # bytes) by processor time, the best of five runs of 16 MiB and of two of 256 MiB. Beside it stands the speed that their
 # parts alone would have together, measured in the same run over stripes of 1 MiB: SHA-256 of the blocks in four lanes,
 # MD5, and the code. Then come what part of that speed is reached, and the share of the time that each of these parts
-# takes; what is left are copies, the drives' own work and blocks that fill no lanes. The program is proved and built in a
-# temporary repository with copies of the crates; the first time that takes some minutes.
+# takes; what is left are copies, the drives' own work and blocks that fill no lanes.
+#
+# PUTs to drives that keep nothing come besides, which leave out the drives' own work. The most resident memory is that of
+# a process that makes only these, as GNU time tells it, also on a set of five, whose windows are the longest.
+#
+# The program is proved and built in a temporary repository with copies of the crates; the first time that takes some
+# minutes.
 set -euo pipefail
 
 source "$(dirname "$(readlink -f "${BASH_SOURCE[0]}")")/common.sh"
@@ -18,14 +23,17 @@ cat >"$work/crates/whole_bench/src/main.rt" <<'END'
 mod bodies;
 mod feed;
 mod parts;
+mod sinks;
 
-use bodies::time_bodies;
+use bodies::{time_bodies, time_sinks};
 use parts::time_parts;
+use std::env;
 use std::process::ExitCode;
 use std::time::Duration;
 
 fn main(rt: HostRuntime) -> ExitCode {
-    match measure(&rt) {
+    let measured = if has_word(&rt) { measure_sinks(&rt) } else { measure(&rt) };
+    match measured {
         Some(()) => ExitCode::SUCCESS,
         None => {
             let _ = eprintln!(rt; "whole_bench: no memory, no clock or another body");
@@ -40,7 +48,26 @@ fn measure(rt: &HostRuntime) -> Option<()> {
         time_bodies(rt, drives, 16_777_216, 5)?;
         time_bodies(rt, drives, 268_435_456, 2)?;
     }
+    measure_sinks(rt)
+}
+
+fn measure_sinks(rt: &HostRuntime) -> Option<()> {
+    for drives in [6u8, 4, 5] {
+        time_sinks(rt, drives, 16_777_216, 5)?;
+        time_sinks(rt, drives, 268_435_456, 2)?;
+    }
     Some(())
+}
+
+/// Whether a word stands behind the program's name.
+fn has_word(rt: &HostRuntime) -> bool {
+    match env::args(rt) {
+        Ok(mut words) => {
+            let _name = words.next();
+            words.next().is_some()
+        }
+        Err(_) => false,
+    }
 }
 
 /// Prints the MB/s of so many bytes in a time.
@@ -118,6 +145,74 @@ impl Feed for Repeats {
     }
 }
 END
+cat >"$work/crates/whole_bench/src/sinks.rt" <<'END'
+//! Drives that keep nothing.
+
+ghost use Rattle.std.specs.Prelude.{◌≡◌, IfOk, false, length};
+ghost use Rattle.drive_base.specs.Files.{no_files};
+
+use drive_base::{Drive, DriveFault};
+use std::alloc::{AllocError, Global};
+
+/// A drive that takes what it is given and keeps none of it. It tells nothing.
+#[derive(Drop)]
+pub struct Sink {}
+
+/// So many drives.
+pub fn sinks(alloc: Global, count: u8) -> Result<Vec<Sink>, AllocError>
+    ensures { IfOk result (λ drives. length drives.items ≡ count) }
+{
+    let mut drives = Vec::new(alloc);
+    for _ in 0..count {
+        drives.push(Sink {})?;
+    }
+    Ok(drives)
+}
+
+impl Drive for Sink {
+    ghost tells = { λ drive. false };
+
+    ghost files = { λ drive. no_files };
+
+    ghost count = { λ drive. 0 };
+
+    fn size(&mut self, _name: &str) -> Result<u64, DriveFault> {
+        Err(DriveFault::Absent)
+    }
+
+    fn read(&mut self, _name: &str, _at: u64, _into: &mut [u8]) -> Result<usize, DriveFault> {
+        Err(DriveFault::Absent)
+    }
+
+    fn append(&mut self, _loose: &str, _bytes: &[u8]) -> Result<(), DriveFault> {
+        Ok(())
+    }
+
+    fn sync(&mut self, _loose: &str) -> Result<(), DriveFault> {
+        Ok(())
+    }
+
+    fn rename(&mut self, _loose: &str, _name: &str) -> Result<(), DriveFault> {
+        Ok(())
+    }
+
+    fn discard(&mut self, _loose: &str) -> Result<(), DriveFault> {
+        Ok(())
+    }
+
+    fn remove(&mut self, _name: &str) -> Result<(), DriveFault> {
+        Ok(())
+    }
+
+    fn names(&mut self, _alloc: Global, _from: &str, _most: u32) -> Result<Vec<String>, DriveFault> {
+        Err(DriveFault::NoMemory)
+    }
+
+    fn faults(&self) -> u64 {
+        0
+    }
+}
+END
 cat >"$work/crates/whole_bench/src/bodies.rt" <<'END'
 //! Bodies put and got.
 
@@ -125,8 +220,9 @@ ghost use Rattle.std.specs.Prelude.{◌≡◌, ◌+◌, ◌≤◌, ◌<◌, ◌^
 
 use crate::feed::{PERIOD, Repeats, period};
 use crate::report;
+use crate::sinks::sinks;
 use call_types::{Feed, Span};
-use drive_base::SetPlan;
+use drive_base::{Drive, SetPlan};
 use drive_memory::MemDrive;
 use get_read::{ReadStep, Reader};
 use put_stage::{Stage, StageNext};
@@ -149,6 +245,33 @@ pub fn time_bodies(rt: &HostRuntime, drives: u8, size: u64, runs: u32) -> Option
     }
     report(rt, "put", drives, size, puts)?;
     report(rt, "get", drives, size, gets)
+}
+
+/// Prints the best time of a PUT to so many drives that keep nothing, two of them parity.
+pub fn time_sinks(rt: &HostRuntime, drives: u8, size: u64, runs: u32) -> Option<()>
+    requires enough { 4 ≤ drives }
+    requires few { drives ≤ 16 }
+    requires size { size ≤ 5368709120 }
+{
+    let mut puts = Duration::MAX;
+    for _ in 0..runs {
+        puts = puts.min(time_sink(rt, drives, size)?);
+    }
+    report(rt, "sink", drives, size, puts)
+}
+
+/// The time of a PUT to drives that keep nothing.
+fn time_sink(rt: &HostRuntime, drives: u8, size: u64) -> Option<Duration>
+    requires enough { 4 ≤ drives }
+    requires few { drives ≤ 16 }
+    requires size { size ≤ 5368709120 }
+{
+    let set = SetPlan::new([0; 16], drives, 2);
+    let mut drives = sinks(rt.alloc(), set.drives).ok()?;
+    let feed = Repeats::new(period(rt.alloc()).ok()?, size);
+    let from = rt.thread_cpu_time().ok()?;
+    let _print = put(rt.alloc(), set, size, feed, drives.as_mut_slice())?;
+    rt.thread_cpu_time().ok()?.checked_sub(from)
 }
 
 /// The times of a PUT and of a GET.
@@ -186,7 +309,7 @@ fn id() -> VersionId {
 }
 
 /// Puts a body, and tells its print.
-fn put(alloc: Global, set: SetPlan, size: u64, feed: Repeats, drives: &mut [MemDrive]) -> Option<[u8; 32]>
+fn put<D: Drive>(alloc: Global, set: SetPlan, size: u64, feed: Repeats, drives: &mut [D]) -> Option<[u8; 32]>
     requires drives { length drives.old ≡ set.drives }
     requires size { size ≤ 5368709120 }
     requires stated { (⟦<Repeats as Feed>⟧.seen feed).stated ≡ size }
@@ -197,7 +320,7 @@ fn put(alloc: Global, set: SetPlan, size: u64, feed: Repeats, drives: &mut [MemD
 }
 
 /// Runs a stage to its end.
-fn finish(alloc: Global, stage: Stage, feed: Repeats, drives: &mut [MemDrive]) -> Option<[u8; 32]>
+fn finish<D: Drive>(alloc: Global, stage: Stage, feed: Repeats, drives: &mut [D]) -> Option<[u8; 32]>
     requires drives { length drives.old ≡ stage.load.set.drives }
     requires feed { (⟦<Repeats as Feed>⟧.seen feed).given + stage.load.left ≡ (⟦<Repeats as Feed>⟧.seen feed).stated }
 {
@@ -339,14 +462,14 @@ END
 
 # The proofs that the loops keep what the calls ask for.
 proofs="$work/crates/whole_bench/proofs"
-mkdir -p "$proofs/bodies/finish" "$proofs/bodies/fresh" "$proofs/bodies/read_on"
+mkdir -p "$proofs/bodies/finish" "$proofs/bodies/fresh" "$proofs/bodies/read_on" "$proofs/sinks/sinks"
 echo >"$proofs/Lib.antt"
 cat >"$proofs/bodies/finish/Invariants.antt" <<'END'
 use Rattle.std.proofs.Common.{◌≡◌, ◌+◌, length}
 use Rattle.whole_bench.proofs.bodies.finish.Given as goal
 
 abbrev pub invariant-loop-round : goal.invariant-loop-round
-invariant-loop-round l = record {
+invariant-loop-round g l = record {
   drives : length l.drives ≡ l.stage.load.set.drives;
   feed : l.feed.given + l.stage.load.left ≡ l.feed.stated;
 }
@@ -358,6 +481,7 @@ use Rattle.whole_bench.proofs.bodies.fresh.Given as goal
 abbrev pub invariant-loop : goal.invariant-loop
 invariant-loop l = length l.drives.items ≡ l.counter
 END
+sed 's/bodies.fresh/sinks.sinks/' "$proofs/bodies/fresh/Invariants.antt" >"$proofs/sinks/sinks/Invariants.antt"
 cat >"$proofs/bodies/read_on/Invariants.antt" <<'END'
 use Rattle.std.proofs.Common.{◌≡◌, length}
 use Rattle.whole_bench.proofs.bodies.read_on.Given as goal
@@ -370,16 +494,20 @@ awk '
     function share(name, work, rate) { return sprintf("  %s %.0f %%", name, 100 * work / alone[name] * rate) }
     $1 == "lanes" || $1 == "md5" || $1 == "rebuild" { alone[$1] = $4 }
     $1 == "encode" { alone[$1, $2] = $4 }
-    $1 == "put" || $1 == "get" {
-        drives = $2; data = drives - 2; blocks = $1 == "put" ? drives / data : 1
+    $1 == "put" || $1 == "get" || $1 == "sink" {
+        drives = $2; data = drives - 2; blocks = $1 != "get" ? drives / data : 1
+        if (!(("encode", drives) in alone)) next
         time = blocks / alone["lanes"]
-        if ($1 == "put") time += 1 / alone["md5"] + 1 / alone["encode", drives]
+        if ($1 != "get") time += 1 / alone["md5"] + 1 / alone["encode", drives]
         else time += 1 / alone["rebuild"]
-        line = sprintf("%s of %3d MiB on %d+2 %8d MB/s, the parts alone %4.0f, %.2f of it:", toupper($1), $3 / 1048576, data, $4, 1 / time, $4 * time)
+        what = $1 == "sink" ? "PUT to drives that keep nothing" : toupper($1)
+        line = sprintf("%s of %3d MiB on %d+2 %8d MB/s, the parts alone %4.0f, %.2f of it:", what, $3 / 1048576, data, $4, 1 / time, $4 * time)
         line = line share("lanes", blocks, $4)
-        if ($1 == "put") { alone["encode"] = alone["encode", drives]; line = line share("md5", 1, $4) share("encode", 1, $4) }
+        if ($1 != "get") { alone["encode"] = alone["encode", drives]; line = line share("md5", 1, $4) share("encode", 1, $4) }
         else line = line share("rebuild", 1, $4)
         print line
     }
     END { printf "alone: SHA-256 in lanes %d MB/s of blocks, MD5 %d, encode %d on 4+2 and %d on 2+2, rebuild of blocks at hand %d\n", \
         alone["lanes"], alone["md5"], alone["encode", 6], alone["encode", 4], alone["rebuild"] }' "$work/out"
+program="$work/crates/whole_bench/out/whole_bench"
+echo "most resident memory of PUTs to drives that keep nothing: $(/usr/bin/time -f %M "$program" sinks 2>&1 >"$work/sinks") KiB"

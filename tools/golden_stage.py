@@ -16,6 +16,7 @@ STRIPE = 1048576
 NAME = b"k/pic/a"
 SETS = ((4, 2), (5, 2), (8, 4), (16, 8))
 LENGTHS = (0, 1, 5, STRIPE, STRIPE + 1)
+WINDOWS = ((5, 2, 6 * STRIPE + 5), (6, 2, 3 * STRIPE + 1))
 ROWS = (b"\x41\x42", b"\x00\x80")
 
 
@@ -100,14 +101,14 @@ def show_sets():
     """One digest of all files of a stage: on each drive in order the shard file, then the manifest."""
     print("\n/// The drives and the parity of a set, the bytes of a body whose byte i is i mod 251, the SHA-256 of the files of all")
     print("/// drives in order, on each the shard file and then the manifest, and the print of the body.")
-    print(f"pub const STAGES: [(u8, u8, u32, &str, &str); {len(SETS) * len(LENGTHS)}] = [")
-    for drives, parity in SETS:
-        for length in LENGTHS:
-            shards = shards_of(bytes(i % 251 for i in range(length)), drives, parity)
-            manifest, digest = manifest_of(drives, parity, [(identity, length, roots_of(shards))])
-            files = hashlib.sha256(b"".join(file_of(shard) + manifest for shard in shards)).hexdigest()
-            print(f'    (\n        {drives},\n        {parity},\n        {length},')
-            print(f'        "{files}",\n        "{digest.hex()}",\n    ),')
+    rows = [(*plan, length) for plan in SETS for length in LENGTHS] + list(WINDOWS)
+    print(f"pub const STAGES: [(u8, u8, u32, &str, &str); {len(rows)}] = [")
+    for drives, parity, length in rows:
+        shards = shards_of(bytes(i % 251 for i in range(length)), drives, parity)
+        manifest, digest = manifest_of(drives, parity, [(identity, length, roots_of(shards))])
+        files = hashlib.sha256(b"".join(file_of(shard) + manifest for shard in shards)).hexdigest()
+        print(f'    (\n        {drives},\n        {parity},\n        {length},')
+        print(f'        "{files}",\n        "{digest.hex()}",\n    ),')
     print("];")
 
 

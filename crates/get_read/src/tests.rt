@@ -3,6 +3,7 @@
 mod ailing;
 mod golden;
 mod hello;
+mod large;
 mod made;
 mod rows;
 mod sizes;

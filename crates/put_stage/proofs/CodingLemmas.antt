@@ -17,11 +17,11 @@ use Rattle.put_stage.specs.Coding.{IsCoded}
 use Rattle.put_stage.specs.declared.stripes.Stripe.{Stripe}
 
 -- byte k of a piece
-byte_of_piece : (size r k : ℕ) (bytes : List ℕ) → k < size → slice_index (piece size bytes r) k ≡ slice_index bytes (size * r + k)
+pub byte_of_piece : (size r k : ℕ) (bytes : List ℕ) → k < size → slice_index (piece size bytes r) k ≡ slice_index bytes (size * r + k)
 byte_of_piece size r k bytes inside = get_or-take size (drop (size * r) bytes) k 0 inside ∙ get_or-drop (size * r) bytes k 0
 
 -- a piece of the front is one of the whole
-piece_of_front : (size r : ℕ) (front back : List ℕ) → size * (r + 1) ≤ length front → piece size (front ++ back) r ≡ piece size front r
+pub piece_of_front : (size r : ℕ) (front back : List ℕ) → size * (r + 1) ≤ length front → piece size (front ++ back) r ≡ piece size front r
 piece_of_front size r front back within =
     let split : size * (r + 1) ≡ size * r + size = omega arith in
     let rest : length (drop (size * r) front) ≡ length front - size * r = length-drop (size * r) front in
@@ -33,7 +33,7 @@ pub piece_ends : (size r count : ℕ) → r < count → size * (r + 1) ≤ size 
 piece_ends size r count low = mul-le-mul_left size (omega arith)
 
 -- the bytes of a column are those of the blocks
-column_of_blocks : (d p n size k : ℕ) (front parity : List ℕ) → d + p ≡ n → length front ≡ size * d → k < size
+pub column_of_blocks : (d p n size k : ℕ) (front parity : List ℕ) → d + p ≡ n → length front ≡ size * d → k < size
     → column d size k front ++ column p size k parity ≡ map (λ (block : List ℕ). slice_index block k) (pieces size n (front ++ parity))
 column_of_blocks d p n size k front parity whole long inside =
     let blocks = pieces size n (front ++ parity) in

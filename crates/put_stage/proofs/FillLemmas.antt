@@ -1,13 +1,11 @@
--- What a fill leaves: one stripe more, and its blocks to be appended.
-use Rattle.std.proofs.Common.{◌≡◌, ◌≢◌, ◌∙◌, ℕ, ◌+◌, ◌<◌, ◌≤◌, true, false, List, [], ◌∷◌, ◌++◌, length, map, slice_index_or, slice_set, below_more, Option, Some, None, ap, refl, subst, sym, inl, arith, append-nil, append_assoc}
-use Rattle.std.specs.Prelude.{Bool, Vec}
+-- What a fill leaves: further stripes, and their blocks to be appended.
+use Rattle.std.proofs.Common.{◌≡◌, ◌≢◌, ◌∙◌, ℕ, ◌+◌, ◌*◌, ◌<◌, ◌≤◌, true, false, List, [], ◌++◌, length, map, take, drop, slice_index_or, slice_set, below_more, Option, Some, None, ap, refl, subst, sym, inl, inr, arith, append_assoc}
+use Rattle.std.specs.Prelude.{◌⊎◌, ◌%◌, ◌==◌, if◌then◌else◌, Bool, Vec}
 use Rattle.std.specs.List.{concat}
 use Rattle.std.specs.Io.KnownBytes.{prepend_known}
-use Rattle.std.proofs.lemmas.List.{get_or-map, get_or-set_other, get_or-set_same, get_or_default, length-append, length-map, map-set, same_lists}
+use Rattle.std.proofs.lemmas.List.{get_or-map, get_or-set_other, get_or-set_same, length-append, length-map, map-set}
 use Rattle.std.proofs.lemmas.List.Folds.{concat-append}
-use Rattle.std.proofs.lemmas.List.FromFn.{get_or-map-range_with_len, length-map-range_with_len}
 use Rattle.md5.specs.Md5.{Holds}
-use Rattle.sha2.specs.Sha256.{sha256}
 use Rattle.call_types.specs.Feeds.{FeedView, Gave}
 use Rattle.call_types.specs.Good.{is_good}
 use Rattle.call_types.specs.declared.why.FileKind.TheVariants.{Format, Register, Manifest as ManifestKind, Shard as ShardKind}
@@ -16,21 +14,21 @@ use Rattle.call_types.specs.declared.why.Why.TheVariants.{Good, Failed, Damaged,
 use Rattle.drive_base.specs.Plan.{data_drives}
 use Rattle.drive_base.specs.declared.plan.SetPlan.{SetPlan}
 use Rattle.shard_file.specs.Shards.{table_of}
-use Rattle.shard_file.specs.Stripes.{pieces, stripe_size}
-use Rattle.shard_file.proofs.Pieces.{get_or-pieces, length-pieces}
-use Rattle.body_print.specs.Shards.{AreShards, with_blocks}
-use Rattle.body_print.proofs.GrowingLemmas.{stripes_are_added}
+use Rattle.shard_file.specs.Stripes.{stripe_size}
+use Rattle.body_print.specs.Shards.{AreShards}
 use Rattle.put_stage.specs.Cells.{DataCells}
-use Rattle.put_stage.specs.Coding.{IsCoded, all_bytes, block_at}
+use Rattle.put_stage.specs.Coding.{all_bytes, block_at}
 use Rattle.put_stage.specs.Dues.{is_block, is_early}
 use Rattle.put_stage.specs.Filling.{AreDueAfter}
 use Rattle.put_stage.specs.Stepping.{MayFill}
-use Rattle.put_stage.specs.Taking.{Filled, GaveUpTo, HasTaken, IsMadeOf, IsSameTask, TookStripe, WorkGoesOn, last_blocks}
+use Rattle.put_stage.specs.Taking.{Filled, GaveUpTo, HasTaken, IsMadeOf, IsSameTask, TookWindow, WorkGoesOn}
+use Rattle.put_stage.specs.Windows.{AreWholeStripes, IsNextLength, IsWindow, window_size, window_stripes, with_shards}
 use Rattle.put_stage.specs.Working.{Blocks, HasBy, HasFailedAt, IsBefore, due_at, why_at}
 use Rattle.put_stage.specs.declared.dues.Due.{Due}
 use Rattle.put_stage.specs.declared.dues.Due.TheVariants.{Block, Table, SyncShard, Manifest, SyncManifest, PlaceManifest, PlaceShard, Nothing}
 use Rattle.put_stage.specs.declared.stage.Load.{Load}
 use Rattle.put_stage.specs.declared.stage.Stage.{Stage}
+use Rattle.put_stage.proofs.JoinLemmas.{shard_with, shards_joined, tables_joined}
 
 -- nothing was given
 pub prepend-nothing : (left : Option (List ℕ)) → left ≡ prepend_known [] left
@@ -60,139 +58,89 @@ gave_more xs most all before between after old mid new first counted second fits
   gave = gave_both xs second.bytes old mid new first second.gave;
 }
 
--- a shard with the block of one stripe more
-shard_with : (n k : ℕ) (shards : List (List (List ℕ))) (blocks : List (List ℕ)) → length shards ≡ n → k < n
-    → slice_index_or (with_blocks shards blocks) k [] ≡ slice_index_or shards k [] ++ slice_index_or blocks k [] ∷ []
-shard_with n k shards blocks long low =
-    get_or-map-range_with_len (λ (r : ℕ). slice_index_or shards r [] ++ slice_index_or blocks r [] ∷ []) 0 (length shards) k k [] (omega arith) (omega arith)
-
--- its blocks, joined
-blocks_with : (all : List (List ℕ)) (block : List ℕ) → concat (all ++ block ∷ []) ≡ concat all ++ block
-blocks_with all block = concat-append all (block ∷ []) ∙ ap (λ (last : List ℕ). concat all ++ last) (append-nil block)
-
--- its digest table
-table_with : (all : List (List ℕ)) (block : List ℕ) → table_of (all ++ block ∷ []) ≡ table_of all ++ sha256 block
-table_with [] block = append-nil (sha256 block)
-table_with (x ∷ all) block = ap (λ (rest : List ℕ). sha256 x ++ rest) (table_with all block) ∙ sym (append_assoc (sha256 x) (table_of all) (sha256 block))
-
--- a digest was added to a table: the tables up to it have theirs, and those behind it are as they were
-module _ {Z : Type 0} (tables : List (Vec ℕ Z)) (was digests : List (List ℕ)) (i : ℕ) (default now : Vec ℕ Z) where
+-- digests were added to a table: the tables up to it have theirs, and those behind it are as they were
+module _ {Z : Type 0} (tables : List (Vec ℕ Z)) (was : List (List ℕ)) (added_to : ℕ → List ℕ) (i : ℕ) (default now : Vec ℕ Z) where
   put_table : all_bytes (slice_set tables i now) ≡ slice_set (all_bytes tables) i now.items
   put_table = map-set (λ (file : Vec ℕ Z). file.items) tables i now
 
   other_table : (k : ℕ) → k ≢ i → slice_index_or (all_bytes (slice_set tables i now)) k [] ≡ slice_index_or (all_bytes tables) k []
   other_table k apart = ap (λ (all : List (List ℕ)). slice_index_or all k []) put_table ∙ get_or-set_other (all_bytes tables) i k now.items [] apart
 
-  pub digest_added : i < length tables → now.items ≡ (slice_index_or tables i default).items ++ slice_index_or digests i []
-      → ((k : ℕ) → k < i → slice_index_or (all_bytes tables) k [] ≡ slice_index_or was k [] ++ slice_index_or digests k [])
+  pub digests_added : i < length tables → now.items ≡ (slice_index_or tables i default).items ++ added_to i
+      → ((k : ℕ) → k < i → slice_index_or (all_bytes tables) k [] ≡ slice_index_or was k [] ++ added_to k)
       → ((k : ℕ) → i ≤ k → slice_index_or (all_bytes tables) k [] ≡ slice_index_or was k [])
-      → (k : ℕ) → k < i + 1 → slice_index_or (all_bytes (slice_set tables i now)) k [] ≡ slice_index_or was k [] ++ slice_index_or digests k []
-  digest_added low joined added others =
+      → (k : ℕ) → k < i + 1 → slice_index_or (all_bytes (slice_set tables i now)) k [] ≡ slice_index_or was k [] ++ added_to k
+  digests_added low joined added others =
       let inside : i < length (all_bytes tables) = omega (arith, length-map tables (λ (file : Vec ℕ Z). file.items)) in
       let had : slice_index_or (all_bytes tables) i [] ≡ (slice_index_or tables i default).items =
       get_or-map (λ (file : Vec ℕ Z). file.items) tables i default [] low in
-      below_more (λ k. slice_index_or (all_bytes (slice_set tables i now)) k [] ≡ slice_index_or was k [] ++ slice_index_or digests k []) i
+      below_more (λ k. slice_index_or (all_bytes (slice_set tables i now)) k [] ≡ slice_index_or was k [] ++ added_to k) i
       (λ k h. let apart : k ≢ i = omega arith in other_table k apart ∙ added k h)
       (ap (λ (all : List (List ℕ)). slice_index_or all i []) put_table ∙ get_or-set_same (all_bytes tables) i now.items [] inside
-      ∙ joined ∙ ap (λ (front : List ℕ). front ++ slice_index_or digests i []) (sym had ∙ others i (omega arith)))
+      ∙ joined ∙ ap (λ (front : List ℕ). front ++ added_to i) (sym had ∙ others i (omega arith)))
 
   pub others_stay : ((k : ℕ) → i ≤ k → slice_index_or (all_bytes tables) k [] ≡ slice_index_or was k [])
       → (k : ℕ) → i + 1 ≤ k → slice_index_or (all_bytes (slice_set tables i now)) k [] ≡ slice_index_or was k []
   others_stay others k past = let apart : k ≢ i = omega arith in other_table k apart ∙ others k (omega arith)
 
--- all tables of one stripe more
-tables_with : (n : ℕ) (shards : List (List (List ℕ))) (blocks old new digests : List (List ℕ)) → length shards ≡ n → length blocks ≡ n → length new ≡ n
-    → old ≡ map table_of shards → digests ≡ map sha256 blocks
-    → ((k : ℕ) → k < n → slice_index_or new k [] ≡ slice_index_or old k [] ++ slice_index_or digests k [])
-    → new ≡ map table_of (with_blocks shards blocks)
-tables_with n shards blocks old new digests shards_long blocks_long new_long old_is digests_are each =
-    let after : List (List (List ℕ)) = with_blocks shards blocks in
-    let after_long : length after ≡ length shards = length-map-range_with_len (λ (r : ℕ). slice_index_or shards r [] ++ slice_index_or blocks r [] ∷ []) 0 (length shards) in
-    let mapped : length (map table_of after) ≡ length after = length-map after table_of in
-    same_lists new (map table_of after) (omega (arith, mapped, after_long, shards_long, new_long))
-    (λ k x below.
-    let low : k < n = omega (arith, new_long, below) in
-    let was : slice_index_or old k [] ≡ table_of (slice_index_or shards k []) =
-    ap (λ (tables : List (List ℕ)). slice_index_or tables k []) old_is ∙ get_or-map table_of shards k [] [] (omega (arith, shards_long, low)) in
-    let digest : slice_index_or digests k [] ≡ sha256 (slice_index_or blocks k []) =
-    ap (λ (all : List (List ℕ)). slice_index_or all k []) digests_are ∙ get_or-map sha256 blocks k [] [] (omega (arith, blocks_long, low)) in
-    let here : slice_index_or (map table_of after) k [] ≡ table_of (slice_index_or after k []) =
-    get_or-map table_of after k [] [] (omega (arith, after_long, shards_long, low)) in
-    get_or_default new k x [] (omega (arith, new_long, low))
-    ∙ each k low ∙ ap (λ (front : List ℕ). front ++ slice_index_or digests k []) was
-    ∙ ap (λ (back : List ℕ). table_of (slice_index_or shards k []) ++ back) digest
-    ∙ sym (table_with (slice_index_or shards k []) (slice_index_or blocks k []))
-    ∙ ap table_of (sym (shard_with n k shards blocks shards_long low))
-    ∙ sym here
-    ∙ sym (get_or_default (map table_of after) k x [] (omega (arith, mapped, after_long, shards_long, low))))
-
--- a load with one stripe more; where it is the last one, what is made of it stands
-pub taken_more : (old new : Load) (body stripe : List ℕ) (shards : List (List (List ℕ))) → HasTaken old body shards → IsSameTask old new
-    → 0 < length stripe → 0 < old.left → length stripe ≤ stripe_size → length stripe + new.left ≡ old.left → (0 < new.left → length stripe ≡ stripe_size)
-    → IsCoded old.set.drives (data_drives old.set.drives old.set.parity) stripe new.window
-    → length new.window.digests.items ≡ old.set.drives
-    → ((k : ℕ) → k < old.set.drives → slice_index_or (all_bytes new.tables.items) k [] ≡ slice_index_or (all_bytes old.tables.items) k [] ++ slice_index_or new.window.digests.items k [])
-    → (0 < new.left → Holds new.hasher (body ++ stripe))
-    → (new.left ≡ 0 → all_bytes new.tables.items ≡ map table_of (with_blocks shards (last_blocks new))
-    → AreShards new.set.drives (data_drives new.set.drives new.set.parity) (body ++ stripe) (with_blocks shards (last_blocks new))
-    → IsMadeOf new (body ++ stripe) (with_blocks shards (last_blocks new)) new.made)
-    → HasTaken new (body ++ stripe) (with_blocks shards (last_blocks new))
-taken_more old new body stripe shards taken task some was fits left full coded digests_long digests hashed made =
+-- a load with further stripes; where no byte is left, what is made of it stands
+pub taken_more : (old new : Load) (body bytes : List ℕ) (shards : List (List (List ℕ))) → HasTaken old body shards → IsSameTask old new
+    → 0 < old.left → length bytes + new.left ≡ old.left → (0 < new.left → AreWholeStripes (length bytes))
+    → (window : IsWindow old.set.drives (data_drives old.set.drives old.set.parity) bytes new.window)
+    → ((k : ℕ) → k < old.set.drives → slice_index_or (all_bytes new.tables.items) k [] ≡ slice_index_or (all_bytes old.tables.items) k [] ++ table_of (slice_index_or window.shards k []))
+    → (0 < new.left → Holds new.hasher (body ++ bytes))
+    → (new.left ≡ 0 → all_bytes new.tables.items ≡ map table_of (with_shards shards window.shards)
+    → AreShards new.set.drives (data_drives new.set.drives new.set.parity) (body ++ bytes) (with_shards shards window.shards)
+    → IsMadeOf new (body ++ bytes) (with_shards shards window.shards) new.made)
+    → HasTaken new (body ++ bytes) (with_shards shards window.shards)
+taken_more old new body bytes shards taken task was left full window digests hashed made =
     let n = old.set.drives in
-    let p = old.set.parity in
     let d = data_drives old.set.drives old.set.parity in
     let whole = taken.whole was in
     let same_n : new.set.drives ≡ n = ap (λ (s : SetPlan). s.drives) task.set in
-    let blocks : List (List ℕ) = pieces new.window.size n new.window.blocks.items in
-    let blocks_are : last_blocks new ≡ blocks = ap (λ (m : ℕ). pieces new.window.size m new.window.blocks.items) same_n in
-    let after : List (List (List ℕ)) = with_blocks shards (last_blocks new) in
-    let joined = length-append body stripe in
-    let are_here : AreShards n d (body ++ stripe) (with_blocks shards blocks) =
-    stripes_are_added n d whole.0 body stripe shards blocks whole.1 some fits taken.are coded.blocks in
-    let are_old : AreShards n d (body ++ stripe) after =
-    subst (λ (b : List (List ℕ)). AreShards n d (body ++ stripe) (with_blocks shards b)) (sym blocks_are) are_here in
-    let are : AreShards new.set.drives (data_drives new.set.drives new.set.parity) (body ++ stripe) after =
-    subst (λ (s : SetPlan). AreShards s.drives (data_drives s.drives s.parity) (body ++ stripe) after) (sym task.set) are_old in
-    let bytes_long : length (all_bytes new.tables.items) ≡ n =
-    length-map new.tables.items _ ∙ new.tables_of_all ∙ same_n in
-    let tables_here : all_bytes new.tables.items ≡ map table_of (with_blocks shards blocks) =
-    tables_with n shards blocks (all_bytes old.tables.items) (all_bytes new.tables.items) new.window.digests.items taken.are.count
-    (length-pieces new.window.size n new.window.blocks.items) bytes_long taken.tables coded.digests digests in
+    let after : List (List (List ℕ)) = with_shards shards window.shards in
+    let joined = length-append body bytes in
+    let are_here : AreShards n d (body ++ bytes) after = shards_joined n d whole.0 body bytes shards window.shards whole.1 taken.are window.are in
+    let are : AreShards new.set.drives (data_drives new.set.drives new.set.parity) (body ++ bytes) after =
+    subst (λ (s : SetPlan). AreShards s.drives (data_drives s.drives s.parity) (body ++ bytes) after) (sym task.set) are_here in
+    let bytes_long : length (all_bytes new.tables.items) ≡ n = length-map new.tables.items _ ∙ new.tables_of_all ∙ same_n in
     let tables : all_bytes new.tables.items ≡ map table_of after =
-    tables_here ∙ ap (λ (b : List (List ℕ)). map table_of (with_blocks shards b)) (sym blocks_are) in
+    tables_joined n shards window.shards (all_bytes old.tables.items) (all_bytes new.tables.items) taken.are.count bytes_long taken.tables digests in
     record {
       of_body = task.alone ∙ taken.of_body;
       long = omega (arith, joined, taken.long, left, task.long);
-      whole = λ more. (whole.0 + 1, let long : length stripe ≡ stripe_size = full more in omega (arith, joined, whole.1, long));
+      whole = λ more. let further = full more in (whole.0 + further.0, omega (arith, joined, whole.1, further.1));
       are = are;
       tables = tables;
       hashed = hashed;
       made = λ none. made none tables are;
     }
 
--- a stripe was taken
-pub took_stripe : (old new : Load) (stripe : List ℕ) → IsSameTask old new → 0 < old.left → 0 < length stripe → length stripe ≤ stripe_size
-    → length stripe + new.left ≡ old.left → (0 < new.left → length stripe ≡ stripe_size)
-    → IsCoded old.set.drives (data_drives old.set.drives old.set.parity) stripe new.window
-    → ((k : ℕ) → k < old.set.drives → slice_index_or (all_bytes new.tables.items) k [] ≡ slice_index_or (all_bytes old.tables.items) k [] ++ slice_index_or new.window.digests.items k [])
-    → ((body : List ℕ) → Holds old.hasher body → 0 < new.left → Holds new.hasher (body ++ stripe))
-    → ((body : List ℕ) (shards : List (List (List ℕ))) → Holds old.hasher body → new.left ≡ 0 → new.long ≡ length (body ++ stripe)
-    → all_bytes new.tables.items ≡ map table_of shards → AreShards new.set.drives (data_drives new.set.drives new.set.parity) (body ++ stripe) shards
-    → IsMadeOf new (body ++ stripe) shards new.made)
-    → TookStripe old new stripe
-took_stripe old new stripe task was some fits left full coded digests hashed made = record {
+-- a window was taken
+pub took_window : (old new : Load) (bytes : List ℕ) → IsSameTask old new → 0 < old.left → 0 < length bytes → length bytes ≤ window_size old.set.drives
+    → length bytes + new.left ≡ old.left → (0 < new.left → AreWholeStripes (length bytes))
+    → (window : IsWindow old.set.drives (data_drives old.set.drives old.set.parity) bytes new.window)
+    → ((k : ℕ) → k < old.set.drives → slice_index_or (all_bytes new.tables.items) k [] ≡ slice_index_or (all_bytes old.tables.items) k []
+    ++ concat (take new.window.count (drop (new.window.count * k) new.window.digests.items)))
+    → ((body : List ℕ) → Holds old.hasher body → 0 < new.left → Holds new.hasher (body ++ bytes))
+    → ((body : List ℕ) (shards : List (List (List ℕ))) → Holds old.hasher body → new.left ≡ 0 → new.long ≡ length (body ++ bytes)
+    → all_bytes new.tables.items ≡ map table_of shards → AreShards new.set.drives (data_drives new.set.drives new.set.parity) (body ++ bytes) shards
+    → IsMadeOf new (body ++ bytes) shards new.made)
+    → TookWindow old new bytes
+took_window old new bytes task was some fits left full window digests hashed made = record {
   task = task;
   left = left;
   some = some;
   few = fits;
+  more = window.shards;
+  adjoin = window.adjoin;
   taken = λ body shards taken.
-      let counted : length new.window.digests.items ≡ old.set.drives =
-      ap length coded.digests ∙ length-map (pieces new.window.size old.set.drives new.window.blocks.items) sha256
-      ∙ length-pieces new.window.size old.set.drives new.window.blocks.items in
-      taken_more old new body stripe shards taken task some was fits left full coded counted digests (hashed body (taken.hashed was))
+      taken_more old new body bytes shards taken task was left full window
+      (λ k low. digests k low ∙ ap (λ (all : List (List ℕ)). slice_index_or (all_bytes old.tables.items) k [] ++ concat all) (window.digests k low))
+      (hashed body (taken.hashed was))
       (λ none tables are.
-      let long : new.long ≡ length (body ++ stripe) = omega (arith, task.long, taken.long, left, none, length-append body stripe) in
-      made body (with_blocks shards (last_blocks new)) (taken.hashed was) none long tables are);
+      let long : new.long ≡ length (body ++ bytes) = omega (arith, task.long, taken.long, left, none, length-append body bytes) in
+      made body (with_shards shards window.shards) (taken.hashed was) none long tables are);
 }
 
 -- early calls of a drive that failed left what is kept as it was
@@ -242,22 +190,19 @@ filled_early true old new early is same = ap is_early (is refl)
 filled_early false old new early is same = ap is_early (same refl) ∙ early
 
 -- the work goes on over a fill
-pub work_goes_on : (old new : Stage) (shards : List (List (List ℕ))) → MayFill old → new.whys ≡ old.whys → new.load.set ≡ old.load.set → length shards ≡ old.load.set.drives
-    → AreDueAfter old.whys old.dues new.dues → WorkGoesOn old new shards (with_blocks shards (last_blocks new.load))
-work_goes_on old new shards may letters set counted dues k first cells low at =
-    let n = old.load.set.drives in
-    let same_n : new.load.set.drives ≡ n = ap (λ (s : SetPlan). s.drives) set in
+pub work_goes_on : (old new : Stage) (shards more : List (List (List ℕ))) → MayFill old → new.whys ≡ old.whys → length shards ≡ old.load.set.drives
+    → ((k : ℕ) → k < old.load.set.drives → concat (slice_index_or more k []) ≡ block_at k new.load.window)
+    → AreDueAfter old.whys old.dues new.dues → WorkGoesOn old new shards (with_shards shards more)
+work_goes_on old new shards more may letters counted adjoin dues k first cells low at =
     let inside : k < length old.whys = omega (arith, old.letters, low) in
     let block : List ℕ = block_at k new.load.window in
     let blocks : List (List ℕ) = slice_index_or shards k [] in
-    let after : List (List ℕ) = slice_index_or (with_blocks shards (last_blocks new.load)) k [] in
+    let after : List (List ℕ) = slice_index_or (with_shards shards more) k [] in
     let why : why_at new k ≡ why_at old k = ap (λ (all : List Why). slice_index_or all k Good) letters in
     let early : is_early (due_at old k) ≡ true = at.early (inl may.some) in
-    let here : slice_index_or (last_blocks new.load) k [] ≡ block =
-    get_or-pieces new.load.window.size new.load.set.drives new.load.window.blocks.items k [] (omega (arith, same_n, low)) in
-    let grown : after ≡ blocks ++ block ∷ [] =
-    shard_with n k shards (last_blocks new.load) counted low ∙ ap (λ (b : List ℕ). blocks ++ b ∷ []) here in
-    let joined : concat after ≡ concat blocks ++ block = ap concat grown ∙ blocks_with blocks block in
+    let joined : concat after ≡ concat blocks ++ block =
+    ap concat (shard_with shards more k [] (omega (arith, counted, low))) ∙ concat-append blocks (slice_index_or more k [])
+    ∙ ap (λ (last : List ℕ). concat blocks ++ last) (adjoin k low) in
     record {
       early = λ unsettled. filled_early (is_good (why_at old k)) (due_at old k) (due_at new k) early (dues.serving k inside) (dues.others k inside);
       has = subst (λ (w : Why). HasBy w (due_at new k) block new.load.made.manifest.items (Some after) first cells) (sym why)
@@ -265,18 +210,48 @@ work_goes_on old new shards may letters set counted dues k first cells low at =
           blocks after first cells early (may.appended k low) (dues.serving k inside) (dues.others k inside) joined at.has);
     }
 
--- a stage took a stripe
-pub filled : (old new : Stage) (stripe : List ℕ) → MayFill old → TookStripe old.load new.load stripe → new.whys ≡ old.whys
-    → AreDueAfter old.whys old.dues new.dues → Filled old new stripe
-filled old new stripe may took letters dues = record {
+-- a stage took a window
+pub filled : (old new : Stage) (bytes : List ℕ) → MayFill old → TookWindow old.load new.load bytes → new.whys ≡ old.whys
+    → AreDueAfter old.whys old.dues new.dues → Filled old new bytes
+filled old new bytes may took letters dues = record {
   task = took.task;
   left = took.left;
   some = took.some;
   few = took.few;
   whys = letters;
   taken = λ body shards taken.
-      (with_blocks shards (last_blocks new.load), took.taken body shards taken, work_goes_on old new shards may letters took.task.set taken.are.count dues);
+      (with_shards shards took.more, took.taken body shards taken, work_goes_on old new shards took.more may letters taken.are.count took.adjoin dues);
 }
+
+-- the bytes that are taken are no more than four stripes
+window_most : (n : ℕ) → window_stripes n ≤ 4
+window_most n = most_of (n % 4 == 0) (n % 2 == 0)
+  where
+    most_of : (four two : Bool) → (if four then 1 else if two then 2 else 4) ≤ 4
+    most_of true two = omega arith
+    most_of false true = omega arith
+    most_of false false = omega arith
+
+pub window_few : (n left long : ℕ) → IsNextLength n left long → long ≤ 4 * stripe_size
+window_few n left long next = omega (arith, next.few, window_most n)
+
+-- and whole stripes, or less than one
+pub whole_or_one : (n left long : ℕ) → IsNextLength n left long → AreWholeStripes long ⊎ (long ≤ stripe_size)
+whole_or_one n left long next = elim next.whole [
+  | inl whole ↦ inl whole
+  | inr last ↦ inr (omega (arith, last.1))
+]
+
+-- where bytes are left they are whole stripes
+pub whole_before : (n left long after : ℕ) → IsNextLength n left long → long + after ≡ left → 0 < after → AreWholeStripes long
+whole_before n left long after next counted more = elim next.whole [
+  | inl whole ↦ whole
+  | inr last ↦ absurd (omega (arith, last.0, counted, more))
+]
+
+-- bytes are left or none is
+pub none_then_some : (left : ℕ) → left ≡ 0 → 0 < left → ⊥
+none_then_some left none some = omega (arith, none, some)
 
 -- where bytes are left it is no manifest alone
 pub of_a_body : (alone : Bool) (left : ℕ) → (alone ≡ true → left ≡ 0) → 0 < left → alone ≡ false

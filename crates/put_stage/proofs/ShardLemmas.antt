@@ -11,7 +11,7 @@ use Rattle.shard_file.proofs.Pieces.{get_or-pieces, length-pieces, map_map, map_
 use Rattle.shard_file.specs.Shards.{root_of, shard_bytes, table_of}
 use Rattle.shard_file.specs.Stripes.{piece, pieces, stripe_size, stripe_count}
 use Rattle.body_print.specs.Shards.{AreShards, AreStripeBlocks}
-use Rattle.put_stage.specs.Coding.{AreCoded, HasBlock, HasDigest, IsCoded, IsSharded, block_at, shard_of}
+use Rattle.put_stage.specs.Coding.{AreCoded, HasBlock, HasDigest, IsCoded, IsSharded, stripe_block, shard_of}
 use Rattle.put_stage.specs.declared.stripes.Stripe.{Stripe}
 use Rattle.put_stage.proofs.CodingLemmas.{piece_ends}
 
@@ -35,27 +35,27 @@ has_digest n d r stripe coded is low =
 
 -- one stripe more
 shard_more : (r i : ℕ) (stripes : List Stripe) (x : Stripe) → i < length stripes → x ≡ slice_index_or stripes i x
-    → shard_of r (take (i + 1) stripes) ≡ shard_of r (take i stripes) ++ block_at r x ∷ []
+    → shard_of r (take (i + 1) stripes) ≡ shard_of r (take i stripes) ++ stripe_block r x ∷ []
 shard_more r i stripes x low is =
     let pushed : take (i + 1) stripes ≡ take i stripes ++ x ∷ [] = take_more stripes i x low ∙ ap (λ (y : Stripe). take i stripes ++ y ∷ []) (sym is) in
-    ap (shard_of r) pushed ∙ map-append (block_at r) (take i stripes) (x ∷ [])
+    ap (shard_of r) pushed ∙ map-append (stripe_block r) (take i stripes) (x ∷ [])
 
 -- the blocks of one stripe more
 pub blocks_more : (r i : ℕ) (stripes : List Stripe) (x : Stripe) → i < length stripes → x ≡ slice_index_or stripes i x
-    → concat (shard_of r (take (i + 1) stripes)) ≡ concat (shard_of r (take i stripes)) ++ block_at r x
+    → concat (shard_of r (take (i + 1) stripes)) ≡ concat (shard_of r (take i stripes)) ++ stripe_block r x
 blocks_more r i stripes x low is =
     ap concat (shard_more r i stripes x low is)
-    ∙ concat-append (shard_of r (take i stripes)) (block_at r x ∷ [])
-    ∙ ap (λ (last : List ℕ). concat (shard_of r (take i stripes)) ++ last) (append-nil (block_at r x))
+    ∙ concat-append (shard_of r (take i stripes)) (stripe_block r x ∷ [])
+    ∙ ap (λ (last : List ℕ). concat (shard_of r (take i stripes)) ++ last) (append-nil (stripe_block r x))
 
 -- the digest of one stripe more
 pub table_more : (r i : ℕ) (stripes : List Stripe) (x : Stripe) → i < length stripes → x ≡ slice_index_or stripes i x
-    → table_of (shard_of r (take (i + 1) stripes)) ≡ table_of (shard_of r (take i stripes)) ++ sha256 (block_at r x)
+    → table_of (shard_of r (take (i + 1) stripes)) ≡ table_of (shard_of r (take i stripes)) ++ sha256 (stripe_block r x)
 table_more r i stripes x low is =
     ap table_of (shard_more r i stripes x low is)
-    ∙ ap concat (map-append sha256 (shard_of r (take i stripes)) (block_at r x ∷ []))
-    ∙ concat-append (map sha256 (shard_of r (take i stripes))) (sha256 (block_at r x) ∷ [])
-    ∙ ap (λ (last : List ℕ). table_of (shard_of r (take i stripes)) ++ last) (append-nil (sha256 (block_at r x)))
+    ∙ ap concat (map-append sha256 (shard_of r (take i stripes)) (stripe_block r x ∷ []))
+    ∙ concat-append (map sha256 (shard_of r (take i stripes))) (sha256 (stripe_block r x) ∷ [])
+    ∙ ap (λ (last : List ℕ). table_of (shard_of r (take i stripes)) ++ last) (append-nil (sha256 (stripe_block r x)))
 
 -- the shards that the coded stripes make
 abbrev pub made : ℕ → List Stripe → List (List (List ℕ))
@@ -71,8 +71,8 @@ blocks_of_stripe n d body (s ∷ ss) coded i inside =
     let within : i < length (s ∷ ss) = omega (arith, coded.count) in
     let same : map (λ (shard : List (List ℕ)). slice_index_or shard i []) (made n (s ∷ ss)) ≡ pieces it.size n it.blocks.items =
     map_map (λ (r : ℕ). shard_of r (s ∷ ss)) (λ (shard : List (List ℕ)). slice_index_or shard i []) (range_with_len 0 n)
-    ∙ map_same (λ (r : ℕ). slice_index_or (shard_of r (s ∷ ss)) i []) (λ (r : ℕ). block_at r it) (range_with_len 0 n)
-    (λ r. get_or-map (block_at r) (s ∷ ss) i s [] within) in
+    ∙ map_same (λ (r : ℕ). slice_index_or (shard_of r (s ∷ ss)) i []) (λ (r : ℕ). stripe_block r it) (range_with_len 0 n)
+    (λ r. get_or-map (stripe_block r) (s ∷ ss) i s [] within) in
     subst (AreStripeBlocks n d (piece stripe_size body i)) (sym same) (coded.each i s within).blocks
 
 -- the shards that the coded stripes of a body make are its shards
@@ -83,7 +83,7 @@ made_are_shards n d body stripes coded =
       count = count;
       blocks = λ r x below.
           ap length (get_or-map-range_with_len (λ (r : ℕ). shard_of r stripes) 0 n r r x (omega arith) (omega arith))
-          ∙ length-map stripes (block_at r) ∙ coded.count;
+          ∙ length-map stripes (stripe_block r) ∙ coded.count;
       stripes = λ i inside. blocks_of_stripe n d body stripes coded i inside;
     }
 

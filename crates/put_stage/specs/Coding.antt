@@ -5,10 +5,15 @@ use Rattle.body_print.specs.Shards.{AreShards, AreStripeBlocks}
 use Rattle.shard_file.specs.Shards.{shard_bytes, root_of}
 use Rattle.shard_file.specs.Stripes.{piece, pieces, stripe_size, stripe_count}
 use Rattle.put_stage.specs.declared.stripes.Stripe.{Stripe}
+use Rattle.put_stage.specs.declared.window.Window.{Window}
 
 -- the block of a number in a coded stripe
-abbrev pub block_at : ℕ → Stripe → List ℕ
-block_at number coded = piece coded.size coded.blocks.items number
+abbrev pub stripe_block : ℕ → Stripe → List ℕ
+stripe_block number coded = piece coded.size coded.blocks.items number
+
+-- the blocks of a drive in a window, one after another
+abbrev pub block_at : ℕ → Window → List ℕ
+block_at drive window = piece window.size window.blocks.items drive
 
 -- the n blocks of a stripe, of which d are data, and their digests
 pub record IsCoded (n d : ℕ) (stripe : List ℕ) (coded : Stripe) : Type 0 where
@@ -23,7 +28,7 @@ pub record AreCoded (n d : ℕ) (body : List ℕ) (coded : List Stripe) : Type 0
 
 -- the blocks of a shard
 abbrev pub shard_of : ℕ → List Stripe → List (List ℕ)
-shard_of number coded = map (block_at number) coded
+shard_of number coded = map (stripe_block number) coded
 
 -- a coded stripe has a block of this number
 abbrev pub HasBlock : ℕ → Stripe → Type 0
@@ -32,7 +37,7 @@ HasBlock number coded = coded.size * (number + 1) ≤ length coded.blocks.items
 -- a coded stripe has the digest of the block of this number
 pub record HasDigest (number : ℕ) (coded : Stripe) : Type 0 where
   pub there : number < length coded.digests.items
-  pub is : (default : List ℕ) → slice_index_or coded.digests.items number default ≡ sha256 (block_at number coded)
+  pub is : (default : List ℕ) → slice_index_or coded.digests.items number default ≡ sha256 (stripe_block number coded)
 
 -- the files and the roots of the n shards of a body
 pub record IsSharded (n d : ℕ) (body : List ℕ) (files roots : List (List ℕ)) : Type 0 where

@@ -4,8 +4,8 @@ use Rattle.call_types.specs.Feeds.{FeedView, Gave}
 use Rattle.call_types.specs.Good.{is_good}
 use Rattle.call_types.specs.declared.why.Why.{Why}
 use Rattle.call_types.specs.declared.why.Why.TheVariants.{Good}
-use Rattle.shard_file.specs.Stripes.{stripe_size}
-use Rattle.put_stage.specs.Taking.{GaveUpTo, TookStripe}
+use Rattle.put_stage.specs.Taking.{GaveUpTo, TookWindow}
+use Rattle.put_stage.specs.Windows.{window_size}
 use Rattle.put_stage.specs.declared.dues.Due.{Due}
 use Rattle.put_stage.specs.declared.dues.Due.TheVariants.{Block, Nothing}
 use Rattle.put_stage.specs.declared.stage.Load.{Load}
@@ -36,10 +36,10 @@ abbrev pub ReadTakes : Result (Unit {0}) StageFault → ℕ → ℕ → ℕ → 
 ReadTakes (Ok _) count before after bytes old new = GaveAll count before after bytes old new
 ReadTakes (Err _) count before after bytes old new = GaveUpTo count before after old new
 
--- a load took a stripe of what a feed gave
+-- a load took a window of what a feed gave
 abbrev pub LoadTakes : Result (Unit {0}) StageFault → Load → Load → FeedView → FeedView → Type 0
-LoadTakes (Ok _) old new before after = (stripe : List ℕ) × TookStripe old new stripe × Gave stripe before after
-LoadTakes (Err _) old new before after = GaveUpTo stripe_size old.left new.left before after
+LoadTakes (Ok _) old new before after = (bytes : List ℕ) × TookWindow old new bytes × Gave bytes before after
+LoadTakes (Err _) old new before after = GaveUpTo (window_size old.set.drives) old.left new.left before after
 
 -- a block is due on each drive that serves, and on the others the same call as before
 pub record AreDueAfter (whys : List Why) (old new : List Due) : Type 0 where

@@ -15,4 +15,5 @@ pub mod Preparing
 pub mod Stepping
 pub mod Steps
 pub mod Taking
+pub mod Windows
 pub mod Working

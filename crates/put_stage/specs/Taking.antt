@@ -1,5 +1,6 @@
 -- How far the body of a stage is taken, and what is made of it.
 use Rattle.std.specs.Prelude.{◌≡◌, ◌≤◌, ◌<◌, ◌+◌, ◌*◌, ℕ, false, List, [], ◌∷◌, ◌++◌, length, map, slice_index_or, Some, Result, Ok, Err, string_bytes}
+use Rattle.std.specs.List.{concat}
 use Rattle.std.specs.Io.KnownBytes.{IsAtEnd}
 use Rattle.md5.specs.Md5.{Holds, md5}
 use Rattle.fault_base.specs.Counts.{Rose}
@@ -9,11 +10,12 @@ use Rattle.manifest_file.specs.Print.{print_of_parts}
 use Rattle.manifest_file.specs.Spelling.{file_of}
 use Rattle.manifest_file.specs.declared.manifest.Manifest.{Manifest}
 use Rattle.shard_file.specs.Shards.{root_of, table_of}
-use Rattle.shard_file.specs.Stripes.{pieces, stripe_size}
-use Rattle.body_print.specs.Shards.{AreShards, with_blocks}
+use Rattle.shard_file.specs.Stripes.{stripe_size}
+use Rattle.body_print.specs.Shards.{AreShards}
 use Rattle.put_stage.specs.Cells.{DataCells}
-use Rattle.put_stage.specs.Coding.{all_bytes}
+use Rattle.put_stage.specs.Coding.{all_bytes, block_at}
 use Rattle.put_stage.specs.Outcomes.{manifest_of}
+use Rattle.put_stage.specs.Windows.{window_size, with_shards}
 use Rattle.put_stage.specs.Working.{AtWork}
 use Rattle.put_stage.specs.declared.stage.Load.{Load}
 use Rattle.put_stage.specs.declared.stage.Made.{Made}
@@ -41,10 +43,6 @@ pub record HasTaken (load : Load) (body : List ℕ) (shards : List (List (List �
   pub hashed : 0 < load.left → Holds load.hasher body
   pub made : load.left ≡ 0 → IsMadeOf load body shards load.made
 
--- the blocks of the last stripe that was taken
-abbrev pub last_blocks : Load → List (List ℕ)
-last_blocks load = pieces load.window.size load.set.drives load.window.blocks.items
-
 -- the same set, id and name, and the length and the MD5 that were stated
 pub record IsSameTask (old new : Load) : Type 0 where
   pub set : new.set ≡ old.set
@@ -54,14 +52,15 @@ pub record IsSameTask (old new : Load) : Type 0 where
   pub long : new.long ≡ old.long
   pub stated : new.stated ≡ old.stated
 
--- a load took one stripe more
-pub record TookStripe (old new : Load) (stripe : List ℕ) : Type 0 where
+-- a load took these bytes, the next stripes of its body
+pub record TookWindow (old new : Load) (bytes : List ℕ) : Type 0 where
   pub task : IsSameTask old new
-  pub left : length stripe + new.left ≡ old.left
-  pub some : 0 < length stripe
-  pub few : length stripe ≤ stripe_size
-  pub taken : (body : List ℕ) (shards : List (List (List ℕ))) → HasTaken old body shards
-      → HasTaken new (body ++ stripe) (with_blocks shards (last_blocks new))
+  pub left : length bytes + new.left ≡ old.left
+  pub some : 0 < length bytes
+  pub few : length bytes ≤ window_size old.set.drives
+  pub more : List (List (List ℕ))
+  pub adjoin : (k : ℕ) → k < old.set.drives → concat (slice_index_or more k []) ≡ block_at k new.window
+  pub taken : (body : List ℕ) (shards : List (List (List ℕ))) → HasTaken old body shards → HasTaken new (body ++ bytes) (with_shards shards more)
 
 -- the drives have of the next bytes what they had of those before
 abbrev pub WorkGoesOn : Stage → Stage → List (List (List ℕ)) → List (List (List ℕ)) → Type 0
@@ -73,7 +72,7 @@ pub record Filled (old new : Stage) (bytes : List ℕ) : Type 0 where
   pub task : IsSameTask old.load new.load
   pub left : length bytes + new.load.left ≡ old.load.left
   pub some : 0 < length bytes
-  pub few : length bytes ≤ stripe_size
+  pub few : length bytes ≤ window_size old.load.set.drives
   pub whys : new.whys ≡ old.whys
   pub taken : (body : List ℕ) (shards : List (List (List ℕ))) → HasTaken old.load body shards
       → (after : List (List (List ℕ))) × HasTaken new.load (body ++ bytes) after × WorkGoesOn old new shards after
@@ -85,10 +84,10 @@ pub record GaveUpTo (most before after : ℕ) (old new : FeedView) : Type 0 wher
   pub left : length bytes + after ≡ before
   pub gave : Gave bytes old new
 
--- what a fill took of a feed: the bytes that the feed gave; one that is refused took at most a stripe, and the stage has as many fewer left
+-- what a fill took of a feed: the bytes that the feed gave; one that is refused took at most a window, and the stage has as many fewer left
 abbrev pub FillTakes : Result (Unit {0}) StageFault → Stage → Stage → FeedView → FeedView → Type 0
 FillTakes (Ok _) old new before after = (bytes : List ℕ) × Filled old new bytes × Gave bytes before after
-FillTakes (Err _) old new before after = GaveUpTo stripe_size old.load.left new.load.left before after
+FillTakes (Err _) old new before after = GaveUpTo (window_size old.load.set.drives) old.load.left new.load.left before after
 
 -- why a fill was refused, with the counts of faults of the feed's source
 abbrev pub FillCause : {T : Type 0} → Result T StageFault → FeedView → ℕ → ℕ → Type 0

@@ -1,20 +1,36 @@
-//! A stripe coded in place: its data blocks, then the parity.
+//! Stripes coded in place: their data blocks, then the parity.
 
-ghost use Rattle.std.specs.Prelude.{◌≡◌, ◌++◌, ◌*◌, ◌<◌, ◌≤◌, ℕ, List, IfOk, length, take};
+ghost use Rattle.std.specs.Prelude.{◌≡◌, ◌⊎◌, ◌++◌, ◌*◌, ◌<◌, ◌≤◌, [], IfOk, OnOk, length, slice_index_or};
+ghost use Rattle.std.specs.List.{concat};
 ghost use Rattle.drive_base.specs.Plan.{data_drives};
-ghost use Rattle.poly_code.specs.Codeword.{Codeword};
-ghost use Rattle.poly_code.specs.Columns.{column};
+ghost use Rattle.shard_file.specs.Stripes.{block_size, data_blocks, stripe_size};
 ghost use Rattle.put_stage.specs.Coding.{IsCoded};
 ghost use Rattle.put_stage.specs.Parity.{HasParity};
+ghost use Rattle.put_stage.specs.Windows.{AreWholeStripes, IsWindow, data_run, data_runs};
 
 use crate::stripes::Stripe;
+use crate::window::Window;
 use drive_base::SetPlan;
 use poly_code::encode;
-use shard_file::{block_digests, block_len};
+use shard_file::{STRIPE, block_digests, block_len};
 use std::alloc::{AllocError, Global};
 
+/// Codes successive whole stripes, or one stripe.
+pub fn coded_window(alloc: Global, set: &SetPlan, bytes: Vec<u8>) -> Result<Window, AllocError>
+    requires some { 0 < length bytes.items }
+    requires few { length bytes.items ≤ 4 * stripe_size }
+    requires whole { AreWholeStripes (length bytes.items) ⊎ (length bytes.items ≤ stripe_size) }
+    ensures { IfOk result (λ window. IsWindow set.now.drives (data_drives set.now.drives set.now.parity) bytes.items window) }
+{
+    if bytes.len() > STRIPE as usize {
+        return coded_together(alloc, set, bytes.as_slice());
+    }
+    let stripe = coded(alloc, set, bytes)?;
+    Ok(Window::of(stripe))
+}
+
 /// Codes a stripe: its bytes are filled up with zeros to the data blocks, and the parity is made behind them.
-pub fn coded(alloc: Global, set: &SetPlan, stripe: Vec<u8>) -> Result<Stripe, AllocError>
+fn coded(alloc: Global, set: &SetPlan, stripe: Vec<u8>) -> Result<Stripe, AllocError>
     requires { length stripe.items ≤ 1048576 }
     ensures { IfOk result (λ coded. IsCoded set.now.drives (data_drives set.now.drives set.now.parity) stripe.items coded) }
 {
@@ -30,6 +46,80 @@ pub fn coded(alloc: Global, set: &SetPlan, stripe: Vec<u8>) -> Result<Stripe, Al
         blocks,
         digests,
     })
+}
+
+/// Codes successive whole stripes: the blocks of each data drive are put side by side, and the parity is made behind them
+/// at once, since it is made byte by byte.
+fn coded_together(alloc: Global, set: &SetPlan, bytes: &[u8]) -> Result<Window, AllocError>
+    requires few { length bytes.now ≤ 4 * stripe_size }
+    requires whole { AreWholeStripes (length bytes.now) }
+    ensures { IfOk result (λ window. IsWindow set.now.drives (data_drives set.now.drives set.now.parity) bytes.now window) }
+{
+    let count = bytes.len() / STRIPE as usize;
+    let block = block_len(set, STRIPE) as usize;
+    let size = count * block;
+    let drives = set.drives as usize;
+    let mut blocks = Vec::with_capacity(alloc, size * drives)?;
+    add_data(set, count, bytes, &mut blocks)?;
+    blocks.resize(size * drives, 0)?;
+    add_parity(set, size, blocks.as_mut_slice());
+    let mut digests = vec![in alloc; [0; 32]; count * drives]?;
+    block_digests(blocks.as_slice(), block, digests.as_mut_slice());
+    Ok(Window {
+        count,
+        size,
+        blocks,
+        digests,
+    })
+}
+
+/// Adds the data blocks of so many whole stripes, drive by drive.
+fn add_data(set: &SetPlan, count: usize, bytes: &[u8], into: &mut Vec<u8>) -> Result<(), AllocError>
+    requires few { count ≤ 4 }
+    requires whole { length bytes.now ≡ stripe_size * count }
+    ensures { OnOk result (into.new.items ≡ into.old.items ++ data_runs (data_drives set.now.drives set.now.parity) count bytes.now) }
+{
+    for drive in 0..set.read_quorum() {
+        add_run(set, drive, count, bytes, into)?;
+    }
+    Ok(())
+}
+
+/// Adds the blocks that a data drive has of so many whole stripes.
+fn add_run(
+    set: &SetPlan,
+    drive: u8,
+    count: usize,
+    bytes: &[u8],
+    into: &mut Vec<u8>,
+) -> Result<(), AllocError>
+    requires low { drive < data_drives set.now.drives set.now.parity }
+    requires few { count ≤ 4 }
+    requires whole { length bytes.now ≡ stripe_size * count }
+    ensures { OnOk result (into.new.items ≡ into.old.items ++ concat (data_run (data_drives set.now.drives set.now.parity) count bytes.now drive)) }
+{
+    for number in 0..count {
+        let from = number * STRIPE as usize;
+        let stripe = &bytes[from..from + STRIPE as usize];
+        add_block(set, drive, stripe, into)?;
+    }
+    Ok(())
+}
+
+/// Adds the block that a data drive has of a stripe. What it lacks of its size is filled up with zeros.
+fn add_block(set: &SetPlan, drive: u8, stripe: &[u8], into: &mut Vec<u8>) -> Result<(), AllocError>
+    requires low { drive < data_drives set.now.drives set.now.parity }
+    requires few { length stripe.now ≤ stripe_size }
+    ensures { let d = data_drives set.now.drives set.now.parity in
+        OnOk result (into.new.items ≡ into.old.items ++ slice_index_or (data_blocks d stripe.now) drive []) }
+{
+    let size = block_len(set, stripe.len() as u64) as usize;
+    let from = stripe.len().min(size * drive as usize);
+    let to = stripe.len().min(from + size);
+    let end = into.len() + size;
+    into.extend_from_slice(&stripe[from..to])?;
+    into.resize(end, 0)?;
+    Ok(())
 }
 
 /// Makes the parity behind the data blocks, of this size each.

@@ -1,21 +1,26 @@
-//! How a stage takes its body: a stripe a fill.
+//! How a stage takes its body: a window of whole stripes a fill.
 
-ghost use Rattle.std.specs.Prelude.{◌≡◌, ◌+◌, ◌<◌, ◌≤◌, ◌++◌, ℕ, List, [], IfErr, IsOk, OnOk, OnErr, Ok, length, slice_index_or};
+ghost use Rattle.std.specs.Prelude.{◌≡◌, ◌+◌, ◌<◌, ◌≤◌, ◌++◌, ◌*◌, ℕ, List, [], IfErr, IsOk, OnOk, OnErr, Ok, length, take, drop, slice_index_or};
+ghost use Rattle.std.specs.List.{concat};
 ghost use Rattle.call_types.specs.Feeds.{FeedView, Gave};
+ghost use Rattle.shard_file.specs.Stripes.{stripe_size};
 ghost use Rattle.put_stage.specs.Coding.{all_bytes};
 ghost use Rattle.put_stage.specs.Filling.{AreDueAfter, LoadTakes, PieceTakes, ReadTakes};
 ghost use Rattle.put_stage.specs.Left.{calls_left};
 ghost use Rattle.put_stage.specs.Stepping.{MayFill};
 ghost use Rattle.put_stage.specs.Taking.{FillCause, FillTakes};
+ghost use Rattle.put_stage.specs.Windows.{IsNextLength};
 
-use crate::coding::coded;
+use crate::coding::coded_window;
 use crate::dues::Due;
 use crate::making::conclude;
 use crate::stage::{Load, Stage};
 use crate::staged::StageFault;
+use crate::window::{Window, window_stripes};
 use call_types::{Cut, Feed, Whys};
+use drive_base::SetPlan;
 use md5::{Digest, Md5};
-use shard_file::STRIPE;
+use shard_file::{STRIPE, block_len};
 use std::alloc::{AllocError, Global};
 use std::mem;
 
@@ -23,10 +28,10 @@ use std::mem;
 const PIECE: usize = 16384;
 
 impl Stage {
-    /// Takes the next stripe of the body from the feed, codes it, and lets its blocks be appended to the shard files. Where
-    /// it is the last one the manifest is made, and the MD5 is compared with the one that was stated. `BodyCut` where the
-    /// feed ended before its stated length, `ReadFault` where its source failed, `NoMemory`; after these the stage is of no
-    /// use but to say how many bytes it took.
+    /// Takes the next whole stripes of the body from the feed, as many as fill four lanes of digests or are left, or the last,
+    /// shorter stripe. It codes them, and lets their blocks be appended to the shard files. Where no byte is left the manifest
+    /// is made, and the MD5 is compared with the one that was stated. `BodyCut` where the feed ended before its stated length,
+    /// `ReadFault` where its source failed, `NoMemory`; after these the stage is of no use but to say how many bytes it took.
     pub fn fill<F: Feed>(&mut self, alloc: Global, feed: &mut F) -> Result<(), StageFault>
         requires next { MayFill self.old }
         requires feed { (F.seen feed.old).given + self.old.load.left ≡ (F.seen feed.old).stated }
@@ -34,7 +39,7 @@ impl Stage {
         ensures fewer { OnOk result (calls_left self.new < calls_left self.old) }
         ensures cause { FillCause result (F.seen feed.new) (F.faults feed.old) (F.faults feed.new) }
     {
-        take_stripe(alloc, &mut self.load, feed)?;
+        take_window(alloc, &mut self.load, feed)?;
         append_next(&mut self.dues, &self.whys);
         Ok(())
     }
@@ -58,20 +63,26 @@ fn append_next(dues: &mut [Due; 16], whys: &Whys)
     }
 }
 
-/// Takes the next stripe.
-fn take_stripe<F: Feed>(alloc: Global, load: &mut Load, feed: &mut F) -> Result<(), StageFault>
+/// Takes the next window.
+fn take_window<F: Feed>(alloc: Global, load: &mut Load, feed: &mut F) -> Result<(), StageFault>
     requires some { 0 < load.old.left }
     requires feed { (F.seen feed.old).given + load.old.left ≡ (F.seen feed.old).stated }
     ensures takes { LoadTakes result load.old load.new (F.seen feed.old) (F.seen feed.new) }
     ensures set { load.new.set ≡ load.old.set }
     ensures cause { FillCause result (F.seen feed.new) (F.faults feed.old) (F.faults feed.new) }
 {
-    let long = load.left.min(STRIPE);
-    let mut stripe = Vec::with_capacity(alloc, long as usize)?;
-    read_into(feed, long as usize, &mut load.left, &mut stripe)?;
-    load.hasher.update(stripe.as_slice());
-    let window = coded(alloc, &load.set, stripe)?;
-    add_digests(load.tables.as_mut_slice(), window.digests.as_slice())?;
+    // The last window is given back first, so that no two are held.
+    load.window = Window::none(alloc);
+    let long = next_len(&load.set, load.left);
+    let mut bytes = Vec::with_capacity(alloc, room_of(&load.set, long))?;
+    read_into(feed, long as usize, &mut load.left, &mut bytes)?;
+    load.hasher.update(bytes.as_slice());
+    let window = coded_window(alloc, &load.set, bytes)?;
+    add_digests(
+        load.tables.as_mut_slice(),
+        window.digests.as_slice(),
+        window.count,
+    )?;
     load.window = window;
     if load.left > 0 {
         return Ok(());
@@ -81,16 +92,38 @@ fn take_stripe<F: Feed>(alloc: Global, load: &mut Load, feed: &mut F) -> Result<
     Ok(())
 }
 
-/// Adds a digest to each digest table.
-fn add_digests(tables: &mut [Vec<u8>], digests: &[[u8; 32]]) -> Result<(), AllocError>
-    requires { length tables.old ≡ length digests.now }
-    ensures { OnOk result ((k : ℕ) → k < length tables.old → slice_index_or (all_bytes tables.new) k []
-        ≡ slice_index_or (all_bytes tables.old) k [] ++ slice_index_or digests.now k []) }
+/// How many bytes are taken next of so many that are left.
+fn next_len(set: &SetPlan, left: u64) -> u64
+    ensures { IsNextLength set.now.drives left result }
 {
-    let mut index = 0;
+    let whole = (left / STRIPE).min(window_stripes(set.drives) as u64);
+    if whole == 0 {
+        return left;
+    }
+    whole * STRIPE
+}
+
+/// The room of a buffer for so many bytes: what is no longer than a stripe is coded in place.
+fn room_of(set: &SetPlan, long: u64) -> usize
+    requires { long ≤ 4 * stripe_size }
+{
+    if long > STRIPE {
+        return long as usize;
+    }
+    block_len(set, long) as usize * set.drives as usize
+}
+
+/// Adds the next digests to each digest table, so many to one.
+fn add_digests(tables: &mut [Vec<u8>], digests: &[[u8; 32]], count: usize) -> Result<(), AllocError>
+    requires { length digests.now ≡ count * length tables.old }
+    ensures { OnOk result ((k : ℕ) → k < length tables.old → slice_index_or (all_bytes tables.new) k []
+        ≡ slice_index_or (all_bytes tables.old) k [] ++ concat (take count (drop (count * k) digests.now))) }
+{
+    let mut rest = digests;
     for table in tables.iter_mut() {
-        table.extend_from_slice(&digests[index])?;
-        index += 1;
+        let (next, after) = rest.split_at(count);
+        table.extend_from_slice(next.as_flattened())?;
+        rest = after;
     }
     Ok(())
 }

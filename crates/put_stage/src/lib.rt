@@ -12,10 +12,10 @@
 //! memory is missing. [`stage_manifest`] promises the same of the manifest that it is given, and that no other file is
 //! touched.
 //!
-//! A [`Stage`] does the same step by step, a stripe of the body or one drive call at a time, so that calls of others can
+//! A [`Stage`] does the same step by step, a window of whole stripes of the body or one drive call at a time, so that calls of others can
 //! come between two steps. What it leaves is said of its own four names on each drive: a step keeps what is said of them,
 //! and at the end each drive that took all holds the body's files, where others left these names alone. Its order is fixed:
-//! stripe by stripe the blocks on each drive, then drive by drive the digest table, the manifest, and both renames.
+//! window by window the blocks on each drive, then drive by drive the digest table, the manifest, and both renames.
 #![tactic(auto)]
 
 mod answers;
@@ -35,6 +35,7 @@ mod staged;
 mod stepping;
 mod stripes;
 mod whole;
+mod window;
 
 pub use laws::stage_laws;
 pub use manifests::stage_manifest;

@@ -18,8 +18,8 @@ use crate::dues::Due;
 use crate::manifests::total_size;
 use crate::names::names_of;
 use crate::stage::{Load, Made, Stage};
-use crate::stripes::Stripe;
 use crate::whole::manifest_of;
+use crate::window::Window;
 use call_types::{FileKind, Why, Whys};
 use drive_base::SetPlan;
 use fault_base::NoMemory;
@@ -119,7 +119,7 @@ fn load_of_body(
         stated: md5,
         hasher: Md5::new(),
         tables: empty_tables(alloc, set.drives)?,
-        window: Stripe::none(alloc),
+        window: Window::none(alloc),
         made: nothing_made(alloc),
     };
     if size > 0 {
@@ -155,7 +155,7 @@ fn load_of_manifest(
         stated: None,
         hasher: Md5::new(),
         tables: empty_tables(alloc, set.drives)?,
-        window: Stripe::none(alloc),
+        window: Window::none(alloc),
         made,
     })
 }

@@ -7,7 +7,7 @@ ghost use Rattle.call_types.specs.declared.why.Why.TheVariants.{Good};
 
 use crate::dues::Due;
 use crate::names::Names;
-use crate::stripes::Stripe;
+use crate::window::Window;
 use call_types::Whys;
 use drive_base::SetPlan;
 use md5::Md5;
@@ -44,8 +44,8 @@ pub struct Load {
     pub hasher: Md5,
     /// The digest table of each shard so far.
     pub tables: Vec<Vec<u8>>,
-    /// The blocks of the last stripe that was taken.
-    pub window: Stripe,
+    /// The stripes that were taken last, of which the blocks are appended.
+    pub window: Window,
     /// What is made once no byte is left.
     pub made: Made,
     pub ghost tables_of_all: { length tables.items ≡ set.drives },

@@ -1,8 +1,8 @@
 //! The stripes of a body, coded.
 
-ghost use Rattle.std.specs.Prelude.{◌≡◌, ◌+◌, ◌*◌, ◌<◌, ◌≤◌, [], IfOk, length};
+ghost use Rattle.std.specs.Prelude.{◌≡◌, ◌+◌, ◌*◌, ◌<◌, ◌≤◌, IfOk, length};
 ghost use Rattle.drive_base.specs.Plan.{data_drives};
-ghost use Rattle.put_stage.specs.Coding.{AreCoded, IsCoded, block_at};
+ghost use Rattle.put_stage.specs.Coding.{AreCoded, IsCoded, stripe_block};
 
 use drive_base::SetPlan;
 use poly_code::encode;
@@ -21,22 +21,10 @@ pub struct Stripe {
 }
 
 impl Stripe {
-    /// A stripe of no bytes, of no drive.
-    pub fn none(alloc: Global) -> Stripe
-        ensures short { result.size ≡ 0 }
-        ensures none { result.blocks.items ≡ [] }
-    {
-        Stripe {
-            size: 0,
-            blocks: Vec::new(alloc),
-            digests: Vec::new(alloc),
-        }
-    }
-
     /// The block of this number.
     pub fn block(&self, number: usize) -> &[u8]
         requires { self.now.size * (number + 1) ≤ length self.now.blocks.items }
-        ensures { result.now ≡ block_at number self.now }
+        ensures { result.now ≡ stripe_block number self.now }
     {
         let from = self.size * number;
         &self.blocks.as_slice()[from..from + self.size]

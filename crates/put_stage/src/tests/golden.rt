@@ -189,7 +189,7 @@ pub const ROWS: [([u8; 2], [u8; 32], [[u8; 33]; 4]); 2] = [
 
 /// The drives and the parity of a set, the bytes of a body whose byte i is i mod 251, the SHA-256 of the files of all
 /// drives in order, on each the shard file and then the manifest, and the print of the body.
-pub const STAGES: [(u8, u8, u32, &str, &str); 20] = [
+pub const STAGES: [(u8, u8, u32, &str, &str); 22] = [
     (
         4,
         2,
@@ -329,5 +329,19 @@ pub const STAGES: [(u8, u8, u32, &str, &str); 20] = [
         1048577,
         "d3ae0ecf35b9a8851386d4b4716a146749846d252cad326d028235690ace75f5",
         "2d50f9699beeeb3fe72672b0ab0161b8f3258ec65a03171aad408a06ee861611",
+    ),
+    (
+        5,
+        2,
+        6291461,
+        "a391f4399fd52caae847b641ebd56506fd2f63a11cfce14f6858bab0a62b4802",
+        "8049300ba7acf83235c878a0577c4c1d191bf20ae928a9c9f93142a58ed563b1",
+    ),
+    (
+        6,
+        2,
+        3145729,
+        "9666fb81a9b2cc32d84bee3d6725a6d3f5c343975cbb94e35f29bef329523750",
+        "74c6bab26d611b49af3e47758b9fde4643360e3a8d82e8bf3c0543e788cf3735",
     ),
 ];

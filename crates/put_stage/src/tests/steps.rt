@@ -34,6 +34,10 @@ const CALLS_OF: [(u32, (u64, u64, u64)); 4] = [
     (1048577, (4, 2, 2)),
 ];
 
+/// The drives of a set with 2 of parity, the bytes of a body, and the appends on each drive: one for each window and for what
+/// is left of less than a stripe, one for the digest table and one for the manifest.
+const WINDOWS_OF: [(u8, u32, u64); 3] = [(6, 2097153, 4), (6, 3145728, 4), (5, 4194304, 3)];
+
 /// The SHA-256 of the files of a body of five bytes on four drives, as in `STAGES`.
 const FIVE_FILES: &str = "f6b5c3ed4fe1a0ba76ae8ecd0a3a54a7e5295d2cf5ea65d784dc2d7abb647520";
 
@@ -191,6 +195,21 @@ fn each_step_is_one_call(rt: HostRuntime) -> Result<(), Fail> {
         for (place, drive) in drives.iter().enumerate() {
             let expected = if place == 2 { (0, 0, 0) } else { each };
             assert_eq!(rt; drive.calls(), calls(expected));
+        }
+    }
+    Ok(())
+}
+
+#[test]
+fn a_window_is_one_call_of_a_drive(rt: HostRuntime) -> Result<(), Fail> {
+    for (count, bytes, appends) in WINDOWS_OF {
+        assert!(rt; count >= 4 && count <= 16);
+        let set = SetPlan::new([7; 16], count, 2);
+        let mut drives = passing(rt.alloc(), count)?;
+        let answer = staged(rt.alloc(), set, bytes, None, &mut drives, NEVER)?;
+        assert!(rt; answer.is_ok());
+        for drive in drives.iter() {
+            assert_eq!(rt; drive.calls(), calls((appends, 2, 2)));
         }
     }
     Ok(())

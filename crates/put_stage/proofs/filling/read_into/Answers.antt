@@ -1,5 +1,5 @@
 -- What a read that is refused took.
-use Rattle.std.proofs.Common.{◌≡◌, ◌+◌, ◌≤◌, length, arith}
+use Rattle.std.proofs.Common.{◌+◌, ◌≤◌, length, arith}
 use Rattle.std.proofs.lemmas.Result.{err_from_is_err_and}
 use Rattle.put_stage.proofs.FillLemmas.{gave_more}
 use Rattle.put_stage.proofs.filling.read_into.Goals as goal
