@@ -1,5 +1,5 @@
 -- Calls one after another keep the history, the files and the data of every slot.
-use Rattle.std.proofs.Common.{◌≡◌, ◌<◌, ◌∙◌, ℕ, List, [], ◌∷◌, ◌++◌, Contains, append-nil, append_assoc, length, slice_index_or, refl, sym, ap, subst, subst₂, inl, inr, arith}
+use Rattle.std.proofs.Common.{◌≡◌, ◌<◌, ◌∙◌, List, [], ◌∷◌, ◌++◌, append-nil, append_assoc, length, slice_index_or, refl, sym, ap, subst, subst₂, inl, inr, arith}
 use Rattle.std.proofs.lemmas.Grind.{flat_map-append}
 use Rattle.std.proofs.lemmas.List.Elements.{Contains-append_cases, Contains-append_left, Contains-append_right}
 use Rattle.drive_base.specs.declared.drive.Drive.{Ghosts}
@@ -7,12 +7,11 @@ use Rattle.drive_base.specs.View.{DriveView}
 use Rattle.drive_base.specs.declared.plan.SetPlan.{SetPlan}
 use Rattle.receipts.specs.Events.{Log}
 use Rattle.receipts.specs.Events.Event.{BarredFrom}
-use Rattle.op_steps.specs.Calling.{AllWent, CallRan, CallsKeep, CallsRan, HoldsOn, StoreWent, joined}
+use Rattle.op_steps.specs.Calling.{AllWent, CallRan, CallsKeep, HoldsOn, StoreWent, joined}
 use Rattle.op_steps.specs.Claims.{Claim, no_claim}
 use Rattle.op_steps.specs.Holding.{AreLeft, StoreHolds}
 use Rattle.op_steps.specs.Laws.{WentOn}
 use Rattle.op_steps.specs.Leading.{Entered, entered_at, entered_in}
-use Rattle.op_steps.specs.Steps.{IsSlotAt}
 use Rattle.op_steps.specs.Store.{AreInOrder, SlotSeen, any_effect, store_of}
 use Rattle.op_steps.proofs.FileLemmas.{drives_stay, drives_twice, files_keep}
 use Rattle.op_steps.proofs.HoldingLemmas.{call_keeps}
@@ -76,7 +75,7 @@ module _ {D : Type 0} (ghosts : Ghosts D) (set : SetPlan) where
   }
 
   -- one call
-  one_went : (log : Log) (slots mid : List (SlotSeen D)) (disks mid_disks : List DriveView) → AreInOrder set slots disks → CallRan ghosts set log slots disks mid mid_disks
+  pub one_went : (log : Log) (slots mid : List (SlotSeen D)) (disks mid_disks : List DriveView) → AreInOrder set slots disks → CallRan ghosts set log slots disks mid mid_disks
       → StoreWent ghosts set log slots disks mid mid_disks
   one_went log slots mid disks mid_disks in_order call =
       let old = store_of slots disks (no_claim call.slot) call.feed call.teller in

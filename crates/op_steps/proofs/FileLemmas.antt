@@ -61,6 +61,13 @@ drives_twice old mid new first second = record {
 past_same : (old new : List DriveView) (k : ℕ) → length new ≡ length old → length old ≤ k → view_at new k ≡ view_at old k
 past_same old new k long past = get_or_past new k blank_view (omega (arith, long, past)) ∙ sym (get_or_past old k blank_view past)
 
+-- what a drive that tells has stays where drives are only read
+pub read_files : (old new : List DriveView) (k : ℕ) → AllOnlyRead old new → IsTrue (view_at old k).tells → (view_at new k).files ≡ (view_at old k).files
+read_files old new k read told = elim (cases_lt k (length old)) [
+  | inl inside ↦ (read.each k inside).files told
+  | inr past ↦ ap (λ (v : DriveView). v.files) (past_same old new k read.long past)
+]
+
 -- drives that were only read
 drives_read : (old new : List DriveView) → AllOnlyRead old new → DrivesKeep old new
 drives_read old new read = record {

@@ -1,5 +1,5 @@
 -- A claim to nothing comes and goes, one that is left stays, and a whole log, or a whole call, keeps the data of every slot.
-use Rattle.std.proofs.Common.{◌≡◌, ◌⊎◌, ◌<◌, ◌∙◌, ℕ, Bool, true, false, List, [], ◌∷◌, ◌++◌, Contains, filter, flat_map, append-nil, cond, inl, inr, refl, sym, ap, subst, subst₂, ap₂, zero, suc, arith, length, Option, Some, None, option_to_list, option_map, nat_eq}
+use Rattle.std.proofs.Common.{◌≡◌, ◌⊎◌, ◌<◌, ◌∙◌, ℕ, Bool, true, false, List, [], ◌∷◌, ◌++◌, Contains, flat_map, append-nil, cond, inl, inr, refl, sym, ap, subst, ap₂, zero, suc, arith, Some, option_to_list, option_map}
 use Rattle.std.proofs.lemmas.Grind.{flat_map-append}
 use Rattle.std.proofs.lemmas.Option.{none-some}
 use Rattle.std.proofs.lemmas.List.Elements.{Contains-append_cases, Contains-append_left, filter-append}
@@ -7,7 +7,7 @@ use Rattle.desk_base.specs.Telling.{Effect}
 use Rattle.drive_base.specs.declared.drive.Drive.{Ghosts}
 use Rattle.drive_base.specs.View.{DriveView}
 use Rattle.drive_base.specs.declared.plan.SetPlan.{SetPlan}
-use Rattle.receipts.specs.Events.{Event, Log}
+use Rattle.receipts.specs.Events.{Log}
 use Rattle.receipts.specs.Events.Event.{BarredFrom}
 use Rattle.slot_data.specs.Disks.{Disks}
 use Rattle.slot_data.specs.Holding.{Hands, Holding, Known, Pinned}
@@ -17,12 +17,11 @@ use Rattle.slot_history.specs.Standing.{Flying, Records}
 use Rattle.slot_history.specs.State.{State}
 use Rattle.stamp_id.specs.declared.version.VersionId.{VersionId}
 use Rattle.version_list.specs.State.{AreDistinct}
-use Rattle.op_steps.specs.Claims.{AllApart, Claim, HoldsAt, IsMet, claims_at, disks_of, flights_in, hands_of, is_at, no_claim, pins_in}
+use Rattle.op_steps.specs.Claims.{Claim, HoldsAt, IsMet, claims_at, disks_of, flights_in, hands_of, is_at, no_claim, pins_in}
 use Rattle.op_steps.specs.Laws.{AllHold, EachStepKeepsData, HoldsLater, RanKeepsHistory}
 use Rattle.op_steps.specs.Leading.{Standing}
 use Rattle.op_steps.specs.Steps.{Ran}
-use Rattle.op_steps.specs.Store.{AreInOrder, SlotSeen, Store}
-use Rattle.op_steps.specs.Words.{LetsGo}
+use Rattle.op_steps.specs.Store.{AreInOrder, Store}
 use Rattle.op_steps.specs.Holding.{CallKeepsData, StoreHolds}
 use Rattle.op_steps.proofs.LeadingLemmas.{all_lead_join, leads_stay}
 
@@ -131,7 +130,7 @@ module _ (set : SetPlan) (index last : ℕ) (holding : Holding) (unseen : Disks)
 
 module _ {D T : Type 0} (ghosts : Ghosts D) (takes breaks : Effect T) where
   -- of a whole store: a claim to nothing may come to the claims that are there
-  claim_comes : (unseen : Disks) (store : Store D T) (claims : List Claim) (at : ℕ → Standing) → store.claim ≡ no_claim store.claim.slot
+  pub claim_comes : (unseen : Disks) (store : Store D T) (claims : List Claim) (at : ℕ → Standing) → store.claim ≡ no_claim store.claim.slot
       → StoreHolds ghosts.tells ghosts.files unseen store.slots store.disks claims at → AllHold ghosts.tells ghosts.files unseen store claims [] at
   claim_comes unseen store claims at none holds k was is =
       let x = holds k was is in

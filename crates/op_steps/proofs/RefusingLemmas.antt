@@ -1,41 +1,51 @@
--- The refused sections of a log have their causes.
-use Rattle.std.proofs.Common.{◌≡◌, ℕ, zero, suc, [], ◌∷◌, MatchOption, ap, refl, subst, arith}
+-- The events of a log took place, with their causes.
+use Rattle.std.proofs.Common.{Some, zero, suc, [], ◌∷◌, MatchOption, ap, refl, subst, arith}
 use Rattle.desk_base.specs.Telling.{Effect}
 use Rattle.drive_base.specs.declared.drive.Drive.{Ghosts}
 use Rattle.receipts.specs.Events.{Event}
-use Rattle.receipts.specs.Events.Event.{Turned}
+use Rattle.receipts.specs.Events.Event.{BarredFrom, Called, Turned}
 use Rattle.op_steps.specs.Causes.{RefusalCause}
-use Rattle.op_steps.specs.Refusing.{RefusalsHaveCauses}
+use Rattle.op_steps.specs.Refusing.{BarsHaveCauses, CallsWereSo, EventsTookPlace, RefusalsHaveCauses}
 use Rattle.op_steps.specs.Steps.{StepMoves}
 
 module _ {D T : Type 0} (ghosts : Ghosts D) (takes breaks : Effect T) where
-  pub refusals_have : RefusalsHaveCauses ghosts takes breaks
-  refusals_have set [] old new k note shown why ran (j, inside, e) refused = absurd (omega (arith, inside))
-  refusals_have set (event ∷ log) old new k note shown why (mid, moves, ran) (zero, inside, e) refused =
-      let step = subst (λ (v : Event). StepMoves ghosts takes breaks set v old mid) e moves in
+  pub events_took_place : EventsTookPlace ghosts takes breaks
+  events_took_place set [] old new event ran (j, inside, e) = absurd (omega (arith, inside))
+  events_took_place set (first ∷ log) old new event (mid, moves, ran) (zero, inside, e) = record {
+    front = [];
+    rest = log;
+    parts = ap (λ v. v ∷ log) e;
+    before = old;
+    after = mid;
+    led = refl;
+    step = subst (λ (v : Event). StepMoves ghosts takes breaks set v old mid) e moves;
+    leads_on = ran;
+  }
+  events_took_place set (first ∷ log) old new event (mid, moves, ran) (suc j, inside, e) =
+      let x = events_took_place set log mid new event ran (j, omega (arith, inside), e) in
       record {
-        front = [];
-        rest = log;
-        parts = ap (λ v. v ∷ log) e;
-        mid = old;
-        ran = refl;
-        was = step.was;
-        now = step.now;
-        is = step.is;
-        disks = step.disks;
-        cause = subst (λ r. MatchOption r (Unit {0}) (λ w. RefusalCause ghosts w note.entry step.was step.now old.claim old.disks step.disks)) refused step.moves.cause;
-      }
-  refusals_have set (event ∷ log) old new k note shown why (mid, moves, ran) (suc j, inside, e) refused =
-      let x = refusals_have set log mid new k note shown why ran (j, omega (arith, inside), e) refused in
-      record {
-        front = event ∷ x.front;
+        front = first ∷ x.front;
         rest = x.rest;
-        parts = ap (λ l. event ∷ l) x.parts;
-        mid = x.mid;
-        ran = (mid, moves, x.ran);
-        was = x.was;
-        now = x.now;
-        is = x.is;
-        disks = x.disks;
-        cause = x.cause;
+        parts = ap (λ l. first ∷ l) x.parts;
+        before = x.before;
+        after = x.after;
+        led = (mid, moves, x.led);
+        step = x.step;
+        leads_on = x.leads_on;
       }
+
+  pub refusals_have : RefusalsHaveCauses ghosts takes breaks
+  refusals_have set log old new k note shown why ran there refused =
+      let x = events_took_place set log old new (Turned k (Some note) shown) ran there in (
+        x,
+        subst (λ r. MatchOption r (Unit {0}) (λ w. RefusalCause ghosts w note.entry x.step.was x.step.now x.before.claim x.before.disks x.step.disks)) refused
+            x.step.moves.cause,
+      )
+
+  pub bars_have : BarsHaveCauses ghosts takes breaks
+  bars_have set log old new k why ran there =
+      let x = events_took_place set log old new (BarredFrom k why) ran there in (x, x.step.cause)
+
+  pub calls_were_so : CallsWereSo ghosts takes breaks
+  calls_were_so set log old new k seen ran there =
+      let x = events_took_place set log old new (Called k seen) ran there in (x, x.step.moves.was_so)

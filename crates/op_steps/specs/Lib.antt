@@ -6,12 +6,15 @@ pub mod Going
 pub mod Holding
 pub mod Laws
 pub mod Leading
+pub mod LiveFiles
 pub mod Looking
 pub mod Moves
 pub mod Naming
 pub mod Notes
 pub mod Ready
 pub mod Refusing
+pub mod Requests
+pub mod Serving
 pub mod Steps
 pub mod Store
 pub mod Words

@@ -9,11 +9,16 @@ ghost use Rattle.op_steps.specs.Laws.{EachStepKeepsData, RanKeepsFiles, RanKeeps
 ghost use Rattle.op_steps.specs.Leading.{ShowingJoins, ShowingParts, ShowingRuns};
 ghost use Rattle.op_steps.specs.Looking.{LookIsTurn, ReadIsCall};
 ghost use Rattle.op_steps.specs.Naming.{NamesIsTurn};
-ghost use Rattle.op_steps.specs.Refusing.{RefusalsHaveCauses};
+ghost use Rattle.op_steps.specs.LiveFiles.{LiveFilesStay, NamedFilesStay};
+ghost use Rattle.op_steps.specs.Refusing.{BarsHaveCauses, CallsWereSo, EventsTookPlace, RefusalsHaveCauses};
+ghost use Rattle.op_steps.specs.Requests.{CallsComplete, RequestComplete};
+ghost use Rattle.op_steps.specs.Serving.{SectionComplete};
 ghost use Rattle.op_steps.specs.Store.{any_effect};
 
 use desk_base::Teller;
 use drive_base::Drive;
+use manifest_file::manifest_laws;
+use register_core::lane_laws;
 
 /// Over any log of steps each slot's audit has got exactly its entries, and what its lanes stand for runs by them, with what their sections showed. It does
 /// nothing.
@@ -67,7 +72,42 @@ pub fn read_law()
     ensures { ReadIsCall }
 {}
 
-/// In any log of steps each section that was refused has its cause, in the store to which the log led before it. It does nothing.
-pub fn cause_law<D: Drive, T: Teller>()
-    ensures { RefusalsHaveCauses D.Drive T.takes T.breaks }
+/// In the log of a call of which only the faults of the teller are seen each event took place as a step between two stores through which the log leads, and there
+/// has its cause: each section that was refused, each that could not be done, and what each call of a data drive gave. It does nothing.
+pub fn cause_law<D: Drive>()
+    ensures took_place { EventsTookPlace D.Drive any_effect any_effect }
+    ensures refused { RefusalsHaveCauses D.Drive any_effect any_effect }
+    ensures barred { BarsHaveCauses D.Drive any_effect any_effect }
+    ensures called { CallsWereSo D.Drive any_effect any_effect }
 {}
+
+/// Where the data of each slot holds, no step takes a file of live data from a drive that tells, but of the op's own put under way. It does nothing.
+pub fn live_law<D: Drive, T: Teller>()
+    ensures live { LiveFilesStay D.Drive T.takes T.breaks }
+    ensures named { NamedFilesStay D.Drive T.takes T.breaks }
+{}
+
+/// Where enough lanes and data drives serve, a section of a slot whose lanes stand and whose data holds isn't refused for a fault of a quorum. It does nothing.
+pub fn complete_law<D: Drive>()
+    ensures { SectionComplete D.Drive }
+{
+    lane_laws();
+    manifest_laws();
+}
+
+/// Over the log of a call on a store that holds, where enough lanes and data drives serve in a section, it isn't refused so; none in the call's own slot is
+/// refused for a put that isn't listed; and where enough data drives have no fault over the log, not too few took its body. It does nothing.
+pub fn request_law<D: Drive, T: Teller>()
+    ensures { RequestComplete D.Drive T.takes T.breaks }
+{
+    lane_laws();
+    manifest_laws();
+}
+
+/// So it is over the logs of calls one after another, of which only the faults of the teller are seen. It does nothing.
+pub fn requests_law<D: Drive>()
+    ensures { (set : SetPlan) → CallsComplete D.Drive set }
+{
+    lane_laws();
+    manifest_laws();
+}

@@ -23,7 +23,7 @@ Later reply log = (reply ≡ Refused NotImplemented) × (sections_of log ≡ [])
 abbrev pub IsWhole : Call → Log → Type 0
 IsWhole call log = length (body_of log) ≡ stated_length call
 
--- the reply that is owed to a call at a moment. A body is taken to its end before, but for a call that is not served, after which the connection closes
+-- the reply that is owed to a call at a moment. A body is taken to its end before, but for a call that is not served yet
 abbrev pub OwesCall : SetPlan → Call → ℕ → Reply → Log → Type 0
 OwesCall set ListBuckets now reply log = IsWhole ListBuckets log × ListBucketsOwes reply log
 OwesCall set (CreateBucket bucket) now reply log = IsWhole (CreateBucket bucket) log × CreateBucketOwes bucket now reply log

@@ -1,0 +1,89 @@
+-- Lanes and data drives that serve, and the section that they don't refuse where they are enough.
+use Rattle.std.specs.Prelude.{◌≡◌, ◌≢◌, ◌⊎◌, ℕ, ◌+◌, ◌<◌, ◌≤◌, IsTrue, List, Contains, length, Option, Some, MatchOption}
+use Rattle.std.specs.Int.{IsBitSet}
+use Rattle.audit_trail.specs.declared.entry.Entry.{Entry}
+use Rattle.body_print.specs.Names.{manifest_name}
+use Rattle.call_types.specs.declared.names.Key.{Key}
+use Rattle.call_types.specs.declared.why.FileKind.TheVariants.{Register}
+use Rattle.call_types.specs.declared.why.Why.{Why}
+use Rattle.call_types.specs.declared.why.Why.TheVariants.{Lacks}
+use Rattle.drive_base.specs.DriveSet.{count_in}
+use Rattle.drive_base.specs.Plan.{data_drives, write_drives}
+use Rattle.drive_base.specs.View.{DriveView, view_at, views}
+use Rattle.drive_base.specs.declared.drive.Drive.{Ghosts}
+use Rattle.drive_base.specs.declared.plan.SetPlan.{SetPlan}
+use Rattle.fault_base.specs.Counts.{Rose}
+use Rattle.stamp_id.specs.declared.version.VersionId.{VersionId}
+use Rattle.vote_core.specs.Lane.{lane_at}
+use Rattle.register_core.specs.Loops.{letter_at}
+use Rattle.register_core.specs.declared.faults.QuorumFault.{QuorumFault}
+use Rattle.register_core.specs.declared.faults.QuorumFault.TheVariants.{NoMemory, ReadQuorum, Undecided, WriteQuorum}
+use Rattle.slot_history.specs.Names.{key_name}
+use Rattle.slot_history.specs.Standing.{Flying, Records}
+use Rattle.slot_history.specs.State.{State}
+use Rattle.slot_data.specs.Disks.{Disks, IsPartName}
+use Rattle.slot_data.specs.Holding.{Holding}
+use Rattle.slot_core.specs.Rules.{IsRegisterName}
+use Rattle.slot_core.specs.declared.fault.SlotFault.TheVariants.{Quorum}
+use Rattle.receipts.specs.Events.{Note, Shown}
+use Rattle.op_steps.specs.Claims.{Claim, DataHolds}
+use Rattle.op_steps.specs.Moves.{TurnMoves}
+use Rattle.op_steps.specs.Notes.{refusal_by}
+use Rattle.op_steps.specs.Store.{LanesStand, SlotSeen}
+
+-- a drive serves in a section: it is in use, its count of faults doesn't rise, and it shows what it keeps under certain names
+pub record DriveServes (IsName : List ℕ → Type 0) (out k : ℕ) (old new : DriveView) : Type 0 where
+  pub in_use : IsBitSet out k → ⊥
+  pub calm : Rose old.count new.count → ⊥
+  pub shows : (name : List ℕ) → IsName name → old.files.shown name ≡ old.files.kept name
+
+-- so does each drive of a set
+abbrev pub DrivesServe : (List ℕ → Type 0) → ℕ → ℕ → List DriveView → List DriveView → Type 0
+DrivesServe IsName out serving old new = (k : ℕ) → k < length old → IsBitSet serving k → DriveServes IsName out k (view_at old k) (view_at new k)
+
+-- a name is that of an entry's register
+abbrev pub IsNameOf : Option Entry → List ℕ → Type 0
+IsNameOf entry name = MatchOption entry ⊥ (λ made. name ≡ made.name)
+
+-- a name is that of a manifest
+abbrev pub IsManifestName : List ℕ → Type 0
+IsManifestName name = (id : VersionId) × (name ≡ manifest_name id)
+
+-- the put that a claim has, if it has one, is listed
+abbrev pub HasItsPut : Holding → Claim → Type 0
+HasItsPut holding claim = (f : Flying) → claim.flight ≡ Some f → Contains holding.flights f
+
+-- an entry isn't of a part's register, and where it is of a key's the put of the claim is listed
+abbrev pub IsOfCall : Holding → Claim → Option Entry → Type 0
+IsOfCall holding claim entry = MatchOption entry (Unit {0}) (λ made. (IsPartName made.name → ⊥) × ((at : Key) → made.name ≡ key_name at → HasItsPut holding claim))
+
+-- an entry is of a bucket's or a key's register, and the change of the value there is the base of some lane of a set
+abbrev pub IsMarkedOn : ℕ → Records → State → Option Entry → Type 0
+IsMarkedOn lanes records state entry = MatchOption entry ⊥ (λ made. IsRegisterName made.name × ((k : ℕ) × (k < length (records made.name)) × IsBitSet lanes k
+    × ((lane_at (records made.name) k).base.change ≡ (state.registers made.name).change)))
+
+module _ {D : Type 0} (ghosts : Ghosts D) where
+  -- no lane of a set had forgotten what was just written to it, by the letters of a write; drives of a type of which each tells never do
+  abbrev pub NoneForgot : ℕ → List Why → Type 0
+  NoneForgot lanes whys = ((d : D) → IsTrue (ghosts.tells d)) ⊎ ((k : ℕ) → IsBitSet lanes k → letter_at whys k ≢ Lacks Register)
+
+  -- lanes and data drives of these sets are enough against a fault of a quorum. A read takes as many lanes as a stripe has data blocks. A write takes as many
+  -- as must take it. To complete a change that adds data takes a lane with the value (`marked`), and all data drives but those that a write of the data may
+  -- have missed beyond its data blocks: none of them, or one where half the drives are parity
+  abbrev pub AreEnough : SetPlan → ℕ → ℕ → Type 0 → QuorumFault → Type 0
+  AreEnough set lanes disks marked (ReadQuorum whys) = data_drives set.drives set.parity ≤ count_in lanes set.drives
+  AreEnough set lanes disks marked (WriteQuorum whys) = (write_drives set.drives set.parity ≤ count_in lanes set.drives) × NoneForgot lanes whys
+  AreEnough set lanes disks marked (Undecided k u whys) = marked
+      × (set.drives + data_drives set.drives set.parity ≤ count_in disks set.drives + write_drives set.drives set.parity)
+  AreEnough set lanes disks marked NoMemory = ⊥
+
+  -- a section of a slot whose lanes stand and whose data holds isn't refused for a fault of a quorum against which enough lanes and data drives serve
+  abbrev pub SectionComplete : Type 0
+  SectionComplete = (was now : SlotSeen D) (note : Note) (shown : Shown) (claim later : Claim) (old new : List DriveView) (records : Records) (state : State)
+      (unseen : Disks) (claims : List Claim) (lanes disks : ℕ) (fault : QuorumFault)
+      → TurnMoves ghosts was now (Some note) shown claim later old new
+      → LanesStand ghosts.tells ghosts.files was records state → DataHolds was.numbers was.holding unseen old claims records state
+      → IsOfCall was.holding claim note.entry
+      → DrivesServe (IsNameOf note.entry) was.numbers.set.out lanes (views ghosts was.lanes) (views ghosts now.lanes)
+      → DrivesServe IsManifestName was.numbers.set.out disks old new
+      → AreEnough was.numbers.set lanes disks (IsMarkedOn lanes records state note.entry) fault → note.refusal ≡ refusal_by (Quorum fault) → ⊥
