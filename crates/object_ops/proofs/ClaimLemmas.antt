@@ -1,9 +1,8 @@
 -- What an op changes of its own claim among those of others, where it is to remove other ids.
-use Rattle.std.proofs.Common.{◌≡◌, ◌≢◌, ◌⊎◌, ◌∙◌, ℕ, zero, Some, List, ◌∷◌, ◌++◌, Contains, cond, option_to_list, option_map, inl, inr, refl, sym, ap, subst, arith}
+use Rattle.std.proofs.Common.{◌≡◌, ◌≢◌, ◌⊎◌, ◌∙◌, ℕ, zero, Some, List, ◌∷◌, ◌++◌, Contains, option_to_list, option_map, inl, inr, refl, sym, ap, subst, arith}
 use Rattle.std.specs.List.{flat_map}
-use Rattle.std.proofs.lemmas.Bool.Decides.{eqb_tells}
 use Rattle.std.proofs.lemmas.Grind.{flat_map-append}
-use Rattle.std.proofs.lemmas.List.Elements.{Contains-append_cases, Contains-append_left, Contains-append_right, filter-append}
+use Rattle.std.proofs.lemmas.List.Elements.{Contains-append_cases, Contains-append_left, Contains-append_right}
 use Rattle.stamp_id.specs.declared.version.VersionId.{VersionId}
 use Rattle.drive_base.specs.declared.plan.SetPlan.{SetPlan}
 use Rattle.version_list.specs.State.{AreDistinct}
@@ -15,8 +14,9 @@ use Rattle.slot_data.specs.Holding.{Holding, Known, Pinned}
 use Rattle.slot_data.specs.Moves.{with_taken as hands_with}
 use Rattle.slot_data.specs.Standing.{DataStands}
 use Rattle.slot_data.proofs.HandsLemmas.{hands_are_freed}
-use Rattle.op_steps.specs.Claims.{AllApart, Claim, among, claims_at, hands_of, is_at}
+use Rattle.op_steps.specs.Claims.{AllApart, Claim, among, claims_at, hands_of}
 use Rattle.op_steps.proofs.DataLemmas.{claims_elsewhere}
+use Rattle.op_steps.proofs.LiveFileLemmas.{own_in_hand}
 use Rattle.object_ops.specs.Clearing.{with_taken}
 
 -- what is in a list with an item in its midst is that item, or is there with another item in its place
@@ -43,15 +43,6 @@ pin_stays front rest a b p keeps x = elim (in_midst front rest b a x.0 x.1) [
   | inl same ↦ (b, Contains-append_right front (b ∷ rest) b (zero, omega arith, refl), keeps (subst (λ (c : Claim). c.pin ≡ Some p) (sym same) x.2))
   | inr other ↦ (x.0, other, x.2)
 ]
-
--- the claims of a slot, with one that is of the slot among them
-pub at_own : (slot : ℕ) (front rest : List Claim) (claim : Claim) → claim.slot ≡ slot
-    → claims_at slot (among front claim rest) ≡ among (claims_at slot front) claim (claims_at slot rest)
-at_own slot front rest claim own =
-    filter-append (is_at slot) front (claim ∷ rest) ∙ ap (λ l. claims_at slot front ++ l) (elim (eqb_tells claim.slot slot) [
-      | inl same ↦ ap (λ b. cond b (claim ∷ claims_at slot rest) (claims_at slot rest)) same.0
-      | inr differs ↦ absurd (differs.1 own)
-    ])
 
 -- one that isn't changes none of them
 pub at_other : (slot : ℕ) (front rest : List Claim) (claim : Claim) (ids : List VersionId) → claim.slot ≢ slot
@@ -85,11 +76,6 @@ module _ (front rest : List Claim) (claim : Claim) (ids : List VersionId) where
       was : Contains (flat_map taken_by front ++ (claim.taken ++ flat_map taken_by rest)) id → Contains (hands_of old).taken id
       was x = subst (λ (l : List VersionId). Contains l id) (sym (flat_map-append taken_by front (claim ∷ rest))) x
 
-  -- what the op held to remove is in hand
-  pub own_in_hand : (id : VersionId) → Contains claim.taken id → Contains (hands_of old).taken id
-  own_in_hand id there = subst (λ (l : List VersionId). Contains l id) (sym (flat_map-append taken_by front (claim ∷ rest)))
-      (Contains-append_right (flat_map taken_by front) (claim.taken ++ flat_map taken_by rest) id (Contains-append_left claim.taken (flat_map taken_by rest) id there))
-
   -- all else that is in hand stays
   abbrev same_over : {A : Type 0} (f : Claim → List A) → flat_map f (with_taken claim ids ∷ rest) ≡ flat_map f (claim ∷ rest) → flat_map f new ≡ flat_map f old
   same_over f same = flat_map-append f front (with_taken claim ids ∷ rest)
@@ -120,7 +106,7 @@ module _ (front rest : List Claim) (claim : Claim) (ids : List VersionId) where
       hands_are_freed set slot last records state holding disks (hands_with (hands_of old) more) (hands_of new)
       (λ id there. elim (taken_was id there) [
         | inl own ↦ elim (were id own) [
-          | inl held ↦ Contains-append_left (hands_of old).taken more id (own_in_hand id held)
+          | inl held ↦ Contains-append_left (hands_of old).taken more id (own_in_hand front rest claim id held)
           | inr taken ↦ Contains-append_right (hands_of old).taken more id taken
         ]
         | inr other ↦ Contains-append_left (hands_of old).taken more id other

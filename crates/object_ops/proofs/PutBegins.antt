@@ -40,7 +40,7 @@ use Rattle.op_steps.specs.Moves.{TurnMoves}
 use Rattle.op_steps.specs.Store.{SlotSeen}
 use Rattle.op_steps.proofs.DataLemmas.{last_rises}
 use Rattle.object_ops.specs.PutStands.{HoldsPut, no_cells}
-use Rattle.object_ops.proofs.ClaimLemmas.{at_own}
+use Rattle.op_steps.proofs.LiveFileLemmas.{at_own}
 use Rattle.object_ops.proofs.PutDisks.{kept_in_use, kept_out}
 use Rattle.object_ops.proofs.PutMine.{Other, Own, flight_of, flights_with, flights_without, other_there, own_there, still_claimed, whose}
 use Rattle.object_ops.proofs.ReadingLists.{flat_there, none_some, of_some, put_apart}

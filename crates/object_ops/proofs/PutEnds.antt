@@ -24,7 +24,7 @@ use Rattle.op_steps.specs.Claims.{AllApart, Claim, HoldsAt, IsMet, among, claims
 use Rattle.op_steps.specs.Moves.{TurnMoves}
 use Rattle.op_steps.specs.Store.{SlotSeen}
 use Rattle.op_steps.proofs.DataLemmas.{last_rises}
-use Rattle.object_ops.proofs.ClaimLemmas.{at_own}
+use Rattle.op_steps.proofs.LiveFileLemmas.{at_own}
 use Rattle.object_ops.proofs.PutMine.{Other, Own, distinct, flights_without, listed, met_other, mine, other_flight, still_claimed, unknown, whose}
 use Rattle.object_ops.proofs.ReadingLists.{none_some, of_some, out_distinct}
 

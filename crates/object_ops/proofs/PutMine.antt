@@ -13,7 +13,7 @@ use Rattle.slot_data.specs.Disks.{Disks}
 use Rattle.slot_data.specs.Holding.{Holding, Known}
 use Rattle.version_list.specs.State.{AreDistinct}
 use Rattle.op_steps.specs.Claims.{AllApart, Claim, HoldsAt, IsMet, among, claims_at, flights_in, hands_of}
-use Rattle.object_ops.proofs.ClaimLemmas.{at_own}
+use Rattle.op_steps.proofs.LiveFileLemmas.{at_own}
 use Rattle.object_ops.proofs.ReadingLists.{flat_has, flat_there, out_apart}
 
 -- one of the claims is this one, or it is one of the others

@@ -31,7 +31,7 @@ use Rattle.version_list.specs.State.{AreDistinct}
 use Rattle.op_steps.specs.Claims.{AllApart, Claim, DataHolds, DisksTell, IsExpected, IsMet, Staging, among, claims_at, disks_of, hands_of}
 use Rattle.op_steps.specs.Moves.{RecordsStand}
 use Rattle.op_steps.proofs.DataLemmas.{claims_elsewhere}
-use Rattle.object_ops.proofs.ClaimLemmas.{at_own}
+use Rattle.op_steps.proofs.LiveFileLemmas.{at_own}
 use Rattle.object_ops.proofs.PutDisks.{WritesUnder, cells_same, kept_beside, only_under, tell_after}
 use Rattle.object_ops.proofs.PutMine.{Other, Own, listed, met_other, mine, other_flight, still_claimed, unknown, whose}
 

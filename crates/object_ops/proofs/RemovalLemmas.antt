@@ -17,7 +17,7 @@ use Rattle.slot_history.specs.Standing.{Flying, Records}
 use Rattle.slot_history.specs.State.{State}
 use Rattle.slot_history.proofs.MemberLemmas.{same_or_other}
 use Rattle.slot_history.proofs.TakenLemmas.{first_there, rest_there}
-use Rattle.slot_data.specs.DiskLaws.{IsElsewhere, IsRemoved, StaysOrGoes}
+use Rattle.slot_data.specs.DiskLaws.{IsRemoved, StaysOrGoes}
 use Rattle.slot_data.specs.Disks.{Disks, kept_on}
 use Rattle.slot_data.specs.Holding.{Hands, Holding}
 use Rattle.slot_data.specs.Moves.{with_taken as hands_with}
@@ -32,7 +32,8 @@ use Rattle.object_ops.specs.DataNames.{name_by}
 use Rattle.object_ops.specs.Removing.{AreDue, FileOn, IsDue, ids_of}
 use Rattle.object_ops.specs.declared.removal.DataFile.{DataFile}
 use Rattle.object_ops.specs.declared.removal.DataFile.TheVariants.{Manifest, Shard}
-use Rattle.object_ops.proofs.ClaimLemmas.{apart_on, at_other, at_own, each_on, flight_stays, hands_on, own_in_hand, pin_stays}
+use Rattle.op_steps.proofs.LiveFileLemmas.{at_own, own_in_hand}
+use Rattle.object_ops.proofs.ClaimLemmas.{apart_on, at_other, each_on, flight_stays, hands_on, pin_stays}
 use Rattle.object_ops.proofs.ElsewhereLemmas.{removed_elsewhere}
 use Rattle.object_ops.proofs.LosingLemmas.{not_its, removal_loses}
 use Rattle.object_ops.proofs.TrashLemmas.{met_taken}
@@ -235,7 +236,7 @@ module _ (numbers : SlotNumbers) (holding : Holding) (records : Records) (state 
       let hands : Hands = hands_of (among one_before claim one_behind) in
       let d_stands : DataStands numbers.set index (last_of numbers) records state holding kept_was hands =
       subst (λ (l : List Claim). DataStands numbers.set index (last_of numbers) records state holding kept_was (hands_of l)) mine d.stands in
-      let in_hand = own_in_hand one_before one_behind claim (ids_of less) one.file.id held in
+      let in_hand = own_in_hand one_before one_behind claim one.file.id held in
       let gone = is_removed numbers.set unseen left less old new d.tell one due in
       let d_removed = taken_is_removed numbers.set index (last_of numbers) records state holding kept_was kept_now hands one.file.id in_hand gone d_stands in
       let d_less = hands_on one_before one_behind claim (ids_of less) numbers.set index (last_of numbers) records state holding kept_now [] still_held

@@ -25,7 +25,8 @@ use Rattle.op_steps.proofs.DataLemmas.{last_rises}
 use Rattle.op_steps.specs.Store.{LanesStand, SlotSeen}
 use Rattle.object_ops.specs.Clearing.{IsPlannedOf, TakesTrash, taken_of, with_taken}
 use Rattle.object_ops.specs.Removing.{FileOn, ids_of}
-use Rattle.object_ops.proofs.ClaimLemmas.{apart_on, at_own, each_on, flight_stays, hands_on, pin_stays}
+use Rattle.op_steps.proofs.LiveFileLemmas.{at_own}
+use Rattle.object_ops.proofs.ClaimLemmas.{apart_on, each_on, flight_stays, hands_on, pin_stays}
 use Rattle.object_ops.proofs.OrderLemmas.{planned_taken}
 
 -- puts and pins stay where trash is taken
