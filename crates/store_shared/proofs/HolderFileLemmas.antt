@@ -9,16 +9,17 @@ use Rattle.call_types.specs.declared.why.Why.{Why}
 use Rattle.call_types.specs.declared.why.Why.TheVariants.{Good, Failed, Damaged, Behind, Lacks}
 use Rattle.drive_base.specs.Files.{Files}
 use Rattle.drive_base.specs.HonestDamage.{IsHonestAt, KeepsHonesty}
-use Rattle.drive_base.specs.View.{AtEach, DriveView, OnlyRead, view_at}
+use Rattle.drive_base.specs.View.{AllOnlyRead, AtEach, DriveView, OnlyRead, view_at}
 use Rattle.drive_base.specs.declared.plan.SetPlan.{SetPlan}
 use Rattle.file_access.specs.Writing.{IsInPlace, Touches, WriteLeaves}
 use Rattle.term_gate.specs.Formats.{IsUnsealed, format_name, loose_format_name}
-use Rattle.term_gate.specs.Opening.{GoesOnFrom, IsMadeAndOpened, IsOpenedOrNot, Opens, TakesTerm}
+use Rattle.term_gate.specs.Opening.{Follows, IsMadeAndOpened, IsOpenedOrNot, Opens, TakesTerm}
 use Rattle.term_gate.specs.Reading.{why_at}
 use Rattle.term_gate.specs.Terms.{EachHonest, EachTells}
 use Rattle.term_gate.specs.Writing.{AreWritten, DriveIsWritten, file_for}
 use Rattle.term_gate.specs.declared.opening.Opened.{Opened}
 use Rattle.term_gate.specs.declared.refusal.OpenRefusal.{OpenRefusal}
+use Rattle.term_gate.specs.declared.refusal.OpenRefusal.TheVariants.{AuditFailed, NoMemory, OpenQuorum, TermSpent, WrongSet}
 
 -- a name isn't the one under which a format is written
 abbrev IsNoLooseFormat : List ℕ → Type 0
@@ -146,38 +147,61 @@ each_written set term passed other whys old new tell wrote = record {
   each = λ k lt. others_written (file_for set k term) term passed k other (why_at whys k) (view_at old k) (view_at new k) (tell k lt tt) (wrote.drives.each k lt);
 }
 
-each_taken : (set : SetPlan) (top out : ℕ) (opened : Opened) (old new : List DriveView) → EachTells old → TakesTerm set top out (Ok opened) old new
+each_same : (old new : List DriveView) → new ≡ old → EachSparesOthers old new
+each_same old new same = record {
+  long = ap length same;
+  each = λ k lt. others_same (view_at old k) (view_at new k) (ap (λ (l : List DriveView). view_at l k) same);
+}
+
+pub each_read : (old new : List DriveView) → EachTells old → AllOnlyRead old new → EachSparesOthers old new
+each_read old new tell only = record {
+  long = only.long;
+  each = λ k lt. others_read (view_at old k) (view_at new k) (tell k lt tt) (only.each k lt);
+}
+
+each_taken : (set : SetPlan) (top out : ℕ) (result : Result Opened OpenRefusal) (old new : List DriveView) → EachTells old → TakesTerm set top out result old new
     → EachSparesOthers old new
-each_taken set top out opened old new tell (whys, taken, written, enough, is, out_is) =
+each_taken set top out (Ok opened) old new tell (whys, taken, written, enough, is, out_is) =
     each_written set (top + 1) out (Lacks Format) whys old new tell written.wrote
+each_taken set top out (Err (WrongSet found wanted)) old new tell takes = absurd takes
+each_taken set top out (Err (OpenQuorum whys)) old new tell (taken, written, few) = each_written set (top + 1) out (Lacks Format) whys old new tell written.wrote
+each_taken set top out (Err NoMemory) old new tell (same, below) = each_same old new same
+each_taken set top out (Err TermSpent) old new tell (same, last) = each_same old new same
+each_taken set top out (Err (AuditFailed before after)) old new tell takes = absurd takes
 
-abbrev is_ok : Result Opened OpenRefusal → Type 0
-is_ok (Ok opened) = Unit {0}
-is_ok (Err why) = ⊥
-
-each_made : (set : SetPlan) (whys : List Why) (opened : Opened) (old new : List DriveView) → EachTells old → IsMadeAndOpened set whys (Ok opened) old new
+each_made : (set : SetPlan) (whys : List Why) (result : Result Opened OpenRefusal) (old new : List DriveView) → EachTells old → IsMadeAndOpened set whys result old new
     → EachSparesOthers old new
-each_made set whys opened old new tell (inl (mid, written, made, good, takes)) =
+each_made set whys result old new tell (inl (mid, written, made, good, takes)) =
     let first = each_written set 0 made.passed Good written old mid tell made.wrote in
-    each_twice old mid new first (each_taken set 0 0 opened mid new (each_tells old mid tell first) takes)
-each_made set whys opened old new tell (inr (inl (told, refused, unmade))) = absurd (subst is_ok refused tt)
-each_made set whys opened old new tell (inr (inr (lacks, same))) = absurd (subst is_ok lacks tt)
+    each_twice old mid new first (each_taken set 0 0 result mid new (each_tells old mid tell first) takes)
+each_made set whys result old new tell (inr (inl (told, refused, inl (told_is, unanswered, same)))) = each_same old new same
+each_made set whys result old new tell (inr (inl (told, refused, inr (made, bad)))) = each_written set 0 made.passed Good told old new tell made.wrote
+each_made set whys result old new tell (inr (inr (lacks, same))) = each_same old new same
 
-each_again : (set : SetPlan) (whys : List Why) (top : ℕ) (opened : Opened) (old new : List DriveView) → EachTells old
-    → IsOpenedOrNot set whys top (Ok opened) old new → EachSparesOthers old new
-each_again set whys top opened old new tell (good, counted, inl (enough, (out, absent, takes))) = each_taken set top out opened old new tell takes
-each_again set whys top opened old new tell (good, counted, inr (few, refused, same)) = absurd (subst is_ok refused tt)
+each_again : (set : SetPlan) (whys : List Why) (top : ℕ) (result : Result Opened OpenRefusal) (old new : List DriveView) → EachTells old
+    → IsOpenedOrNot set whys top result old new → EachSparesOthers old new
+each_again set whys top result old new tell (good, counted, inl (enough, (out, absent, takes))) = each_taken set top out result old new tell takes
+each_again set whys top result old new tell (good, counted, inr (few, refused, same)) = each_same old new same
 
-each_goes : (set : SetPlan) (whys : List Why) (top : ℕ) (opened : Opened) (old new : List DriveView) → EachTells old
-    → GoesOnFrom set whys top (Ok opened) old new → EachSparesOthers old new
-each_goes set whys top opened old new tell (inl (being, made)) = each_made set whys opened old new tell made
-each_goes set whys top opened old new tell (inr (other, again)) = each_again set whys top opened old new tell again
+each_follows : (set : SetPlan) (result : Result Opened OpenRefusal) (old new : List DriveView) → EachTells old → Follows set result old new → EachSparesOthers old new
+each_follows set result old new tell x =
+    let first = each_read old x.mid tell x.read.read.only in
+    let told = each_tells old x.mid tell first in
+    each_twice old x.mid new first (elim x.goes_on [
+      | inl being ↦ each_made set x.whys result x.mid new told being.1
+      | inr again ↦ each_again set x.whys x.top result x.mid new told again.1
+    ])
 
--- a set that was opened over drives that tell keeps what is no format
+-- an opening of a set over drives that tell, whatever came of it, keeps what is no format
+pub tried_spares_others : (set : SetPlan) (result : Result Opened OpenRefusal) (old new : List DriveView) → Opens set result old new → EachTells old
+    → EachSparesOthers old new
+tried_spares_others set (Ok opened) old new x tell = each_follows set (Ok opened) old new tell x
+tried_spares_others set (Err (WrongSet found wanted)) old new x tell = each_read old new tell x.read.only
+tried_spares_others set (Err (OpenQuorum whys)) old new x tell = each_follows set (Err (OpenQuorum whys)) old new tell x
+tried_spares_others set (Err NoMemory) old new (inl only) tell = each_read old new tell only
+tried_spares_others set (Err NoMemory) old new (inr x) tell = each_follows set (Err NoMemory) old new tell x
+tried_spares_others set (Err TermSpent) old new x tell = each_follows set (Err TermSpent) old new tell x
+tried_spares_others set (Err (AuditFailed before after)) old new x tell = absurd x
+
 pub opened_spares_others : (set : SetPlan) (opened : Opened) (old new : List DriveView) → Opens set (Ok opened) old new → EachTells old → EachSparesOthers old new
-opened_spares_others set opened old new x tell =
-    let first : EachSparesOthers old x.mid = record {
-      long = x.read.read.only.long;
-      each = λ k lt. others_read (view_at old k) (view_at x.mid k) (tell k lt tt) (x.read.read.only.each k lt);
-    } in
-    each_twice old x.mid new first (each_goes set x.whys x.top opened x.mid new (each_tells old x.mid tell first) x.goes_on)
+opened_spares_others set opened old new x tell = tried_spares_others set (Ok opened) old new x tell

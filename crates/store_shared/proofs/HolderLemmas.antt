@@ -130,7 +130,7 @@ keep_same set unseen lost out old new long keep more =
     by_bit k name false stays = refl
 
 -- and what is loose under them
-none_loose : (set : SetPlan) (old new : List DriveView) (k : ℕ) (id : VersionId) → length old ≡ set.drives → EachSparesOthers old new → k < set.drives
+pub none_loose : (set : SetPlan) (old new : List DriveView) (k : ℕ) (id : VersionId) → length old ≡ set.drives → EachSparesOthers old new → k < set.drives
     → HasNoneLoose (data_of id (view_at old k).files) → HasNoneLoose (data_of id (view_at new k).files)
 none_loose set old new k id long keep within none =
     let stays = (keep.each k (omega (arith, long, within))).loose in
@@ -222,6 +222,7 @@ module _ {D A : Type 0} (ghosts : Ghosts D) (entries : A → Option (List Entry)
         let opened : AreOpened entries count (with_out set out) x.opened.term 0 parts.slots.items (slots_of pass) =
         subst (λ (s : SetPlan). AreOpened entries count s x.opened.term 0 parts.slots.items (slots_of pass)) x.set_is x.slots in
         record {
+          rises = above;
           holds = λ k was there.
               let found = opened_at entries count (with_out set out) x.opened.term 0 parts.slots.items (slots_of pass) opened k was there in
               let same : 0 + k ≡ k = omega arith in

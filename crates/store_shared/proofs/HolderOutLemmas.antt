@@ -10,6 +10,7 @@ use Rattle.drive_base.specs.Files.{Files}
 use Rattle.drive_base.specs.View.{DriveView, view_at}
 use Rattle.drive_base.specs.declared.plan.SetPlan.{SetPlan}
 use Rattle.register_core.proofs.LaneLemmas.{none_set}
+use Rattle.term_gate.proofs.TermLemmas.{none_found, read_lacks}
 use Rattle.term_gate.specs.Complete.{Serves, ShowsNone}
 use Rattle.term_gate.specs.Formats.{format_name}
 use Rattle.term_gate.specs.Opening.{Follows, IsMadeAndOpened, IsOpenedOrNot, Opens}
@@ -26,29 +27,19 @@ abbrev is_ok : Result Opened OpenRefusal → Type 0
 is_ok (Ok opened) = Unit {0}
 is_ok (Err why) = ⊥
 
--- nothing is shown under a name, or something is
-none_found : (found : Option (List ℕ)) (bytes : List ℕ) → found ≡ None → found ≡ Some bytes → ⊥
-none_found found bytes none some = cc
-
--- a drive that is found without a format shows none
-read_lacks : (f : Option DriveFormat) (why : Why) (old new : DriveView) → DriveIsRead f why old new → why ≡ Lacks Format → IsTrue old.tells → ShowsNone old
-read_lacks (Some f) why old new is lacks told = absurd (let apart : Good ≡ Lacks Format = sym is.0 ∙ lacks in cc)
-read_lacks None Good old new is lacks told = absurd is
-read_lacks None (Failed before after) old new is lacks told = absurd (let apart : Failed before after ≡ Lacks Format = lacks in cc)
-read_lacks None (Damaged damage) old new is lacks told = absurd (let apart : Damaged damage ≡ Lacks Format = lacks in cc)
-read_lacks None (Behind ballot) old new is lacks told = absurd is
-read_lacks None (Lacks Format) old new is lacks told = is.1 told
-read_lacks None (Lacks Register) old new is lacks told = absurd is
-read_lacks None (Lacks Manifest) old new is lacks told = absurd is
-read_lacks None (Lacks Shard) old new is lacks told = absurd is
-
 -- a count didn't fall over a write
-count_up : (file : List ℕ) (term passed k : ℕ) (other why : Why) (old new : DriveView) → DriveIsWritten file term passed other k why old new → old.count ≤ new.count
+pub count_up : (file : List ℕ) (term passed k : ℕ) (other why : Why) (old new : DriveView) → DriveIsWritten file term passed other k why old new → old.count ≤ new.count
 count_up file term passed k other why old new (inl over) = subst (λ (v : DriveView). old.count ≤ v.count) (sym over.stays) (omega arith)
 count_up file term passed k other why old new (inr (apart, written)) = written.goes_on.count
 
+-- a drive that is passed over stays
+pub passed_over : (file : List ℕ) (term passed k : ℕ) (other why : Why) (was now : DriveView) → IsBitSet passed k
+    → DriveIsWritten file term passed other k why was now → now ≡ was
+passed_over file term passed k other why was now in_it (inl over) = over.stays
+passed_over file term passed k other why was now in_it (inr (apart, written)) = absurd (apart in_it)
+
 -- a drive that serves and shows no format is found without one
-lacks_read : (f : Option DriveFormat) (why : Why) (old new : DriveView) → DriveIsRead f why old new → IsTrue old.tells → ShowsNone old
+pub lacks_read : (f : Option DriveFormat) (why : Why) (old new : DriveView) → DriveIsRead f why old new → IsTrue old.tells → ShowsNone old
     → (Rose old.count new.count → ⊥) → why ≡ Lacks Format
 lacks_read (Some f) why old new is told lacks calm = absurd (none_found (old.files.shown format_name) (format_file f) lacks (is.3 told))
 lacks_read None Good old new is told lacks calm = absurd is
@@ -68,7 +59,7 @@ lacks_read None (Lacks Manifest) old new is told lacks calm = absurd is
 lacks_read None (Lacks Shard) old new is told lacks calm = absurd is
 
 -- no count of a drive that serves rose
-calm_so_far : (old mid new : DriveView) → Serves old new → mid.count ≤ new.count → Rose old.count mid.count → ⊥
+pub calm_so_far : (old mid new : DriveView) → Serves old new → mid.count ≤ new.count → Rose old.count mid.count → ⊥
 calm_so_far old mid new serves up (low, inl more) = (let stands = serves.stands in omega (arith, stands, more, up))
 calm_so_far old mid new serves up (low, inr top) = (let stands = serves.stands in let few = serves.low in omega (arith, stands, few, top, up))
 
@@ -108,11 +99,6 @@ module _ (set : SetPlan) (used lost : ℕ) (old new : List DriveView) (tell : Ea
   record IsOut (k : ℕ) : Type 0 where
     within : k < set.drives
     lacks : ShowsNone (view_at new k)
-
-  passed_over : (file : List ℕ) (term passed k : ℕ) (other why : Why) (was now : DriveView) → IsBitSet passed k
-      → DriveIsWritten file term passed other k why was now → now ≡ was
-  passed_over file term passed k other why was now in_it (inl over) = over.stays
-  passed_over file term passed k other why was now in_it (inr (apart, written)) = absurd (apart in_it)
 
   out_of_made : (opened : Opened) (whys : List Why) (mid : List DriveView) (k : ℕ) → IsMadeAndOpened set whys (Ok opened) mid new → IsBitSet opened.out k → ⊥
   out_of_made opened whys mid k (inl (made_at, written, made, good, (letters, taken, takes, enough, term_is, out_is))) out =

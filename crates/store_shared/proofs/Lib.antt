@@ -6,6 +6,7 @@ pub mod HolderKeptLemmas
 pub mod HolderLemmas
 pub mod HolderLostLemmas
 pub mod HolderOutLemmas
+pub mod HolderTriedLemmas
 pub mod LaterLemmas
 pub mod LawLemmas
 pub mod OpeningLemmas

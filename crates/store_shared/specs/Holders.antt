@@ -1,6 +1,6 @@
 -- What the lanes and the data drives of a store hold before it is opened, what the store that was opened over them holds, and what they hold when it ends.
 -- Drives that were lost since an earlier life take no part in it: in their place stand the records and the files that they kept last.
-use Rattle.std.specs.Prelude.{◌≡◌, ◌⊎◌, ℕ, ◌<◌, ◌≤◌, ◌^◌, Bool, IsTrue, List, [], length, None, Option, replicate, slice_index_or}
+use Rattle.std.specs.Prelude.{◌≡◌, ◌⊎◌, ℕ, ◌<◌, ◌≤◌, ◌^◌, Bool, IsTrue, List, [], length, None, Option, Result, replicate, slice_index_or}
 use Rattle.std.specs.Int.{IsBitSet}
 use Rattle.audit_trail.specs.declared.entry.Entry.{Entry}
 use Rattle.drive_base.specs.Files.{Files}
@@ -26,7 +26,10 @@ use Rattle.op_steps.specs.Leading.{Standing}
 use Rattle.op_steps.specs.Steps.{IsSlotAt}
 use Rattle.op_steps.specs.Store.{AreInOrder, SlotSeen, slots_seen}
 use Rattle.term_gate.specs.Complete.{Serves, ShowsNone}
+use Rattle.term_gate.specs.Opening.{Opens}
 use Rattle.term_gate.specs.Terms.{EachHonest, EachTells, IsKept}
+use Rattle.term_gate.specs.declared.opening.Opened.{Opened}
+use Rattle.term_gate.specs.declared.refusal.OpenRefusal.{OpenRefusal}
 use Rattle.store_shared.specs.Opening.{with_out}
 use Rattle.store_shared.specs.OpeningAll.{StoreIsOpen}
 use Rattle.store_shared.specs.Passes.{disks_of, set_of, slots_of}
@@ -122,9 +125,10 @@ abbrev pub LostServe : ℕ → List DriveView → List DriveView → Type 0
 LostServe lost old new = (k : ℕ) → IsBitSet lost k → Serves (view_at old k) (view_at new k)
 
 module _ {D A : Type 0} (ghosts : Ghosts D) (entries : A → Option (List Entry)) (count : A → ℕ) where
-  -- an opened store holds with nothing in hand, where these files stand in the place of the drives that are out; its term is the last one that was used, and
-  -- the drives that are out are lost
-  pub record OpenHolds (term : ℕ) (unseen : Disks) (at : ℕ → Standing) (pass : PlainPass D A) : Type 0 where
+  -- an opened store holds with nothing in hand, where these files stand in the place of the drives that are out; its term is above each one that was used, and
+  -- is the last one now, and the drives that are out are lost
+  pub record OpenHolds (used term : ℕ) (unseen : Disks) (at : ℕ → Standing) (pass : PlainPass D A) : Type 0 where
+    pub rises : used < term
     pub holds : StoreHolds ghosts.tells ghosts.files unseen (slots_seen entries count (slots_of pass)) (views ghosts (disks_of pass)) [] at
     pub disks : DrivesRest (set_of pass) term (views ghosts (disks_of pass))
     pub lost_are : AreLost (set_of pass) term (set_of pass).out (views ghosts (disks_of pass))
@@ -135,7 +139,24 @@ module _ {D A : Type 0} (ghosts : Ghosts D) (entries : A → Option (List Entry)
   OpenedStoreHolds = (set : SetPlan) (used lost : ℕ) (unseen : Disks) (at : ℕ → Standing) (parts : StoreParts D A) (pass : PlainPass D A)
       (is_open : StoreIsOpen ghosts entries count set parts pass)
       → RigHolds ghosts set used lost unseen at parts → LostServe lost (views ghosts parts.disks.items) (views ghosts (disks_of pass))
-      → OpenHolds is_open.opened.term (counted unseen lost (views ghosts (disks_of pass))) at pass
+      → OpenHolds used is_open.opened.term (counted unseen lost (views ghosts (disks_of pass))) at pass
+
+-- ---- an opening that is refused
+
+module _ {D A : Type 0} (ghosts : Ghosts D) where
+  -- the opening of a store was tried: its set was read, and perhaps given a term, whatever came of it (`Opens`), and its lanes stay
+  pub record IsTried (set : SetPlan) (old new : StoreParts D A) : Type 0 where
+    pub result : Result Opened OpenRefusal
+    pub opens : Opens set result (views ghosts old.disks.items) (views ghosts new.disks.items)
+    pub lanes : (k : ℕ) (now : SlotParts D A) → ArePartsAt new.slots.items k now
+        → (was : SlotParts D A) × ArePartsAt old.slots.items k was × (now.lanes.items ≡ was.lanes.items)
+
+module _ {D : Type 0} (A : Type 0) (ghosts : Ghosts D) where
+  -- lanes and data drives hold as before when an opening was tried, where no lost drive failed
+  abbrev pub TriedRigHolds : Type 0
+  TriedRigHolds = (set : SetPlan) (used lost : ℕ) (unseen : Disks) (at : ℕ → Standing) (old new : StoreParts D A)
+      → RigHolds ghosts set used lost unseen at old → IsTried ghosts set old new
+      → LostServe lost (views ghosts old.disks.items) (views ghosts new.disks.items) → RigHolds ghosts set used lost unseen at new
 
 -- ---- a store whose life ends
 

@@ -1,23 +1,33 @@
 //! The laws of a store's lives.
 
-ghost use Rattle.store_shared.specs.Holders.{BareRigHolds, ClosedStoreHolds, KeptDrivesRest, LostRigHolds, OpenedStoreHolds};
+ghost use Rattle.store_shared.specs.Holders.{
+  BareRigHolds,
+  ClosedStoreHolds,
+  KeptDrivesRest,
+  LostRigHolds,
+  OpenedStoreHolds,
+  TriedRigHolds,
+};
 
 use audit_trail::Audit;
 use drive_base::Drive;
 use slot_core::{life_law, open_law};
 use slot_data::{fresh_data_law, out_law};
 use slot_history::{fresh_law, resting_laws};
+use term_gate::opening_laws;
 
 /// The laws of a store's lives, for a caller's proof. It does nothing.
 ///
 /// - A store that was opened over lanes and data drives which hold, holds with nothing in hand: the lanes of each slot
 ///   stand for the state for which they stood before, and the data drives hold its data.
+/// - Lanes and data drives hold as before when an opening was tried and refused.
 /// - Lanes and data drives without files hold.
 /// - Data drives that keep what is no data go on to tell, and to keep the term of the life.
 /// - Lanes and data drives of a store that holds, hold when its life ends.
 /// - They go on to hold when more drives are lost, where the term is still kept.
 pub fn opened_law<D: Drive, A: Audit>()
     ensures opened { OpenedStoreHolds D.Drive A.entries A.count }
+    ensures tried { TriedRigHolds A D.Drive }
     ensures kept { KeptDrivesRest }
     ensures bare { BareRigHolds A D.Drive }
     ensures closed { ClosedStoreHolds A D.Drive }
@@ -29,4 +39,5 @@ pub fn opened_law<D: Drive, A: Audit>()
     fresh_data_law();
     fresh_law();
     resting_laws();
+    opening_laws();
 }

@@ -209,8 +209,10 @@ fn names_in(alloc: Global, pass: &mut MemPass, slot: u8) -> Result<usize, Fail>
     }
 }
 
+/// A desk that answers from the state in which the store was opened, that stores other bytes than it was given, or that drops a change and says that it is
+/// done fails here.
 #[test]
-fn calls_are_answered(rt: HostRuntime) -> Result<(), Fail> {
+fn a_desk_that_lies_is_found_out(rt: HostRuntime) -> Result<(), Fail> {
     let alloc = rt.alloc();
     let mut pass = opened(&rt, alloc, fresh(alloc, 0)?)?;
     for (ask, heard) in [

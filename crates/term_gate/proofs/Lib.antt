@@ -7,4 +7,4 @@ mod LooseLemmas
 mod OpenLemmas
 mod ServeLemmas
 mod StayLemmas
-mod TermLemmas
+pub mod TermLemmas

@@ -3,11 +3,15 @@ use Rattle.store_shared.proofs.HolderFreshLemmas.{bare_rig_holds}
 use Rattle.store_shared.proofs.HolderKeptLemmas.{kept_drives_rest}
 use Rattle.store_shared.proofs.HolderLemmas.{opened_store_holds}
 use Rattle.store_shared.proofs.HolderLostLemmas.{lost_rig_holds}
+use Rattle.store_shared.proofs.HolderTriedLemmas.{tried_rig_holds}
 use Rattle.store_shared.proofs.lives.opened_law.Goals as goal
 
 pub returns-clause-opened : goal.returns-clause-opened
 returns-clause-opened g c = opened_store_holds g.D.Drive g.A.Audit.entries g.A.Audit.count c.life_law.ensures.goes_on c.open_law.ensures.opened
     c.out_law.ensures c.fresh_data_law.ensures.drawn
+
+pub returns-clause-tried : goal.returns-clause-tried
+returns-clause-tried g c = tried_rig_holds g.row.A.Denot g.D.Drive c.opening_laws.ensures.terms c.out_law.ensures c.fresh_data_law.ensures.drawn
 
 pub returns-clause-kept : goal.returns-clause-kept
 returns-clause-kept g c = kept_drives_rest
