@@ -1,9 +1,12 @@
 mod ClosingLemmas
 mod DocumentLemmas
 mod FitsLemmas
+mod FreshLemmas
+mod LifeLemmas
 mod PipeLemmas
 mod PlaceLemmas
 mod ProgramLemmas
+mod RefusalLemmas
 mod RigLemmas
 mod RunLemmas
 mod SessionLemmas

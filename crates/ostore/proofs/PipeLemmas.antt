@@ -1,5 +1,5 @@
 -- Histories run, and data holds on, over any connection.
-use Rattle.std.proofs.Common.{◌≡◌, ◌∙◌, ℕ, List, Option, length, ap, sym, subst}
+use Rattle.std.proofs.Common.{◌≡◌, ◌∙◌, ℕ, List, Option, length, sym, subst}
 use Rattle.std.proofs.lemmas.List.{length-map}
 use Rattle.audit_trail.specs.declared.entry.Entry.{Entry}
 use Rattle.drive_base.specs.View.{DriveView, views}
@@ -54,6 +54,7 @@ module _ {D A : Type 0} (ghosts : Ghosts D) (entries : A → Option (List Entry)
         opens = opens;
         stop = stop;
         session = session;
+        calls = calls.ran;
         closed = closed;
         history = subst (λ l. AllRan entries ghosts.tells ghosts.files (set_of opened) opens.opened.term (joined logs) l after.slots.items) are.slots ran;
         drives = kept.drives;

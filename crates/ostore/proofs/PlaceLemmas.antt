@@ -14,22 +14,16 @@ use Rattle.op_steps.specs.Calling.{AllWent}
 use Rattle.op_steps.specs.Steps.{IsSlotAt}
 use Rattle.op_steps.specs.Store.{AreInOrder, slot_seen, slots_seen}
 use Rattle.store_shared.specs.Opening.{AreOpened}
+use Rattle.store_shared.proofs.OpeningLemmas.{opened_count}
 use Rattle.ostore.specs.History.{AllRan, ClosedSlotRan}
 use Rattle.ostore.specs.Rigs.{AreClosed, IsClosed}
 
 -- some element of a list that has one
-some_of : {X : Type 0} (xs : List X) (k : ℕ) → k < length xs → X
+pub some_of : {X : Type 0} (xs : List X) (k : ℕ) → k < length xs → X
 some_of [] k inside = absurd (omega (arith, inside))
 some_of (x ∷ xs) k inside = x
 
 module _ {D A : Type 0} (entries : A → Option (List Entry)) (count : A → ℕ) where
-  -- as many slots are open as lanes and audits were handed in
-  opened_count : (set : SetPlan) (term index : ℕ) (all : List (SlotParts D A)) (slots : List (Slot D A)) → AreOpened entries count set term index all slots
-      → length slots ≡ length all
-  opened_count set term index [] slots none = ap length none
-  opened_count set term index (parts ∷ more) slots (slot, rest, is, opened, others) =
-      ap length is ∙ ap suc (opened_count set term (index + 1) more rest others)
-
   -- the slot in each place is open over the lanes and the audit there
   pub opened_at : (set : SetPlan) (term index : ℕ) (all : List (SlotParts D A)) (slots : List (Slot D A)) → AreOpened entries count set term index all slots
       → (k : ℕ) (d : SlotParts D A) (e : Slot D A) → k < length all
@@ -45,8 +39,13 @@ module _ {D A : Type 0} (entries : A → Option (List Entry)) (count : A → ℕ
       (subst (λ n. IsOpened entries count set n term (slice_index_or more k d) (slice_index_or rest k e)) same
       (opened_at set term (index + 1) more rest others k d e (omega (arith, inside))))
 
+-- as many were left as there were slots
+pub closed_count : {D A : Type 0} (slots : List (Slot D A)) (parts : List (SlotParts D A)) → AreClosed slots parts → length parts ≡ length slots
+closed_count [] parts none = ap length none
+closed_count (slot ∷ slots) parts (first, rest, is, closed, others) = ap length is ∙ ap suc (closed_count slots rest others)
+
 -- what is in each place was left by the slot there
-closed_at : {D A : Type 0} (slots : List (Slot D A)) (parts : List (SlotParts D A)) → AreClosed slots parts → (k : ℕ) (e : Slot D A) (d : SlotParts D A)
+pub closed_at : {D A : Type 0} (slots : List (Slot D A)) (parts : List (SlotParts D A)) → AreClosed slots parts → (k : ℕ) (e : Slot D A) (d : SlotParts D A)
     → k < length slots → IsClosed (slice_index_or slots k e) (slice_index_or parts k d)
 closed_at [] parts none k e d inside = absurd (omega (arith, inside))
 closed_at (slot ∷ slots) parts (first, rest, is, closed, others) zero e d inside =
@@ -57,7 +56,7 @@ closed_at (slot ∷ slots) parts (first, rest, is, closed, others) (suc k) e d i
 
 module _ {D A : Type 0} (ghosts : Ghosts D) (entries : A → Option (List Entry)) (count : A → ℕ) where
   -- what is seen of the slot in a place
-  seen_at : (slots : List (Slot D A)) (k : ℕ) (e : Slot D A) → k < length slots
+  pub seen_at : (slots : List (Slot D A)) (k : ℕ) (e : Slot D A) → k < length slots
       → IsSlotAt (slots_seen entries count slots) k (slot_seen entries count (slice_index_or slots k e))
   seen_at slots k e inside =
       let long = length-map slots (slot_seen entries count) in

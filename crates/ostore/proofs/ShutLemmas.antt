@@ -1,5 +1,5 @@
 -- A rig over which no store was opened is handed back.
-use Rattle.std.proofs.Common.{◌≡◌, ◌⊎◌, ◌<◌, ◌≤◌, ◌∙◌, ◌+◌, ℕ, List, [], ◌∷◌, ◌++◌, Option, Err, Vec, append-nil, append_assoc, length, reverse, slice_index_or, ap, refl, sym, subst, suc, inl, inr, arith}
+use Rattle.std.proofs.Common.{◌≡◌, ◌⊎◌, ◌≤◌, ◌∙◌, ◌+◌, ℕ, List, [], ◌∷◌, ◌++◌, Option, Err, Vec, append-nil, append_assoc, length, reverse, slice_index_or, ap, refl, sym, subst, inl, inr, arith}
 use Rattle.std.proofs.lemmas.List.{length-append, length-reverse}
 use Rattle.audit_trail.specs.declared.entry.Entry.{Entry}
 use Rattle.drive_base.specs.View.{views}
@@ -8,11 +8,11 @@ use Rattle.std.specs.Global.{Global}
 use Rattle.drive_base.specs.declared.plan.SetPlan.{SetPlan}
 use Rattle.slot_core.specs.declared.slot.Slot.{Slot}
 use Rattle.slot_core.specs.declared.slot.SlotParts.{SlotParts}
+use Rattle.store_shared.proofs.OpeningLemmas.{opened_count}
 use Rattle.store_shared.specs.Opening.{AreOpened, SetRefuses, SlotRefuses, with_out}
 use Rattle.store_shared.specs.OpeningAll.{OpensStore, StoreIsOpen}
 use Rattle.store_shared.specs.declared.opened.NotOpened.{NotOpened}
 use Rattle.store_shared.specs.declared.opened.StoreParts.{StoreParts}
-use Rattle.term_gate.specs.declared.refusal.OpenRefusal.{OpenRefusal}
 use Rattle.term_gate.specs.declared.refusal.OpenRefusal.TheVariants.{NoMemory}
 use Rattle.ostore.specs.Opening.{AreLeft, IsAway, IsShop, IsShut, NotOpens, SetIsRefused, SlotIsRefused}
 use Rattle.ostore.specs.Rigs.{AreClosed, ArePartsOf, IsRigOf}
@@ -44,16 +44,9 @@ module _ {D A : Type 0} (ghosts : Ghosts D) (entries : A → Option (List Entry)
         c.0,
         c.1,
         c.2,
-        record { lanes = c.3.lanes ∙ opened.lanes; audit = ap entries c.3.audit ∙ opened.entry },
+        record { lanes = c.3.lanes ∙ opened.lanes; audit = ap entries c.3.audit ∙ opened.entry; counted = ap count c.3.audit ∙ opened.counted },
         opened_closed set term (index + 1) all rest c.1 others c.4,
       )
-
-  -- as many slots are open as lanes and audits were taken
-  opened_count : (set : SetPlan) (term index : ℕ) (all : List (SlotParts D A)) (slots : List (Slot D A)) → AreOpened entries count set term index all slots
-      → length slots ≡ length all
-  opened_count set term index [] slots none = ap length none
-  opened_count set term index (parts ∷ more) slots (slot, rest, is, opened, others) =
-      ap length is ∙ ap suc (opened_count set term (index + 1) more rest others)
 
   -- nothing was done to a rig
   pub nothing_opened : (rig : Rig D A) (parts : StoreParts D A) → ArePartsOf rig parts → NotOpens ghosts entries count rig rig NoMemory
@@ -74,7 +67,7 @@ module _ {D A : Type 0} (ghosts : Ghosts D) (entries : A → Option (List Entry)
       let old = ap length k.old_is ∙ length-append k.front (k.was ∷ []) in
       let new = ap length k.new_is ∙ length-append k.front (k.now ∷ []) in
       let all = ap length r.behind.all_is ∙ length-append r.front r.behind.behind in
-      let slots = opened_count (with_out set r.opened.out) r.opened.term (length r.front) r.behind.behind (reverse back.slots.items) r.behind.opened in
+      let slots = opened_count entries count (with_out set r.opened.out) r.opened.term (length r.front) r.behind.behind (reverse back.slots.items) r.behind.opened in
       let turned = length-reverse back.slots.items in
       omega (arith, counted, old, new, all, slots, turned)
   few_back set parts back counted (inr r) =

@@ -2,6 +2,8 @@ pub mod Document
 pub mod Fresh
 pub mod History
 pub mod Laws
+pub mod Lives
+pub mod Locked
 pub mod Logs
 pub mod Opening
 pub mod Program

@@ -2,7 +2,7 @@
 use Rattle.std.specs.Prelude.{◌≡◌, ◌⊎◌, ℕ, ◌≤◌, List, [], ◌∷◌, ◌++◌, reverse, Option, Result, Ok, Err, vec_capacity}
 use Rattle.audit_trail.specs.Entries.{with_entry}
 use Rattle.audit_trail.specs.declared.entry.Entry.{Entry}
-use Rattle.drive_base.specs.View.{DriveView, views}
+use Rattle.drive_base.specs.View.{views}
 use Rattle.drive_base.specs.declared.drive.Drive.{Ghosts}
 use Rattle.drive_base.specs.declared.plan.SetPlan.{SetPlan}
 use Rattle.slot_core.specs.Opening.{opening}
@@ -42,10 +42,11 @@ module _ {D A : Type 0} where
     pub disks : shut.rig.data.items ≡ back.parts.disks ∷ []
 
 module _ {D A : Type 0} (ghosts : Ghosts D) (entries : A → Option (List Entry)) (count : A → ℕ) where
-  -- a slot was opened and closed again: its lanes stay, and its audit has the entry of the opening more
+  -- a slot was opened and closed again: its lanes stay, and its audit has the entry of the opening more, and no fault more
   pub record IsLeft (term : ℕ) (was now : SlotParts D A) : Type 0 where
     pub lanes : now.lanes.items ≡ was.lanes.items
     pub audit : entries now.audit ≡ with_entry (entries was.audit) (opening term)
+    pub counted : count now.audit ≡ count was.audit
 
   abbrev pub AreLeft : ℕ → List (SlotParts D A) → List (SlotParts D A) → Type 0
   AreLeft term [] new = new ≡ []

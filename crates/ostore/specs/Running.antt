@@ -3,8 +3,7 @@ use Rattle.std.specs.Prelude.{◌≡◌, ◌⊎◌, ℕ, List, Option, Some, Non
 use Rattle.audit_trail.specs.declared.entry.Entry.{Entry}
 use Rattle.drive_base.specs.View.{views}
 use Rattle.drive_base.specs.declared.drive.Drive.{Ghosts}
-use Rattle.drive_base.specs.declared.plan.SetPlan.{SetPlan}
-use Rattle.op_steps.specs.Calling.{HoldsOn, joined}
+use Rattle.op_steps.specs.Calling.{CallsRan, HoldsOn, joined}
 use Rattle.op_steps.specs.Laws.{DrivesKeep}
 use Rattle.op_steps.specs.Store.{slots_seen}
 use Rattle.serve_loop.specs.Deeds.{Wires}
@@ -34,7 +33,7 @@ module _ {D A : Type 0} (ghosts : Ghosts D) (entries : A → Option (List Entry)
     pub still : after ≡ before
 
   -- The theorem of a connection. Bodies: what was taken and given is a session over an open store, in which each call has a log that pays what it owes,
-  -- and their log in one is that of the whole. History: over this log each audit has got its entries, and these lead to what the lanes stand for; data drives that
+  -- and these logs are those of calls one after another. History: over their log in one each audit has got its entries, and these lead to what the lanes stand for; data drives that
   -- tell keep what is no data, so that the term of this life is kept. Holders: over it the data of each slot goes on to hold, with what these entries lead to.
   pub record Piped (clock : Option ℕ) (rig after : Rig D A) (end : ConnectionEnd) (wires wires_after : Wires) : Type 0 where
     pub parts : StoreParts D A
@@ -43,6 +42,8 @@ module _ {D A : Type 0} (ghosts : Ghosts D) (entries : A → Option (List Entry)
     pub opens : StoreIsOpen ghosts entries count rig.set parts opened
     pub stop : PlainPass D A
     pub session : Session (desk_answers ghosts entries count) clock opened stop end wires wires_after
+    pub calls : CallsRan ghosts (set_of opened) (session_logs ghosts entries count clock opened stop end wires wires_after session)
+        (slots_seen entries count (slots_of opened)) (views ghosts (disks_of opened)) (slots_seen entries count (slots_of stop)) (views ghosts (disks_of stop))
     pub closed : StoreIsClosed rig.set stop after
     pub history : AllRan entries ghosts.tells ghosts.files (set_of opened) opens.opened.term
         (joined (session_logs ghosts entries count clock opened stop end wires wires_after session)) rig.slots.items after.slots.items

@@ -1,6 +1,7 @@
 //! A rig over folders.
 
 ghost use Rattle.std.specs.Prelude.{◌≡◌, All, IfOk, length};
+ghost use Rattle.ostore.specs.Locked.{FailsUnlocked, LanesFailUnlocked, RigFailsUnlocked};
 ghost use Rattle.ostore.specs.Rigs.{HasLanes, IsRigOf};
 
 use crate::opening::SLOTS;
@@ -27,7 +28,8 @@ pub fn file_rig<R: Files + AllocGlobal + Clone + Drop>(
     root: &str,
     is_locked: bool,
 ) -> Result<Rig<FileDrive<R>, NullAudit>, AllocError>
-    ensures { IfOk result (λ rig. IsRigOf set rig) }
+    ensures rig { IfOk result (λ rig. IsRigOf set rig) }
+    ensures locked { IfOk result (λ rig. RigFailsUnlocked is_locked rig) }
 {
     if is_locked {
         make_parents(rt, set.drives, root)?;
@@ -46,6 +48,7 @@ fn file_slots<R: Files + AllocGlobal + Clone + Drop>(
 ) -> Result<Vec<SlotParts<FileDrive<R>, NullAudit>>, AllocError>
     ensures count { IfOk result (λ slots. length slots.items ≡ 64) }
     ensures lanes { IfOk result (λ slots. All (HasLanes drives) slots.items) }
+    ensures locked { IfOk result (λ slots. All (LanesFailUnlocked is_locked) slots.items) }
 {
     let mut slots = Vec::with_capacity(rt.alloc(), SLOTS)?;
     for slot in 0..SLOTS {
@@ -88,7 +91,8 @@ fn row<R: Files + AllocGlobal + Clone + Drop>(
     name: &str,
     is_locked: bool,
 ) -> Result<Vec<FileDrive<R>>, AllocError>
-    ensures { IfOk result (λ row. length row.items ≡ drives) }
+    ensures count { IfOk result (λ row. length row.items ≡ drives) }
+    ensures locked { IfOk result (λ row. All (FailsUnlocked is_locked) row.items) }
 {
     let mut row = Vec::with_capacity(rt.alloc(), drives as usize)?;
     for index in 0..drives {
@@ -105,7 +109,9 @@ fn drive<R: Files + AllocGlobal + Clone + Drop>(
     rt: &R,
     path: &str,
     is_locked: bool,
-) -> Result<FileDrive<R>, AllocError> {
+) -> Result<FileDrive<R>, AllocError>
+    ensures { IfOk result (λ drive. FailsUnlocked is_locked drive) }
+{
     if is_locked {
         if let Ok(drive) = FileDrive::open(rt.clone()?, rt.alloc(), path) {
             return Ok(drive);

@@ -1,13 +1,14 @@
-//! The laws of a run: of a slot from its opening to its close, and of a connection over a whole store.
+//! The laws of a run: of a slot from its opening to its close, of a connection over a whole store, and of the rig that it leaves.
 
 ghost use Rattle.ostore.specs.History.{ClosedSlotRan};
 ghost use Rattle.ostore.specs.Laws.{ConnectionsPipe};
+ghost use Rattle.ostore.specs.Lives.{LivesAreComplete, LivesGoOn, RefusalsLeave};
 
 use audit_trail::Audit;
 use drive_base::Drive;
-use op_steps::calls_law;
+use op_steps::{calls_law, requests_law};
 use slot_core::open_law;
-use store_shared::{answers_law, pass_law};
+use store_shared::{answers_law, opened_law, pass_law};
 
 /// A slot that was opened, went on by a log and was closed went through that run. It does nothing.
 pub fn slot_law<D: Drive, A: Audit>()
@@ -24,4 +25,17 @@ pub fn connection_law<D: Drive, A: Audit>()
     pass_law::<D, A>();
     answers_law::<D, A>();
     slot_law::<D, A>();
+}
+
+/// A connection over a rig that holds leaves one that holds, so that a later life may stand on it, and in each of its calls enough lanes and data drives that serve
+/// refuse nothing. An opening that is refused leaves a rig that holds too. It does nothing.
+pub fn life_law<D: Drive, A: Audit>()
+    ensures lives { LivesGoOn D.Drive A.entries A.count }
+    ensures complete { LivesAreComplete D.Drive A.entries A.count }
+    ensures refused { RefusalsLeave D.Drive A.entries A.count }
+{
+    calls_law::<D>();
+    requests_law::<D>();
+    pass_law::<D, A>();
+    opened_law::<D, A>();
 }

@@ -1,7 +1,7 @@
 //! The program `ostore`: a store of versioned objects over the drives of an erasure set, in memory or in folders.
 //!
 //! `main` reads the words, makes the drives, the streams and the clock, and hands them to [`run_alone`](program::run_alone), whose contract is the promise of
-//! the program. `words` reads a command line into a `plan`. `memory` and `folders` make a `rig`. `opening` opens a store over a rig and hands all back,
+//! the program. `command_line` reads the words. `memory` and `folders` make a `rig`. `opening` opens a store over a rig and hands all back,
 //! `piping` serves a connection over it, and `surveying` tells what its drives have for formats. `statuses` has the exit statuses.
 #![tactic(auto)]
 

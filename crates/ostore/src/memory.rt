@@ -1,19 +1,33 @@
 //! A rig in memory.
 
 ghost use Rattle.std.specs.Prelude.{◌≡◌, All, IfOk, length};
+ghost use Rattle.slot_data.specs.Disks.{Disks};
+ghost use Rattle.store_shared.specs.Holders.{nothing_done};
 ghost use Rattle.ostore.specs.Fresh.{IsFreshDrive, IsFreshRig, IsFreshSlot};
+ghost use Rattle.ostore.specs.Lives.{Holds};
 ghost use Rattle.ostore.specs.Rigs.{HasLanes, IsRigOf};
 
 use crate::opening::SLOTS;
 use crate::rig::Rig;
 use audit_trail::MemAudit;
-use drive_base::SetPlan;
+use drive_base::{Drive, SetPlan};
 use drive_memory::MemDrive;
 use slot_core::SlotParts;
 use std::alloc::{AllocError, Global};
+use store_shared::opened_law;
 
-/// A rig of fresh memory drives, whose audits keep their entries. Want of memory is the only error.
+/// A rig of fresh memory drives, whose audits keep their entries. It holds, with nothing done and nothing lost. Want of memory is the only error.
 pub fn memory_rig(alloc: Global, set: SetPlan) -> Result<Rig<MemDrive, MemAudit>, AllocError>
+    ensures rig { IfOk result (λ rig. IsRigOf set rig) }
+    ensures fresh { IfOk result (λ rig. IsFreshRig rig) }
+    ensures holds { IfOk result (λ rig. (unseen : Disks) → Holds ⟦<MemDrive as Drive>⟧ 0 0 unseen (nothing_done set) rig) }
+{
+    opened_law::<MemDrive, MemAudit>();
+    fresh_rig(alloc, set)
+}
+
+/// The same rig: its slots and its row.
+fn fresh_rig(alloc: Global, set: SetPlan) -> Result<Rig<MemDrive, MemAudit>, AllocError>
     ensures rig { IfOk result (λ rig. IsRigOf set rig) }
     ensures fresh { IfOk result (λ rig. IsFreshRig rig) }
 {

@@ -1,5 +1,6 @@
 use Rattle.std.proofs.Common.{◌≡◌, ◌∙◌, ◌+◌, ◌++◌, [], ◌∷◌, length, ap}
 use Rattle.std.proofs.lemmas.List.{length-append}
+use Rattle.ostore.specs.Locked.{LanesFailUnlocked}
 use Rattle.ostore.specs.Rigs.{HasLanes}
 use Rattle.ostore.proofs.RigLemmas.{all_pushed}
 use Rattle.ostore.proofs.folders.file_slots.Goals as goal
@@ -10,5 +11,6 @@ loop-slot-preserved g c =
     let is : c.push.new.self.items ≡ old ++ (record { lanes = c.in_ok-lanes.lanes; audit = c.new.result }) ∷ [] = c.in_ok-push.ensures.items in
     record {
       count = ap length is ∙ (length-append old _ ∙ ap (λ n. n + 1) c.loop-slot.invariant.count);
-      lanes = all_pushed (HasLanes c.args.drives) old _ c.push.new.self.items is c.loop-slot.invariant.lanes c.in_ok-lanes.ensures;
+      lanes = all_pushed (HasLanes c.args.drives) old _ c.push.new.self.items is c.loop-slot.invariant.lanes c.in_ok-lanes.ensures.count;
+      locked = all_pushed (LanesFailUnlocked c.args.is_locked) old _ c.push.new.self.items is c.loop-slot.invariant.locked c.in_ok-lanes.ensures.locked;
     }
