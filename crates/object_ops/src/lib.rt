@@ -48,6 +48,4 @@ pub use head_op::HeadOp;
 pub use put_op::PutOp;
 
 #[cfg(test)]
-mod get_tests;
-#[cfg(test)]
 mod tests;
