@@ -6,6 +6,7 @@ mod callers;
 mod files;
 mod looks;
 mod opening;
+mod orders;
 mod plans;
 mod puts;
 mod reads;
