@@ -31,6 +31,12 @@ pub trait Desk {
     /// That of a pass.
     ghost holds: { Self.Pass → Holds };
 
+    /// Whether a pass that holds this is one of this desk's.
+    ghost fits: { Self → Holds → Type 0 };
+
+    /// That is a fact, which a worker may keep.
+    ghost fits_is_fact: { (desk : Self) (held : Holds) → IsProp (fits desk held) };
+
     /// What a call comes to: the desk, the call and its moment, the pass before and after, the bytes that were taken of the body, all that was
     /// told, and the receipt, or why it was cut.
     ghost answers: { Self → Task → Self.Pass → Self.Pass → List ℕ → List Telling → Result Self.Receipt Cut → Type 0 };
@@ -47,6 +53,7 @@ pub trait Desk {
         feed: &mut F,
         teller: &mut T,
     ) -> Result<Self::Receipt, Cut>
+        requires fits { fits self.now (holds pass.old) }
         requires lawful { IsLawful call.now }
         requires feed { IsFeedOf (F.seen feed.old) call.now }
         requires moment { now < 253402300800 }

@@ -52,6 +52,7 @@ impl Feed for Nothing {
 struct Closed;
 
 impl Desk for Closed {
+    ghost use Rattle.std.proofs.Props.{props};
     ghost use Rattle.desk_base.specs.Answering.{CallTells};
 
     type Pass = ();
@@ -61,6 +62,10 @@ impl Desk for Closed {
     ghost Holds = { Unit {0} };
 
     ghost holds = { λ pass. pass };
+
+    ghost fits = { λ desk held. Unit {0} };
+
+    ghost fits_is_fact = { λ desk held. Prim.hlevel props };
 
     ghost answers = { λ desk task before after body tale result. CallTells task.call result tale };
 

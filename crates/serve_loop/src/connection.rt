@@ -53,7 +53,8 @@ fn serve_one<K: Desk, S: Source + Drop, T: Sink, C: Clock>(
     intake: &mut Intake<S>,
     sink: &mut T,
 ) -> Turn
-    requires { IsAtRest (wire_of intake.old) }
+    requires fits { K.fits desk.now (K.holds pass.old) }
+    requires rests { IsAtRest (wire_of intake.old) }
     ensures turn { (number : ℕ) → IsTrue is_last ↔ (number ≡ last_number) → Turns (K.answers desk.now) (C.moment clock.now) result number []
         pass.old pass.new (open_wires S.left S.faults T.given T.faults intake.old sink.old)
         (open_wires S.left S.faults T.given T.faults intake.new sink.new) (shut_wires S.left S.faults T.given T.faults intake.new sink.new) }
@@ -91,7 +92,8 @@ fn serve_all<K: Desk, S: Source + Drop, T: Sink, C: Clock>(
     intake: &mut Intake<S>,
     sink: &mut T,
 ) -> ConnectionEnd
-    requires { IsAtRest (wire_of intake.old) }
+    requires fits { K.fits desk.now (K.holds pass.old) }
+    requires rests { IsAtRest (wire_of intake.old) }
     ensures session { Session (K.answers desk.now) (C.moment clock.now) pass.old pass.new result
         (open_wires S.left S.faults T.given T.faults intake.old sink.old) (shut_wires S.left S.faults T.given T.faults intake.new sink.new) }
     ensures holds { K.holds pass.new ≡ K.holds pass.old }
@@ -114,6 +116,7 @@ pub fn serve_connection<K: Desk, S: Source + Drop, T: Sink, C: Clock>(
     sink: &mut T,
     clock: &C,
 ) -> Served<S>
+    requires fits { K.fits desk.now (K.holds pass.old) }
     ensures session { Session (K.answers desk.now) (C.moment clock.now) pass.old pass.new result.end
         (wires (S.left source) (T.given sink.old) (S.faults source) (T.faults sink.old))
         (wires (S.left result.source) (T.given sink.new) (S.faults result.source) (T.faults sink.new)) }

@@ -37,6 +37,7 @@ fn serve_next<K: Desk, O: Door, C: Clock>(
     door: &mut O,
     clock: &C,
 ) -> Round
+    requires fits { K.fits desk.now (K.holds pass.old) }
     ensures goes { RoundGoes (K.answers desk.now) (C.moment clock.now) (sight O.In.left O.In.faults O.Out.given O.Out.faults) result
         pass.old pass.new (door_view O.over O.gave O.returned O.faults door.old) (door_view O.over O.gave O.returned O.faults door.new) }
     ensures holds { K.holds pass.new ≡ K.holds pass.old }
@@ -62,6 +63,7 @@ pub fn serve_door<R: Wait, K: Desk, O: Door, C: Clock>(
     door: &mut O,
     clock: &C,
 ) -> DoorEnd
+    requires fits { K.fits desk.now (K.holds pass.old) }
     ensures served { DoorServed (K.answers desk.now) (C.moment clock.now) (sight O.In.left O.In.faults O.Out.given O.Out.faults) result
         pass.old pass.new (door_view O.over O.gave O.returned O.faults door.old) (door_view O.over O.gave O.returned O.faults door.new) }
     ensures holds { K.holds pass.new ≡ K.holds pass.old }

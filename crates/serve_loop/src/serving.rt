@@ -38,6 +38,7 @@ fn ask<K: Desk, S: Source + Drop, T: Sink>(
     intake: &mut Intake<S>,
     sink: &mut T,
 ) -> Result<(), Cut>
+    requires fits { K.fits desk.now (K.holds pass.old) }
     requires lawful { IsLawful call.now }
     requires moment { now < 253402300800 }
     requires states { intake.old.stated ≡ stated_length call.now }
@@ -117,6 +118,7 @@ fn serve_call<K: Desk, S: Source + Drop, T: Sink>(
     intake: &mut Intake<S>,
     sink: &mut T,
 ) -> Result<(), Cut>
+    requires fits { K.fits desk.now (K.holds pass.old) }
     requires lawful { IsLawful call.now }
     requires moment { now < 253402300800 }
     requires states { StatesLength intake.old.stated call.now }
@@ -185,6 +187,7 @@ pub(crate) fn serve_head<K: Desk, S: Source + Drop, T: Sink>(
     intake: &mut Intake<S>,
     sink: &mut T,
 ) -> Turn
+    requires fits { K.fits desk.now (K.holds pass.old) }
     requires moment { now < 253402300800 }
     requires states { SaysLength head.now.lines intake.old.stated }
     requires fresh { intake.old.wire.body_left ≡ intake.old.stated }

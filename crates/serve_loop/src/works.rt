@@ -21,6 +21,7 @@ pub struct ServeWork<'a, R: Drop, K: Desk<Pass: Drop>, O: Door + Drop, C> {
     /// The door's count of faults when the work was made.
     before: u64,
     ghost counted: { before ≤ O.faults door },
+    ghost fits: { K.fits desk.now (K.holds pass) } by { K.fits_is_fact desk.now (K.holds pass) },
 }
 
 impl<'a, R: Drop, K: Desk<Pass: Drop>, O: Door + Drop, C> ServeWork<'a, R, K, O, C> {
@@ -33,6 +34,7 @@ impl<'a, R: Drop, K: Desk<Pass: Drop>, O: Door + Drop, C> ServeWork<'a, R, K, O,
         door: O,
         clock: &'a C,
     ) -> ServeWork<'a, R, K, O, C>
+        requires fits { K.fits desk.now (K.holds pass) }
         ensures desk { result.desk.now ≡ desk.now }
         ensures clock { result.clock.now ≡ clock.now }
         ensures pass { result.pass ≡ pass }

@@ -16,6 +16,7 @@ use object_ops::{DeleteOp, GetOp, HeadOp, PutOp};
 use std::alloc::Global;
 
 impl<D: Drive, A: Audit> Desk for PlainDesk<D, A> {
+    ghost use Rattle.std.proofs.Props.{props};
     ghost use Rattle.store_shared.specs.Answers.{PlainAnswers};
     ghost use Rattle.store_shared.specs.Passes.{set_of};
 
@@ -26,6 +27,10 @@ impl<D: Drive, A: Audit> Desk for PlainDesk<D, A> {
     ghost Holds = { SetPlan };
 
     ghost holds = { λ pass. set_of pass };
+
+    ghost fits = { λ desk set. Unit {0} };
+
+    ghost fits_is_fact = { λ desk set. Prim.hlevel props };
 
     ghost answers = { λ desk task before after body tale result. PlainAnswers D.Drive A.entries A.count task before after body tale result };
 

@@ -58,6 +58,8 @@ impl ScriptedDesk {
 }
 
 impl Desk for ScriptedDesk {
+    ghost use Rattle.std.proofs.Props.{props};
+
     type Pass = u64;
 
     type Receipt = ();
@@ -65,6 +67,10 @@ impl Desk for ScriptedDesk {
     ghost Holds = { Unit {0} };
 
     ghost holds = { λ pass. tt };
+
+    ghost fits = { λ desk held. Unit {0} };
+
+    ghost fits_is_fact = { λ desk held. Prim.hlevel props };
 
     ghost answers = { λ desk task before after body tale result. CallTells task.call result tale };
 

@@ -4,7 +4,7 @@ use Rattle.serve_loop.proofs.connection.serve_all.Goals as goal
 
 pub loop-number-init : goal.loop-number-init
 loop-number-init g c = record {
-  rests = c.requires;
+  rests = c.requires.rests;
   few = omega arith;
   holds = refl;
   so_far = so_far_none (g.K.Desk.answers c.args.desk.now) (g.C.Clock.moment c.args.clock.now) c.args.pass.now _ _ _ _;
