@@ -166,8 +166,8 @@ def body_of(length):
         length -= len(PIECE)
 
 
-def large(name, words, mib, has_bucket):
-    """Prints MB/s of a PUT and of a GET of one body, and the most resident memory."""
+def large(name, words, mib, has_bucket, most=None):
+    """Prints MB/s of a PUT and of a GET of one body, and the most resident memory, which may be limited, in MiB."""
     length = mib << 20
     process = Process(words)
     if not has_bucket:
@@ -176,7 +176,10 @@ def large(name, words, mib, has_bucket):
     put = process.ask(itertools.chain([head], body_of(length)), 1)
     get = process.ask([b"GET /bench/large HTTP/1.1\r\n\r\n"], 1, length)
     rates = [length / 1e6 / seconds for seconds in (put, get)]
-    print(f"{name}: PUT of {mib} MiB {rates[0]:.0f} MB/s, GET {rates[1]:.0f} MB/s, at most {process.end():.0f} MiB", flush=True)
+    memory = process.end()
+    print(f"{name}: PUT of {mib} MiB {rates[0]:.0f} MB/s, GET {rates[1]:.0f} MB/s, at most {memory:.0f} MiB", flush=True)
+    if most and memory > most:
+        sys.exit(f"pipe.py: {memory:.0f} MiB were resident, and {most} is the most")
 
 
 def main():
@@ -189,7 +192,7 @@ def main():
             words = ["--root", root, *options]
             small(f"{name}, folders", words, over_folders)
             count(f"{name}, folders", words, root)
-            large(f"{name}, folders", words, mib, True)
+            large(f"{name}, folders", words, mib, True, 64)
 
 
 main()

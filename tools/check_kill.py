@@ -330,6 +330,7 @@ class Letters:
         self.case("Shard quorum: lldg", self.bad_shards)
         self.case("Shard quorum: gfdl", self.bad_drives)
         self.case("Shard quorum: lldd", self.bad_manifests)
+        self.undecided()
         self.cut_reply()
 
     def register(self):
@@ -363,6 +364,25 @@ class Letters:
         shutil.copytree(self.store.root, root)
         return root, [Drive(root / str(index)) for index in range(len(self.store.drives))]
 
+    def undecided(self):
+        """A change that two lanes have of three, and of whose manifests one is left, is neither made nor given up."""
+        root, drives = self.copy()
+        words = ["--root", str(root), *self.store.words[2:]]
+        pipe = Pipe(words, PROGRAM)
+        must(pipe.ask("GET", "/").status == 200, "the buckets are not listed")
+        for drive in drives[2:]:
+            drive.hide_slot(self.register())
+        self.refused(pipe, "Write quorum: ggff", "PUT", b"z")
+        pipe.close()
+        drives[2].show_slot(self.register())
+        drives[3].block_data()
+        for drive in drives[:2]:
+            drive.flip_all("m/")
+        pipe = Pipe(words, PROGRAM)
+        self.refused(pipe, "Undecided 2 1: ddgf")
+        pipe.close()
+        shutil.rmtree(root)
+
     def cut_reply(self):
         """A body of which the last stripe is bad on too many drives is given up to there, and the process ends with status 10."""
         key, body = "cut", random.Random("a body that is cut").randbytes(8 << 20)
@@ -393,12 +413,19 @@ class Letters:
             if late:
                 must(pipe.ask("GET", "/").status == 200, f"{wanted}: the buckets are not listed")
                 hurt(drives)
+        except Cut:
+            raise Wrong(f"{wanted}: the program ended with {pipe.wait()}") from None
+        self.refused(pipe, wanted, method, body)
+        pipe.close()
+        shutil.rmtree(root)
+
+    def refused(self, pipe, wanted, method="GET", body=None):
+        """A request is refused with these words."""
+        try:
             reply = pipe.ask(method, target_of(PLAIN, self.key), body)
         except Cut:
             raise Wrong(f"{wanted}: the program ended with {pipe.wait()}") from None
-        pipe.close()
         must(reply.status == 503 and f"<Message>{wanted}</Message>".encode() in reply.body, f"{wanted} was wanted: {reply}")
-        shutil.rmtree(root)
 
 
 def main():

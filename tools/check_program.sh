@@ -62,6 +62,12 @@ refuses() {
 
 ask() { printf '%b' "$*"; }
 
+# refusal STATUS CODE MESSAGE RESOURCE HEADERS: the reply of a refusal
+refusal() {
+    local document="<?xml version=\"1.0\" encoding=\"UTF-8\"?><Error><Code>$2</Code><Message>$3</Message><Resource>$4</Resource></Error>"
+    printf '%s' "HTTP/1.1 $1\\r\\nDate\\r\\nContent-Length: ${#document}\\r\\nContent-Type: application/xml\\r\\n$5\\r\\n$document"
+}
+
 tag='ETag: "5d41402abc4b2a76b9719d911017c592"\r\n'
 kind='Content-Type: binary/octet-stream\r\n'
 first='x-amz-version-id: 00000000-0001-801c-8000-000000000001\r\n'
@@ -84,6 +90,22 @@ get='GET /pic/a HTTP/1.1\r\n\r\n'
 range='GET /pic/a HTTP/1.1\r\nRange: bytes=1-3\r\n\r\n'
 head='HEAD /pic/a HTTP/1.1\r\n\r\n'
 delete='DELETE /pic/a HTTP/1.1\r\n\r\n'
+unknown="$(refusal '404 Not Found' NoSuchKey 'The specified key does not exist.' /pic/a '')"
+
+# A version of a key, an empty body, and a body with its MD5 or another's.
+version="${found/\\r\\n\\r\\nhello/\\r\\n$first\\r\\nhello}"
+marked="$(refusal '404 Not Found' NoSuchKey 'The specified key does not exist.' /pic/a "$marker")"
+is_marker="$(refusal '405 Method Not Allowed' MethodNotAllowed 'The specified version is a delete marker.' "/pic/a?versionId=$marker_id" \
+    "Allow: DELETE\\r\\nLast-Modified\\r\\n$marker")"
+at_marker="/pic/a?versionId=$marker_id HTTP/1.1\r\n\r\n"
+no_bytes="${stored/5d41402abc4b2a76b9719d911017c592/d41d8cd98f00b204e9800998ecf8427e}"
+empty="${found/Content-Length: 5/Content-Length: 0}"
+empty="${empty/5d41402abc4b2a76b9719d911017c592/d41d8cd98f00b204e9800998ecf8427e}"
+empty="${empty%hello}"
+no_range="$(refusal '416 Range Not Satisfiable' InvalidRange 'The range is not satisfiable.' /pic/a 'Content-Range: bytes */0\r\n')"
+of_hello='Content-MD5: XUFAKrxLKna5cZ2REBfFkg==\r\n'
+differs="$(refusal '400 Bad Request' BadDigest 'The Content-MD5 differs from the body.' /pic/a '')"
+no_bucket="$(refusal '404 Not Found' NoSuchBucket 'The specified bucket does not exist.' /none/a '')"
 
 "$ostore" pipe </dev/null || {
     fails 'the program does not run'
@@ -95,6 +117,14 @@ check 'a body is stored and found' 0 "$made$stored$found" '' pipe < <(ask "$make
 check 'a part of it, and its head' 0 "$made$stored$part$headed" '' pipe < <(ask "$make$put$range$head")
 check 'it is deleted' 0 "$made$stored$gone" '' pipe < <(ask "$make$put$delete")
 check 'a marker hides a version' 0 "$made$done$named$hidden" '' pipe < <(ask "$make$enable$put$delete")
+check 'a version is stored and found' 0 "$made$done$named$version" '' pipe < <(ask "$make$enable$put$get")
+check 'a marker is found, and removed' 0 "$made$done$named$hidden$marked$is_marker$hidden$version" '' \
+    pipe < <(ask "$make$enable$put$delete${get}GET ${at_marker}DELETE $at_marker$get")
+check 'an empty body' 0 "$made$no_bytes$empty$no_range" '' \
+    pipe < <(ask "${make}PUT /pic/a HTTP/1.1\r\nContent-Length: 0\r\n\r\n${get}GET /pic/a HTTP/1.1\r\nRange: bytes=0-0\r\n\r\n")
+check 'a body with its MD5, and one with another' 0 "$made$stored$differs$found" '' \
+    pipe < <(ask "$make${put/Content/${of_hello}Content}PUT /pic/a HTTP/1.1\r\n${of_hello}Content-Length: 5\r\n\r\njello$get")
+check 'a body without its bucket' 0 "$no_bucket$made" '' pipe < <(ask "PUT /none/a HTTP/1.1\r\nContent-Length: 5\r\n\r\nhello$make")
 check 'six drives' 0 "$made$stored$found" '' --drives 6 --parity=2 pipe < <(ask "$make$put$get")
 check 'no input' 0 '' '' pipe </dev/null
 check 'the client closes' 0 "${made/Date/Date\\r\\nConnection: close}" '' pipe < <(ask 'PUT /pic HTTP/1.1\r\nConnection: close\r\n\r\n')
@@ -161,6 +191,7 @@ refuses 400 KeyTooLongError 'The key is longer than 1024 bytes.' < <(ask "GET /p
 refuses 400 InvalidArgument 'Invalid value of versionId.' < <(ask 'GET /pic/a?versionId=1 HTTP/1.1\r\n\r\n')
 refuses 400 InvalidDigest 'The Content-MD5 is not valid.' < <(ask "${make}PUT /pic/a HTTP/1.1\r\nContent-MD5: x\r\nContent-Length: 5\r\n\r\nhello")
 refuses 400 EntityTooLarge 'The body is longer than the limit.' < <(ask 'PUT /pic/a HTTP/1.1\r\nContent-Length: 5368709121\r\n\r\n')
+refuses 400 EntityTooLarge 'The body is longer than the limit.' < <(ask 'PUT /pic?versioning HTTP/1.1\r\nContent-Length: 2097153\r\n\r\n')
 refuses 400 MalformedXML 'The document is not well formed at byte 0.' < <(ask "${make}PUT /pic?versioning HTTP/1.1\r\nContent-Length: 1\r\n\r\nx")
 refuses 404 NoSuchBucket 'The specified bucket does not exist.' < <(ask "$put")
 refuses 409 BucketAlreadyOwnedByYou 'The bucket is there already.' < <(ask "$make$make")
@@ -173,6 +204,21 @@ refuses 416 InvalidRange 'The range is not satisfiable.' < <(ask "$make${put}GET
 if [[ "${1:-}" == slow ]]; then
     refuses 400 TooManyVersions 'The key has 10000 versions.' < <(ask "$make$enable"; for _ in {1..10001}; do ask "$delete"; done)
 fi
+
+# An upload as curl sends it, and a part of it.
+python3 -c 'import sys; sys.stdout.buffer.write(bytes(i % 251 for i in range(1048577)))' >"$work/body"
+{
+    ask "${make}PUT /pic/big HTTP/1.1\r\nHost: localhost:9000\r\nUser-Agent: curl/7.88.1\r\nAccept: */*\r\nContent-Length: 1048577\r\n"
+    ask 'Expect: 100-continue\r\n\r\n'
+    cat "$work/body"
+    ask 'GET /pic/big HTTP/1.1\r\nRange: bytes=1048575-1048576\r\n\r\n'
+} >"$work/request"
+sum="$(md5sum <"$work/body" | cut -d' ' -f1)"
+big="${stored/5d41402abc4b2a76b9719d911017c592/$sum}"
+slice="${part/Content-Length: 3/Content-Length: 2}"
+slice="${slice/1-3\/5/1048575-1048576\/1048577}"
+slice="${slice/5d41402abc4b2a76b9719d911017c592/$sum}"
+check 'an upload as curl sends it' 0 "${made}HTTP/1.1 100 Continue\r\n\r\n$big${slice%ell}\x94\x95" '' pipe <"$work/request"
 
 # A large body comes back byte for byte.
 head -c 16777216 /dev/urandom >"$work/body"

@@ -92,6 +92,18 @@ class Drive:
         """Puts a file in the place of the folder of a register's slot, so that it can't be opened."""
         self.block(str(slot_of(register.partition("/")[2])))
 
+    def hide_slot(self, register):
+        """The same, with the folder kept beside it."""
+        folder = self.folder / str(slot_of(register.partition("/")[2]))
+        folder.rename(self.folder / "hidden")
+        folder.write_bytes(b"")
+
+    def show_slot(self, register):
+        """Puts the folder back that was hidden."""
+        folder = self.folder / str(slot_of(register.partition("/")[2]))
+        folder.unlink()
+        (self.folder / "hidden").rename(folder)
+
     def block_data(self):
         """The same of the folder of data; its format can't be read then."""
         self.block("data")

@@ -10,12 +10,13 @@ use std::test::Fail;
 /// The moment of each run, in Unix seconds.
 const NOW: u64 = 784_111_777;
 
-/// The bucket is made.
-const MAKE: &[u8] = b"PUT /pic HTTP/1.1\r\nHost: x\r\nContent-Length: 0\r\n\r\n";
+/// A bucket is made and gets versioning, and an object is put and got.
+const REQUESTS: &[u8] =
+    b"PUT /pic HTTP/1.1\r\n\r\nPUT /pic?versioning HTTP/1.1\r\nContent-Length: 75\r\n\r\n<VersioningConfiguration><Status>Enabled</Status></VersioningConfiguration>PUT /pic/a HTTP/1.1\r\nContent-Length: 5\r\n\r\nhelloGET /pic/a HTTP/1.1\r\n\r\n";
 
-/// The reply to it.
-const MADE: &[u8] =
-    b"HTTP/1.1 200 OK\r\nDate: Sun, 06 Nov 1994 08:49:37 GMT\r\nContent-Length: 0\r\nLocation: /pic\r\n\r\n";
+/// The replies to these.
+const REPLIES: &[u8] =
+    b"HTTP/1.1 200 OK\r\nDate: Sun, 06 Nov 1994 08:49:37 GMT\r\nContent-Length: 0\r\nLocation: /pic\r\n\r\nHTTP/1.1 200 OK\r\nDate: Sun, 06 Nov 1994 08:49:37 GMT\r\nContent-Length: 0\r\n\r\nHTTP/1.1 200 OK\r\nDate: Sun, 06 Nov 1994 08:49:37 GMT\r\nContent-Length: 0\r\nETag: \"5d41402abc4b2a76b9719d911017c592\"\r\nx-amz-version-id: 00000000-0001-801c-8000-000000000001\r\n\r\nHTTP/1.1 200 OK\r\nDate: Sun, 06 Nov 1994 08:49:37 GMT\r\nContent-Length: 5\r\nContent-Type: binary/octet-stream\r\nLast-Modified: Sun, 06 Nov 1994 08:49:37 GMT\r\nETag: \"5d41402abc4b2a76b9719d911017c592\"\r\nAccept-Ranges: bytes\r\nx-amz-version-id: 00000000-0001-801c-8000-000000000001\r\n\r\nhello";
 
 /// These words.
 fn words_of(alloc: Global, words: &[&str]) -> Result<Vec<String>, AllocError> {
@@ -43,10 +44,10 @@ fn run_on(rt: &HostRuntime, words: &[&str], input: &[u8]) -> Result<(u8, Vec<u8>
 }
 
 #[test]
-fn a_bucket_is_made(rt: HostRuntime) -> Result<(), Fail> {
-    let (status, given) = run_on(&rt, &["pipe"], MAKE)?;
+fn an_object_is_stored_and_found(rt: HostRuntime) -> Result<(), Fail> {
+    let (status, given) = run_on(&rt, &["pipe"], REQUESTS)?;
     assert_eq!(rt; status, 0);
-    assert_eq!(rt; given.as_slice(), MADE);
+    assert_eq!(rt; given.as_slice(), REPLIES);
     Ok(())
 }
 
