@@ -1,3 +1,4 @@
 mod Counts
 mod Keeps
 mod Moves
+mod Told

@@ -1,5 +1,5 @@
 -- Each step of a lock's table keeps its rule.
-use Rattle.std.proofs.Common.{◌≡◌, ℕ, ◌+◌, ◌<◌, ◌≤◌, ◌≢◌, List, [], ◌∷◌, true, false, Option, Some, None, set, get_or, sym, refl, ap, subst, ◌∙◌, arith, eqb}
+use Rattle.std.proofs.Common.{◌≡◌, ℕ, ◌+◌, ◌<◌, ◌≤◌, ◌≢◌, List, [], ◌∷◌, Option, Some, None, set, get_or, sym, refl, ap, subst, ◌∙◌, arith, eqb}
 use mathlib.Core.Logic.{dite}
 use mathlib.Core.Option as maybe
 use native.Mathlib.Decide.{ℕ_discrete}
@@ -7,12 +7,23 @@ use lib.ListN.{get_elem?}
 use prog.Atomic.{either}
 use Rattle.atomic_table.specs.Table.{State, step, Act, keeps, takes, gives, Valid, carried_after, stepped, opening, rest, Allows, Splits, Joins, Final, Seen}
 use Rattle.atomic_table.proofs.Lists.{exchanged, set_again}
-use Rattle.turn_lock.specs.Tickets.{times, between}
-use Rattle.turn_lock.specs.Views.{first, cut, part, joined, gone, looked, drew, lent, rested}
+use Rattle.turn_lock.specs.History.{tickets, IsHistory}
+use Rattle.turn_lock.specs.Tickets.{times}
+use Rattle.turn_lock.specs.Views.{first, cut, part, joined, gone, looked, drew, lending, rested}
 use Rattle.turn_lock.specs.Steps.{Mine, Looks, Draws, Weighs, Advances, Serves}
 use Rattle.turn_lock.specs.Order.{InOrder, Ordered}
+use Rattle.turn_lock.specs.declared.view.Turn.{Turn}
 use Rattle.turn_lock.specs.declared.view.View.{View}
 use Rattle.turn_lock.proofs.Keeps as keep
+
+module _ {T : Type 0} where
+  -- what a pass is after the turn's end, where it had taken the one slot and put this value there
+  pub ended : (before m n : Mine T) (t : Turn T) (new : ℕ) → m ≡ (before.0, (0, Some t.to) ∷ rest before.1) → before.0.ticket ≡ Some t.ticket → before.0.lent ≡ Some t.from → before.1 ≡ (0, None) ∷ []
+      → Advances (step 1 1 new 0 maybe.none) m new n → n ≡ (rested new t before.0, [])
+  ended before m n t new em ticket from only then =
+      let has = ap (λ (x : Mine T). x.1) em in
+      then t (ap (λ (x : Mine T). x.0.ticket) em ∙ ticket) (ap (λ (x : Mine T). x.0.lent) em ∙ from) (has ∙ ap (λ (l : List (ℕ × Option T)). (0, Some t.to) ∷ rest l) (sym has))
+      ∙ ap (λ (x : Mine T). (rested new t x.0, rest x.1)) em ∙ ap (λ (l : List (ℕ × Option T)). (rested new t before.0, rest l)) only
 
 module _ {T N : Type 0} (turn : T → ℕ) (name : T → N) (of : T) where
   abbrev Table : Type 0
@@ -57,7 +68,7 @@ module _ {T N : Type 0} (turn : T → ℕ) (name : T → N) (of : T) where
           subst (λ (k : ℕ). InOrder turn name of k g.1 g.2 (set s.views id (drew old m.0))) same
               (subst (λ (k : ℕ). InOrder turn name of (next + 1) g.1 g.2 (set s.views id (drew k m.0))) hit (keep.draws turn name of next g.1 g.2 s.views o id m.0 at some_part none)),
         ),
-        ((λ _. (refl, subst (λ (k : ℕ). m.0.seen ≤ k) hit tells.0, subst (λ (k : ℕ). times k m.0.drawn ≡ 0) hit tells.1)), λ ne. absurd (ne hit)),
+        ((λ _. (refl, subst (λ (k : ℕ). m.0.seen ≤ k) hit tells.0, subst (λ (k : ℕ). times k (tickets m.0.done) ≡ 0) hit tells.1)), λ ne. absurd (ne hit)),
       ))
       (λ (miss : next ≢ old). (
         m.0,
@@ -67,38 +78,41 @@ module _ {T N : Type 0} (turn : T → ℕ) (name : T → N) (of : T) where
         ((λ hit. absurd (miss hit)), λ _. refl),
       )))
 
-  pub serves : (slots id : ℕ) (m : Mine T) (ticket : ℕ) → m.0.ticket ≡ Some ticket → m.0.out ≡ false → Allows Rule slots id m 1 (λ n. n) (Serves turn name (step slots 1 0 0 maybe.none) m)
+  pub serves : (slots id : ℕ) (m : Mine T) (ticket : ℕ) → m.0.ticket ≡ Some ticket → m.0.lent ≡ None → Allows Rule slots id m 1 (λ n. n) (Serves turn name (step slots 1 0 0 maybe.none) m)
   serves slots id m ticket mine not_out s g wide at _ = let next = g.0 in let serving = g.1 in let o = g.5 in
       spelled (Goes 1 id m (λ n. n) (Serves turn name (step slots 1 0 0 maybe.none) m)) s next serving g.2 g.3 g.4
       (dite (ℕ_discrete ticket serving)
       (λ (e : ticket ≡ serving). let is : m.0.ticket ≡ Some serving = mine ∙ ap (λ (t : ℕ). Some t) e in
-      let home = keep.has_home turn name of next serving g.2 s.views o id m.0 at is not_out in (
-        lent m.0,
-        takes 0 (Some home.0),
-        ap (λ (h : maybe.Option (Option T)). maybe.some h) home.1,
+      let value : T = o.at serving in
+      let tells = keep.named turn name of next serving g.2 s.views o id m.0 at is in (
+        lending value m.0,
+        takes 0 (Some value),
+        ap (λ (h : maybe.Option (Option T)). maybe.some h) (keep.has_home turn name of next serving g.2 s.views o id m.0 at is not_out),
         (next, serving, maybe.none, refl, refl, keep.lends turn name of next serving g.2 s.views o id m.0 at is),
-        ((λ _. (home.0, refl, home.2, keep.named turn name of next serving g.2 s.views o id m.0 at is home.0 home.3)), λ ne. absurd (ne is)),
+        ((λ _. (value, refl, tells.0, tells.1)), λ ne. absurd (ne is)),
       ))
       (λ (ne : ticket ≢ serving). (
         m.0,
         keeps,
         tt,
         (next, serving, g.2, refl, refl, subst (InOrder turn name of next serving g.2) (sym (set_again s.views id m.0 at)) o),
-        ((λ is. absurd (ne (keep.one_ticket ticket serving (sym mine ∙ is)))), λ _. refl),
+        ((λ is. absurd (ne (keep.same_some m.0.ticket ticket serving mine is))), λ _. refl),
       )))
 
-  pub advances : (slots id : ℕ) (m : Mine T) (v : View T) (value : T) (was : Option T) (had : List (ℕ × Option T)) (ticket new : ℕ) → m ≡ (v, (0, Some value) ∷ rest had) → had ≡ (0, was) ∷ []
-      → v.ticket ≡ Some ticket → v.out ≡ true → new ≡ ticket + 1 → turn value ≡ new
-      → v.of ≡ Some of → name value ≡ name of → Allows Rule slots id m 1 (λ _. new) (λ _. Advances (step slots 1 new 0 maybe.none) m new)
-  advances slots id m v value was had ticket new em only mine out e turns known named = subst (λ (x : Mine T). Allows Rule slots id x 1 (λ _. new) (λ _. Advances (step slots 1 new 0 maybe.none) x new))
+  -- a turn's end, of a pass that holds the slot with this value
+  pub advances : (slots id : ℕ) (m : Mine T) (v : View T) (from value : T) (was : Option T) (had : List (ℕ × Option T)) (ticket new : ℕ) → m ≡ (v, (0, Some value) ∷ rest had) → had ≡ (0, was) ∷ []
+      → v.ticket ≡ Some ticket → v.lent ≡ Some from → new ≡ ticket + 1 → turn value ≡ new
+      → name value ≡ name of → Allows Rule slots id m 1 (λ _. new) (λ _. Advances (step slots 1 new 0 maybe.none) m new)
+  advances slots id m v from value was had ticket new em only mine lent e turns named = subst (λ (x : Mine T). Allows Rule slots id x 1 (λ _. new) (λ _. Advances (step slots 1 new 0 maybe.none) x new))
       (sym (em ∙ ap {B = Mine T} (λ (l : List (ℕ × Option T)). (v, (0, Some value) ∷ rest l)) only))
       (λ s g wide at _. let next = g.0 in let serving = g.1 in let o = g.5 in
-      let is : v.ticket ≡ Some serving = (o.each id v at).in_turn out in
-      let same : ticket ≡ serving = keep.one_ticket ticket serving (sym mine ∙ is) in
+      let is = (o.each id v at).in_turn from lent in
+      let same : ticket ≡ serving = keep.same_some v.ticket ticket serving mine is.0 in
       let now : serving + 1 ≡ new = omega arith in
       let x : Mine T = (v, (0, Some value) ∷ []) in
+      let made : Turn T = keep.made turn name of next serving g.2 s.views o id v at value in
       spelled (Goes 1 id x (λ _. new) (λ _. Advances (step slots 1 new 0 maybe.none) x new)) s next serving g.2 g.3 g.4 (
-        rested new v,
+        rested new made v,
         gives,
         tt,
         (
@@ -107,10 +121,11 @@ module _ {T N : Type 0} (turn : T → ℕ) (name : T → N) (of : T) where
           maybe.some (Some value),
           refl,
           refl,
-          subst (λ (k : ℕ). InOrder turn name of next k (maybe.some (Some value)) (set s.views id (rested k v))) now
-              (keep.advances turn name of next serving g.2 s.views o id v at value is (turns ∙ sym now) named),
+          subst (λ (k : ℕ). InOrder turn name of next k (maybe.some (Some value)) (set s.views id (rested k made v))) now
+              (keep.advances turn name of next serving g.2 s.views o id v at value is.0 (turns ∙ sym now) named),
         ),
-        refl,
+        (λ (t : Turn T) its_ticket its_from its_to. ap (λ (u : Turn T). (rested new u v, []))
+            (keep.same_turn made t (keep.same_some v.ticket serving t.ticket is.0 its_ticket) (sym is.1 ∙ keep.same_some v.lent from t.from lent its_from) (keep.same_slot value t.to [] its_to))),
       ))
 
   pub weighs : (slots id : ℕ) (m : Mine T) → Allows Rule slots id m 0 (λ n. n) (Weighs (step slots 0 0 0 maybe.none) m)
@@ -121,7 +136,7 @@ module _ {T N : Type 0} (turn : T → ℕ) (name : T → N) (of : T) where
   pub splits : (id : ℕ) (v : View T) (amount : ℕ) → 0 < amount → amount < v.parts → Splits Rule id v (cut amount v) (part amount v)
   splits id v amount some less s g at = (g.0, g.1, g.2, g.3, g.4, keep.splits turn name of g.0 g.1 g.2 s.views g.5 id v at amount some less)
 
-  pub joins : (id : ℕ) (v : View T) (other : ℕ) (u : View T) → 0 < v.parts → 0 < u.parts → u.ticket ≡ None → u.out ≡ false → Joins Rule id v other u (joined v u) gone
+  pub joins : (id : ℕ) (v : View T) (other : ℕ) (u : View T) → 0 < v.parts → 0 < u.parts → u.ticket ≡ None → u.lent ≡ None → Joins Rule id v other u (joined v u) gone
   joins id v other u some_part also_part none not_out s g at ne there =
       (g.0, g.1, g.2, g.3, g.4, keep.joins turn name of g.0 g.1 g.2 s.views g.5 id v at other u ne there some_part also_part none not_out)
 
@@ -130,11 +145,11 @@ module _ {T N : Type 0} (turn : T → ℕ) (name : T → N) (of : T) where
       (subst (λ (k : ℕ). Rule (opening (k ∷ k ∷ []) (Some of ∷ []) (first (turn of) of))) (sym e) (turn of, turn of, maybe.some (Some of), refl, refl, keep.starts turn name of of refl))
 
   -- what is known of a value that a pass with all parts got at the end: its name, that the pass saw no more turns than it had, and that
-  -- the pass drew all tickets
+  -- the turns of the pass are its history
   abbrev pub Closing : View T → T → Type 0
-  Closing v value = (name value ≡ name of) × (v.seen ≤ turn value) × ((x : ℕ) → times x v.drawn ≡ between (turn of) (turn value) x) × (v.looked ≤ turn value)
+  Closing v value = (name value ≡ name of) × (v.seen ≤ turn value) × IsHistory turn name of value v.done × (v.looked ≤ turn value)
 
-  pub closes : (id : ℕ) (v : View T) (words : List ℕ) (slots : List (Option T)) (taken : Option T) → v.parts ≡ 65536 → v.ticket ≡ None → v.out ≡ false
+  pub closes : (id : ℕ) (v : View T) (words : List ℕ) (slots : List (Option T)) (taken : Option T) → v.parts ≡ 65536 → v.ticket ≡ None → v.lent ≡ None
       → Final (Seen Rule id v) words slots → get_elem? slots 0 ≡ maybe.some taken → (value : T) × (taken ≡ Some value) × Closing v value
   closes id v words slots taken all none not_out f is = let s = f.0 in let g = f.1.0 in
       let c = keep.closes turn name of g.0 g.1 g.2 s.views g.5 id v f.1.1 all none not_out in
@@ -143,4 +158,4 @@ module _ {T N : Type 0} (turn : T → ℕ) (name : T → N) (of : T) where
 
   -- of this value
   pub closes_with : (v : View T) (taken : Option T) (value : T) → taken ≡ Some value → ((other : T) × (taken ≡ Some other) × Closing v other) → Closing v value
-  closes_with v taken value is c = let same : c.0 ≡ value = ap (keep.found value) (sym c.1 ∙ is) in subst (Closing v) same c.2
+  closes_with v taken value is c = subst (Closing v) (keep.same_some taken c.0 value c.1 is) c.2

@@ -5,14 +5,18 @@
 //! holder is the number of turns that the value had before, and whoever sees a ticket knows where its turn stands among all.
 //!
 //! The lock stands on `atomic_table`: a word for the next ticket, a word for the ticket whose turn it is (serving), and a slot with the
-//! value. The definitions say what holds of these and of all passes between any two steps.
+//! value. The definitions say what holds of these and of all passes between any two steps. What a pass knows keeps the turns that it made
+//! ([`Turn`]), in proofs alone.
 //!
 //! What is promised: one thread at a time has the value; its turns are then the ticket, and its name is that of the value of `new`. A
 //! pass's next ticket is never below the turns that it has seen. A lock is closed exactly where its passes are joined again, and the
-//! tickets drawn by then are the numbers from the first value's turns to the last one's, each once. Waiting ends only if the others
-//! give back what they took; that isn't promised.
+//! tickets drawn by then are the numbers from the first value's turns to the last one's, each once. The turns of all passes are then the
+//! history of the value: there was one value at each count of turns, from that of `new` to that of `close`, and the turn of each ticket
+//! led from the value at this count to the next ([`history_law`]). Waiting ends only if the others give back what they took; that isn't
+//! promised.
 #![tactic(auto)]
 
+mod laws;
 mod lock;
 mod making;
 mod parting;
@@ -23,9 +27,11 @@ mod telling;
 mod turned;
 mod view;
 
+pub use laws::history_law;
 pub use lock::TurnLock;
 pub use pass::{Held, Pass};
 pub use turned::Turned;
+pub use view::Turn;
 
 #[cfg(test)]
 mod tests;

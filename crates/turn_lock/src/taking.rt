@@ -1,8 +1,9 @@
 //! A turn: the draw of a ticket, the wait for it, and the end.
 
 ghost use Rattle.std.specs.Prelude.{◌≡◌, ◌+◌, ◌<◌, ◌≤◌, [], ◌∷◌, ◌++◌, Some, None, true, false, IfOk, IfErr, IfSome, IfNone};
-ghost use Rattle.turn_lock.specs.Passes.{IsPassOf, IsHeldOf, made_with, parts_of, seen_by, is_spent, drawn_by, ticket_of, parts_held, drawn_so_far};
+ghost use Rattle.turn_lock.specs.Passes.{IsPassOf, IsHeldOf, made_with, parts_of, seen_by, is_spent, drawn_by, ticket_of, parts_held, drawn_so_far, turns_of, turns_so_far, lent_to, this_turn};
 ghost use Rattle.turn_lock.specs.Steps.{DrewTicket, Lends};
+ghost use Rattle.turn_lock.specs.History.{tickets};
 ghost use Rattle.turn_lock.specs.Tickets.{times};
 ghost use Rattle.turn_lock.specs.Views.{looked};
 
@@ -11,6 +12,7 @@ use crate::pass::{Held, Pass};
 use crate::steps::{Advance, Draw, Look, Serve};
 use crate::turned::Turned;
 use crate::view::View;
+use std::snapshot::Snapshot;
 use std::sync::Wait;
 
 // A sleeper's word is compared by its low 32 bits.
@@ -26,8 +28,9 @@ impl<T: Turned> TurnLock<T> {
         ensures held { IfOk result (λ held. IsHeldOf self.now held × (parts_held held ≡ parts_of pass) × (drawn_so_far held ≡ drawn_by pass ++ ticket_of held ∷ [])) }
         ensures value { IfOk result (λ held. (T.turn held.value ≡ ticket_of held) × (T.name held.value ≡ T.name (made_with self.now))) }
         ensures ticket { IfOk result (λ held. (seen_by pass ≤ ticket_of held) × (ticket_of held < 18446744073709551615) × (times (ticket_of held) (drawn_by pass) ≡ 0)) }
+        ensures turns { IfOk result (λ held. (turns_so_far held ≡ turns_of pass) × (lent_to held ≡ held.value)) }
         ensures spent { IfOk result (λ _. is_spent pass ≡ false) }
-        ensures err { IfErr result (λ back. IsPassOf self.now back × (is_spent back ≡ true) × (parts_of back ≡ parts_of pass) × (seen_by back ≡ seen_by pass) × (drawn_by back ≡ drawn_by pass)) }
+        ensures err { IfErr result (λ back. IsPassOf self.now back × (is_spent back ≡ true) × (parts_of back ≡ parts_of pass) × (seen_by back ≡ seen_by pass) × (drawn_by back ≡ drawn_by pass) × (turns_of back ≡ turns_of pass)) }
     {
         let Pass {
             parts,
@@ -45,8 +48,10 @@ impl<T: Turned> TurnLock<T> {
         };
         self.wait(rt, &mut seat, ticket);
         let value = self.table.shared.exchange(&mut seat, 0, None).unwrap();
+        let lent = Snapshot::of(&value);
         Ok(Held {
             value,
+            lent,
             ticket,
             parts,
             seat,
@@ -75,7 +80,7 @@ impl<T: Turned> TurnLock<T> {
 
     // Waits for the ticket's turn. The slot is then out with the seat.
     fn wait<R: Wait>(&self, rt: &R, seat: &mut Seat<T>, ticket: u64)
-        requires seat { (seat.old.table_id ≡ self.now.table.shared.table_id) × (seat.old.me.0.ticket ≡ Some ticket) × (seat.old.me.0.out ≡ false) }
+        requires seat { (seat.old.table_id ≡ self.now.table.shared.table_id) × (seat.old.me.0.ticket ≡ Some ticket) × (seat.old.me.0.lent ≡ None) }
         ensures same { seat.new.table_id ≡ seat.old.table_id }
         ensures lent { Lends T.turn T.name seat.old.me.0.of ticket seat.old.me seat.new.me }
     {
@@ -89,13 +94,17 @@ impl<T: Turned> TurnLock<T> {
         }
     }
 
-    /// Gives the value back, which had one turn more since, so that the turn of the next ticket begins.
+    /// Gives the value back, which had one turn more since, so that the turn of the next ticket begins. This turn is then one of the pass: it
+    /// led from the value as it went out to the value as it comes back.
     pub fn give(&self, held: Held<T>) -> Pass<T>
         requires { IsHeldOf self.now held × (T.turn held.value ≡ ticket_of held + 1) × (T.name held.value ≡ T.name (made_with self.now)) }
-        ensures { IsPassOf self.now result × (parts_of result ≡ parts_held held) × (seen_by result ≡ ticket_of held + 1) × (is_spent result ≡ false) × (drawn_by result ≡ drawn_so_far held) }
+        ensures pass { IsPassOf self.now result × (parts_of result ≡ parts_held held) × (seen_by result ≡ ticket_of held + 1) × (is_spent result ≡ false) }
+        ensures drawn { drawn_by result ≡ drawn_so_far held }
+        ensures turns { turns_of result ≡ turns_so_far held ++ this_turn held ∷ [] }
     {
         let Held {
             value,
+            lent: _,
             ticket,
             parts,
             mut seat,

@@ -1,8 +1,8 @@
-ghost use Rattle.std.specs.Prelude.{◌≡◌, ◌≤◌, ℕ, IfOk};
+ghost use Rattle.std.specs.Prelude.{◌≡◌, ◌≤◌, ℕ, [], IfOk, IsTrue};
 ghost use Rattle.std.specs.Thread.{IsSync};
-ghost use Rattle.turn_lock.specs.Passes.{IsPassOf, parts_of};
+ghost use Rattle.turn_lock.specs.Passes.{IsPassOf, parts_of, turns_of};
 
-use crate::{Pass, TurnLock, Turned};
+use crate::{Pass, TurnLock, Turned, history_law};
 use std::alloc::{AllocError, Global};
 use std::sync::Wait;
 use std::test::Fail;
@@ -31,7 +31,7 @@ impl Turned for Tally {
 
 /// A lock of a tally that had so many turns, and its pass.
 fn lock_after(alloc: Global, turns: u64) -> Result<(TurnLock<Tally>, Pass<Tally>), AllocError>
-    ensures { IfOk result (λ r. IsPassOf r.0 r.1 × (parts_of r.1 ≡ 65536)) }
+    ensures { IfOk result (λ r. IsPassOf r.0 r.1 × (parts_of r.1 ≡ 65536) × (turns_of r.1 ≡ [])) }
 {
     let value = Tally {
         name: 7,
@@ -51,6 +51,25 @@ fn close_whole(lock: TurnLock<Tally>, pass: Pass<Tally>) -> Tally
     let closed = lock.close(pass);
     let Ok(value) = closed else { unreachable!() };
     value
+}
+
+/// The tally at the close, after the one turn that was made, if there was a ticket for it: what that turn gave back.
+fn only_turn<R: Wait>(rt: &R, lock: TurnLock<Tally>, pass: Pass<Tally>) -> (bool, Tally)
+    requires { IsPassOf lock pass × (parts_of pass ≡ 65536) × (turns_of pass ≡ []) }
+    ensures { IsTrue result.0 → result.1.sum ≡ 12 }
+{
+    history_law::<Tally>();
+    match lock.take(rt, pass) {
+        Ok(mut held) => {
+            held.value.turns += 1;
+            held.value.sum = 12;
+            let pass = lock.give(held);
+            let closed = lock.close(pass);
+            let Ok(tally) = closed else { unreachable!() };
+            (true, tally)
+        }
+        Err(pass) => (false, close_whole(lock, pass)),
+    }
 }
 
 /// One turn, and its ticket.
@@ -252,6 +271,14 @@ fn the_last_number_is_no_ticket(rt: HostRuntime) -> Result<(), Fail> {
     let (pass, ticket) = take_turn(&rt, &lock, pass);
     assert_eq!(rt; (ticket, pass.spent()), (None, true));
     assert_eq!(rt; close_whole(lock, pass).sum, 0);
+    Ok(())
+}
+
+#[test]
+fn a_lock_closes_with_what_its_only_turn_gave_back(rt: HostRuntime) -> Result<(), Fail> {
+    let (lock, pass) = lock_after(rt.alloc(), 40)?;
+    let (made, tally) = only_turn(&rt, lock, pass);
+    assert_eq!(rt; (made, tally.turns, tally.sum), (true, 41, 12));
     Ok(())
 }
 

@@ -1,6 +1,16 @@
-//! What a pass knows and has, as the lock's rule sees it.
+//! What a pass knows and has, and the turns that it made, as the lock's rule sees them.
 
 use std::collections::LinkedList;
+
+/// One turn: its ticket, the value as it went out, and as it came back. No value of it is made: it stands in proofs alone.
+pub struct Turn<T> {
+    /// The ticket, which is the number of turns that the value had before.
+    pub ticket: u64,
+    /// The value as it went out.
+    pub from: T,
+    /// The value as it came back.
+    pub to: T,
+}
 
 /// What one pass knows of its lock, and what it has of it. No value of it is made: it stands in proofs alone.
 pub struct View<T> {
@@ -12,10 +22,10 @@ pub struct View<T> {
     pub looked: u64,
     /// The ticket whose turn it waits for or has.
     pub ticket: Option<u64>,
-    /// Whether it has the value.
-    pub out: bool,
-    /// The tickets that it drew.
-    pub drawn: LinkedList<u64>,
+    /// The value as it went out, while the pass has it.
+    pub lent: Option<T>,
+    /// The turns that it made.
+    pub done: LinkedList<Turn<T>>,
     /// The value that the lock was made with, where it has a part.
     pub of: Option<T>,
 }

@@ -21,6 +21,12 @@ pub returns-clause-drawn : goal.returns-clause-drawn
 returns-clause-drawn g c = let pass = c.args.pass in
     let t = closes g.T.Turned.turn g.T.Turned.name c.args.self.table.shared.key.value pass.seat.id pass.seat.me.0 _ _ c.take.result
     (omega (arith, c.if-pass-all.false, pass.some_part.1, pass.view_is.0)) pass.at_rest.0 pass.at_rest.1 c.close_with-closed.ensures.values.2 c.take.ensures.value in
+    (closes_with g.T.Turned.turn g.T.Turned.name c.args.self.table.shared.key.value pass.seat.me.0 c.take.result c.in-Some.value c.in-Some.is t).2.once
+
+pub returns-clause-history : goal.returns-clause-history
+returns-clause-history g c = let pass = c.args.pass in
+    let t = closes g.T.Turned.turn g.T.Turned.name c.args.self.table.shared.key.value pass.seat.id pass.seat.me.0 _ _ c.take.result
+    (omega (arith, c.if-pass-all.false, pass.some_part.1, pass.view_is.0)) pass.at_rest.0 pass.at_rest.1 c.close_with-closed.ensures.values.2 c.take.ensures.value in
     (closes_with g.T.Turned.turn g.T.Turned.name c.args.self.table.shared.key.value pass.seat.me.0 c.take.result c.in-Some.value c.in-Some.is t).2
 
 pub returns-clause-spent : goal.returns-clause-spent
