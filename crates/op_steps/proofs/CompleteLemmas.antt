@@ -3,6 +3,8 @@ use Rattle.std.proofs.Common.{[], ◌∷◌, ◌++◌, refl}
 use Rattle.desk_base.specs.Telling.{Effect}
 use Rattle.drive_base.specs.declared.drive.Drive.{Ghosts}
 use Rattle.drive_base.specs.declared.plan.SetPlan.{SetPlan}
+use Rattle.manifest_file.specs.Table.{ManifestsAreNoLonger}
+use Rattle.manifest_file.specs.declared.manifest.TheConstants.{LONGEST_FILE}
 use Rattle.op_steps.specs.Claims.{no_claim}
 use Rattle.op_steps.specs.Laws.{EachStepKeepsData, RanKeepsFiles, RanKeepsHistory}
 use Rattle.op_steps.specs.Requests.{CallsComplete, RequestComplete}
@@ -11,15 +13,16 @@ use Rattle.op_steps.specs.Store.{any_effect, store_of}
 use Rattle.op_steps.proofs.CallingLemmas.{one_went}
 use Rattle.op_steps.proofs.FileLemmas.{files_keep}
 use Rattle.op_steps.proofs.HoldingLemmas.{claim_comes}
+use Rattle.op_steps.proofs.ReadLemmas.{read_goes_on}
 use Rattle.op_steps.proofs.RequestLemmas.{log_not}
 use Rattle.op_steps.proofs.StagingLemmas.{body_taken, put_listed}
 use Rattle.op_steps.proofs.StepDataLemmas.{step_data}
 use Rattle.op_steps.proofs.StepLemmas.{history_runs}
 
 module _ {D T : Type 0} (ghosts : Ghosts D) (takes breaks : Effect T) where
-  request_by : SectionComplete ghosts → EachStepKeepsData ghosts takes breaks → RanKeepsHistory ghosts takes breaks → RanKeepsFiles ghosts takes breaks
+  request_by : SectionComplete ghosts → ManifestsAreNoLonger LONGEST_FILE → EachStepKeepsData ghosts takes breaks → RanKeepsHistory ghosts takes breaks → RanKeepsFiles ghosts takes breaks
       → RequestComplete ghosts takes breaks
-  request_by section step_law history files set log old new unseen claims at order low none holds ran =
+  request_by section lengths step_law history files set log old new unseen claims at order low none holds ran =
       let held = claim_comes ghosts takes breaks unseen old claims at none holds in
       record {
         sections = λ lanes disks k note shown fault there serve is enough refused.
@@ -27,18 +30,19 @@ module _ {D T : Type 0} (ghosts : Ghosts D) (takes breaks : Effect T) where
             refused;
         puts = put_listed ghosts takes breaks step_law history files set log old new unseen claims at order low held ran;
         body = body_taken ghosts takes breaks step_law history files set log old new unseen claims at order low held ran;
+        reads = read_goes_on ghosts takes breaks set unseen claims step_law history lengths log old new at order low held ran;
       }
 
-  pub request_complete : SectionComplete ghosts → RequestComplete ghosts takes breaks
-  request_complete section = request_by section (step_data ghosts takes breaks) (history_runs ghosts takes breaks) (files_keep ghosts takes breaks)
+  pub request_complete : SectionComplete ghosts → ManifestsAreNoLonger LONGEST_FILE → RequestComplete ghosts takes breaks
+  request_complete section lengths = request_by section lengths (step_data ghosts takes breaks) (history_runs ghosts takes breaks) (files_keep ghosts takes breaks)
 
-module _ {D : Type 0} (ghosts : Ghosts D) (section : SectionComplete ghosts) (set : SetPlan) where
+module _ {D : Type 0} (ghosts : Ghosts D) (section : SectionComplete ghosts) (lengths : ManifestsAreNoLonger LONGEST_FILE) (set : SetPlan) where
   pub calls_complete : CallsComplete ghosts set
   calls_complete [] slots disks after disks_after unseen claims at in_order holds ran = tt
   calls_complete (log ∷ logs) slots disks after disks_after unseen claims at in_order holds (mid, mid_disks, call, rest) =
       let went = one_went ghosts set log slots mid disks mid_disks in_order call in
       let later = went.holds unseen claims at holds in (
-        request_complete ghosts any_effect any_effect section set log (store_of slots disks (no_claim call.slot) call.feed call.teller)
+        request_complete ghosts any_effect any_effect section lengths set log (store_of slots disks (no_claim call.slot) call.feed call.teller)
             (store_of mid mid_disks call.left call.feed_after call.teller_after) unseen claims at in_order call.in_store refl holds call.ran,
         calls_complete logs mid mid_disks after disks_after unseen (claims ++ later.left) later.later went.in_order later.holds rest,
       )

@@ -6,6 +6,8 @@ pub mod CommitLemmas
 pub mod CompleteLemmas
 pub mod DataLemmas
 pub mod FileLemmas
+pub mod GetLemmas
+pub mod GetOwesLemmas
 pub mod HoldingLemmas
 pub mod LeadingLemmas
 pub mod LetterLemmas
@@ -16,6 +18,17 @@ pub mod MomentLemmas
 pub mod NamesLemmas
 pub mod NoteLemmas
 pub mod PendingLemmas
+pub mod ReadBackLemmas
+pub mod ReadFilesLemmas
+pub mod ReadHolderLemmas
+pub mod ReadLemmas
+pub mod ReadLetterLemmas
+pub mod ReadMomentLemmas
+pub mod ReadNamedLemmas
+pub mod ReadSeenLemmas
+pub mod ReadShardLemmas
+pub mod ReadStayLemmas
+pub mod ReadTextLemmas
 pub mod RefusedLemmas
 pub mod RefusingLemmas
 pub mod RequestLemmas

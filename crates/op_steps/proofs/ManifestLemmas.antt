@@ -130,7 +130,7 @@ both_from one other (why ∷ whys) from good =
       ]
     ]
 
-both_count : (n one other : ℕ) (whys : List Why) → length whys ≡ n
+pub both_count : (n one other : ℕ) (whys : List Why) → length whys ≡ n
     → ((k : ℕ) → k < n → IsBitSet one k → IsBitSet other k → letter_at whys k ≡ Good)
     → count_in one n + count_in other n ≤ good_count whys + n
 both_count n one other whys long good = subst (λ (m : ℕ). count_in one m + count_in other m ≤ good_count whys + m) long

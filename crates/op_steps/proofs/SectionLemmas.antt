@@ -51,7 +51,7 @@ use Rattle.op_steps.proofs.PendingLemmas.{ServeData, decided}
 use Rattle.op_steps.proofs.RefusedLemmas.{Against, RegisterServes, cause_not, own_not}
 
 -- a drive in use counts with what it keeps
-counted_in_use : (unseen : Disks) (out : ℕ) (disks : List DriveView) (k : ℕ) → k < length disks → (IsBitSet out k → ⊥)
+pub counted_in_use : (unseen : Disks) (out : ℕ) (disks : List DriveView) (k : ℕ) → k < length disks → (IsBitSet out k → ⊥)
     → kept_on (disks_of unseen out disks) k ≡ (view_at disks k).files.kept
 counted_in_use unseen out disks k inside in_use =
     get_or-map-range_with_len (counted_on unseen out disks) 0 (length disks) k k (λ _. None) inside (omega arith)

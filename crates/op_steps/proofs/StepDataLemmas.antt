@@ -1,9 +1,9 @@
 -- What one step leaves of the data of each slot, and what the lanes of the slot stand for then.
-use Rattle.std.proofs.Common.{◌≡◌, ◌≢◌, ◌<◌, ◌∙◌, ℕ, List, [], ◌∷◌, ◌++◌, Option, append-nil, cond, length, nat_eq, slice_index_or, slice_set, inl, inr, refl, sym, ap, subst, subst₂, arith}
+use Rattle.std.proofs.Common.{◌≡◌, ◌≢◌, ◌<◌, ◌∙◌, ℕ, List, [], ◌∷◌, ◌++◌, Option, append-nil, cond, length, nat_eq, slice_index_or, slice_set, inl, inr, sym, ap, subst, subst₂, arith}
 use Rattle.std.proofs.lemmas.Bool.Decides.{eqb_tells}
 use Rattle.desk_base.specs.Telling.{Effect}
 use Rattle.drive_base.specs.declared.drive.Drive.{Ghosts}
-use Rattle.drive_base.specs.View.{AllOnlyRead, DriveView}
+use Rattle.drive_base.specs.View.{AllOnlyRead}
 use Rattle.drive_base.specs.declared.plan.SetPlan.{SetPlan}
 use Rattle.slot_data.specs.Disks.{Disks}
 use Rattle.receipts.specs.Events.{Event, Note, Seen, Shown}
@@ -34,11 +34,11 @@ module _ {D T : Type 0} (ghosts : Ghosts D) (takes breaks : Effect T) where
   module _ (set : SetPlan) (j : ℕ) (note : Option Note) (shown : Shown) (old new : Store D T) (order : AreInOrder set old.slots old.disks)
       (x : Turns ghosts j note shown old new) (unseen : Disks) (front rest : List Claim) (at : ℕ → Standing)
       (held : AllHold ghosts.tells ghosts.files unseen old front rest at) where
-    disks_are : x.disks ≡ new.disks
+    pub disks_are : x.disks ≡ new.disks
     disks_are = sym (ap (λ (s : Store D T). s.disks) x.leaves)
 
     -- over a section the data of each slot holds, where that of its own does with what its lanes stand for then
-    turned_data : (left : Standing) → HoldsAfter ghosts.tells ghosts.files unseen new front rest left x.now
+    pub turned_data : (left : Standing) → HoldsAfter ghosts.tells ghosts.files unseen new front rest left x.now
         → AllHold ghosts.tells ghosts.files unseen new front rest (λ k. cond (nat_eq j k) left (at k))
     turned_data left own_holds k now later =
         let set_now : IsSlotAt (slice_set old.slots j x.now) k now = subst (λ (s : Store D T). IsSlotAt s.slots k now) x.leaves later in
@@ -85,7 +85,7 @@ module _ {D T : Type 0} (ghosts : Ghosts D) (takes breaks : Effect T) where
         }
 
   -- where slots, drives and claim stay, all data holds as before
-  same_holds : (old new : Store D T) (unseen : Disks) (front rest : List Claim) (at : ℕ → Standing) → new.slots ≡ old.slots → new.disks ≡ old.disks
+  pub same_holds : (old new : Store D T) (unseen : Disks) (front rest : List Claim) (at : ℕ → Standing) → new.slots ≡ old.slots → new.disks ≡ old.disks
       → new.claim ≡ old.claim → AllHold ghosts.tells ghosts.files unseen old front rest at → AllHold ghosts.tells ghosts.files unseen new front rest at
   same_holds old new unseen front rest at slots disks claim held k was is =
       let x = held k was (subst (λ l. IsSlotAt l k was) slots is) in
@@ -106,7 +106,7 @@ module _ {D T : Type 0} (ghosts : Ghosts D) (takes breaks : Effect T) where
       record { set_is = order_set set store.slots store.disks k was order is; stands = x.stands.stands; holds = x.holds }
 
   -- over a call of a data drive the data of each slot holds, since that of the op's own slot does
-  called_holds : (set : SetPlan) (i : ℕ) (seen : Seen) (old new : Store D T) (unseen : Disks) (front rest : List Claim) (at : ℕ → Standing)
+  pub called_holds : (set : SetPlan) (i : ℕ) (seen : Seen) (old new : Store D T) (unseen : Disks) (front rest : List Claim) (at : ℕ → Standing)
       → AreInOrder set old.slots old.disks → old.claim.slot < 64 → Calls set i seen old new → AllHold ghosts.tells ghosts.files unseen old front rest at
       → AllHold ghosts.tells ghosts.files unseen new front rest at
   unfolding kept_of
@@ -155,7 +155,7 @@ module _ {D T : Type 0} (ghosts : Ghosts D) (takes breaks : Effect T) where
   }
 
   -- an op stays at its slot
-  same_slot : (set : SetPlan) (event : Event) (old new : Store D T) → StepMoves ghosts takes breaks set event old new → new.claim.slot ≡ old.claim.slot
+  pub same_slot : (set : SetPlan) (event : Event) (old new : Store D T) → StepMoves ghosts takes breaks set event old new → new.claim.slot ≡ old.claim.slot
   same_slot set (Turned i made shown) old new x = x.moves.claims.slot
   same_slot set (BarredFrom i why) old new x = ap (λ (s : Store D T). s.claim.slot) x.leaves
   same_slot set (Called i seen) old new x = x.moves.slot

@@ -2,6 +2,7 @@ pub mod Calling
 pub mod Causes
 pub mod Claims
 pub mod Committing
+pub mod Getting
 pub mod Going
 pub mod Holding
 pub mod Laws
@@ -11,6 +12,7 @@ pub mod Looking
 pub mod Moves
 pub mod Naming
 pub mod Notes
+pub mod Reads
 pub mod Ready
 pub mod Refusing
 pub mod Requests

@@ -1,5 +1,5 @@
--- Lanes and data drives that serve in a call's log: the sections that they don't refuse where they are enough, and the body that they take.
-use Rattle.std.specs.Prelude.{◌≡◌, ℕ, zero, suc, ◌<◌, ◌≤◌, List, [], ◌∷◌, Contains, Option, Some, MatchOption}
+-- Lanes and data drives that serve in a call's log: the sections that they don't refuse where they are enough, the body that they take, and the read that goes on.
+use Rattle.std.specs.Prelude.{◌≡◌, ℕ, zero, suc, ◌<◌, ◌≤◌, List, [], ◌∷◌, ◌++◌, Contains, Option, Some, MatchOption}
 use Rattle.std.specs.Int.{IsBitSet}
 use Rattle.audit_trail.specs.declared.entry.Entry.{Entry}
 use Rattle.call_types.specs.declared.names.Key.{Key}
@@ -20,12 +20,13 @@ use Rattle.slot_core.specs.Rules.{IsRegisterName}
 use Rattle.slot_core.specs.declared.fault.SlotFault.TheVariants.{Quorum}
 use Rattle.receipts.specs.Events.{Event, Log, Note, Shown}
 use Rattle.receipts.specs.Events.Event.{BarredFrom, Called, Fed, Told, Turned}
-use Rattle.receipts.specs.Letters.{FewTook}
+use Rattle.receipts.specs.Letters.{FewTook, Wanted}
 use Rattle.op_steps.specs.Calling.{CallsRan}
 use Rattle.op_steps.specs.Claims.{Claim, no_claim}
 use Rattle.op_steps.specs.Holding.{StoreHolds}
 use Rattle.op_steps.specs.Leading.{Standing}
 use Rattle.op_steps.specs.Notes.{entry_in, refusal_by}
+use Rattle.op_steps.specs.Reads.{EnoughServe, ReadGoesOn, ReadsData}
 use Rattle.op_steps.specs.Serving.{AreEnough, DrivesServe, IsManifestName, IsNameOf}
 use Rattle.op_steps.specs.Steps.{Ran, StepMoves}
 use Rattle.op_steps.specs.Store.{AreInOrder, SlotSeen, Store, any_effect, store_of}
@@ -71,6 +72,9 @@ module _ {D T : Type 0} (ghosts : Ghosts D) (takes breaks : Effect T) where
     -- not too few data drives took a body where as many as must take a write are in use and have no fault over the log
     pub body : (disks slot : ℕ) (whys : List Why) → DisksAreCalm set disks old.disks new.disks → write_drives set.drives set.parity ≤ count_in disks set.drives
         → FewTook set slot whys log → ⊥
+    -- a read of data that its section found goes on where enough data drives serve
+    pub reads : (disks : ℕ) (wanted : Wanted) (front more : Log) → EnoughServe ghosts takes breaks set disks log old new ran → log ≡ front ++ more
+        → ReadsData wanted front → ReadGoesOn ghosts takes breaks set disks wanted front log old new
 
   -- so it is over the log of a call on a store that holds
   abbrev pub RequestComplete : Type 0

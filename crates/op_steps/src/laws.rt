@@ -4,6 +4,7 @@ ghost use Rattle.std.specs.Global.{Global};
 ghost use Rattle.op_steps.specs.Committing.{CommitIsTurn};
 ghost use Rattle.drive_base.specs.declared.plan.SetPlan.{SetPlan};
 ghost use Rattle.op_steps.specs.Calling.{CallsKeep};
+ghost use Rattle.op_steps.specs.Getting.{GetsGoOn, GetsLackNothing};
 ghost use Rattle.op_steps.specs.Holding.{CallKeepsData};
 ghost use Rattle.op_steps.specs.Laws.{EachStepKeepsData, RanKeepsFiles, RanKeepsHistory};
 ghost use Rattle.op_steps.specs.Leading.{ShowingJoins, ShowingParts, ShowingRuns};
@@ -96,7 +97,8 @@ pub fn complete_law<D: Drive>()
 }
 
 /// Over the log of a call on a store that holds, where enough lanes and data drives serve in a section, it isn't refused so; none in the call's own slot is
-/// refused for a put that isn't listed; and where enough data drives have no fault over the log, not too few took its body. It does nothing.
+/// refused for a put that isn't listed; where enough data drives have no fault over the log, not too few took its body; and where enough of them serve in each of
+/// its calls, a read of data that its section found goes on. It does nothing.
 pub fn request_law<D: Drive, T: Teller>()
     ensures { RequestComplete D.Drive T.takes T.breaks }
 {
@@ -111,3 +113,10 @@ pub fn requests_law<D: Drive>()
     lane_laws();
     manifest_laws();
 }
+
+/// A GetObject whose log is complete so is told letters of data drives, where enough of these serve, only where a drive that isn't one of them showed another
+/// manifest; so where all of them serve it is told none. Of its teller only the faults are seen. It does nothing.
+pub fn get_law<D: Drive>()
+    ensures go_on { GetsGoOn D.Drive any_effect any_effect }
+    ensures none { GetsLackNothing D.Drive any_effect any_effect }
+{}

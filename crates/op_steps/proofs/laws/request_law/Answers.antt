@@ -4,4 +4,4 @@ use Rattle.op_steps.proofs.laws.request_law.Goals as goal
 
 pub returns : goal.returns
 returns g c = request_complete g.D.Drive g.T.Teller.takes g.T.Teller.breaks
-    (section_complete g.D.Drive c.lane_laws.ensures.read c.manifest_laws.ensures.lengths)
+    (section_complete g.D.Drive c.lane_laws.ensures.read c.manifest_laws.ensures.lengths) c.manifest_laws.ensures.lengths
