@@ -1,30 +1,38 @@
 //! A worker that serves a door.
 
 ghost use Rattle.std.specs.Prelude.{◌≡◌, ◌≤◌};
-ghost use Rattle.serve_loop.specs.Doors.{DoorServed, IsServedOut, WorkKeeps, door_view, sight, work_keeps};
+ghost use Rattle.serve_loop.specs.Doors.{DoorServed, IsServedOut, ServedSince, WorkBegan, door_view, sight, work_began};
 ghost use Rattle.serve_loop.specs.declared.doors.DoorEnd.{DoorEnd};
 
 use crate::connection::serve_connection;
 use desk_base::Desk;
 use io_base::{Clock, Door, Work};
 use std::alloc::Global;
+use std::snapshot::Snapshot;
 use std::sync::Wait;
 
-/// The work of serving a door: a desk, which other workers may share, with a pass and a door of its own.
-pub struct ServeWork<'a, R: Drop, K: Desk<Pass: Drop>, O: Door + Drop, C> {
+/// The work of serving a door: a desk, which other workers may share, with a pass and a door of its own. It knows what it began with, so that what it did since
+/// is said of it.
+pub struct ServeWork<'a, R: Drop, K: Desk<Pass: Drop>, O: Door + Drop, C: Clock> {
     rt: R,
     alloc: Global,
     desk: &'a K,
     pass: K::Pass,
     door: O,
     clock: &'a C,
-    /// The door's count of faults when the work was made.
+    /// The pass and the door as they were when the work was made.
+    first: Snapshot<K::Pass>,
+    entrance: Snapshot<O>,
+    /// The door's count of faults then.
     before: u64,
+    ghost begun: { before ≡ O.faults entrance.value },
     ghost counted: { before ≤ O.faults door },
+    ghost served: { ∥ ServedSince (K.answers desk.now) (C.moment clock.now) (sight O.In.left O.In.faults O.Out.given O.Out.faults) K.holds first.value pass
+        (door_view O.over O.gave O.returned O.faults entrance.value) (door_view O.over O.gave O.returned O.faults door) ∥₁ },
     ghost fits: { K.fits desk.now (K.holds pass) } by { K.fits_is_fact desk.now (K.holds pass) },
 }
 
-impl<'a, R: Drop, K: Desk<Pass: Drop>, O: Door + Drop, C> ServeWork<'a, R, K, O, C> {
+impl<'a, R: Drop, K: Desk<Pass: Drop>, O: Door + Drop, C: Clock> ServeWork<'a, R, K, O, C> {
     /// A work that was not begun. It takes no memory.
     pub fn new(
         rt: R,
@@ -39,8 +47,11 @@ impl<'a, R: Drop, K: Desk<Pass: Drop>, O: Door + Drop, C> ServeWork<'a, R, K, O,
         ensures clock { result.clock.now ≡ clock.now }
         ensures pass { result.pass ≡ pass }
         ensures door { result.door ≡ door }
-        ensures before { result.before ≡ O.faults door }
+        ensures first { result.first.value ≡ pass }
+        ensures entrance { result.entrance.value ≡ door }
     {
+        let first = Snapshot::of(&pass);
+        let entrance = Snapshot::of(&door);
         let before = door.faults();
         ServeWork {
             rt,
@@ -49,12 +60,15 @@ impl<'a, R: Drop, K: Desk<Pass: Drop>, O: Door + Drop, C> ServeWork<'a, R, K, O,
             pass,
             door,
             clock,
+            first,
+            entrance,
             before,
         }
     }
 
     /// The pass and the door.
     pub fn into_parts(self) -> (K::Pass, O)
+        ensures fits { K.fits self.entry.desk.now (K.holds result.0) }
         ensures pass { result.0 ≡ self.entry.pass }
         ensures door { result.1 ≡ self.entry.door }
     {
@@ -65,6 +79,8 @@ impl<'a, R: Drop, K: Desk<Pass: Drop>, O: Door + Drop, C> ServeWork<'a, R, K, O,
             pass,
             door,
             clock: _,
+            first: _,
+            entrance: _,
             before: _,
         } = self;
         (pass, door)
@@ -77,16 +93,22 @@ impl<
     O: Door + Send + Drop,
     C: Clock + Sync,
 > Work for ServeWork<'_, R, K, O, C> {
-    ghost Kept = { WorkKeeps K.Holds };
+    ghost Kept = { WorkBegan K C K.Pass O };
 
-    ghost kept = { λ w. work_keeps (K.holds w.pass) w.before };
+    ghost kept = { λ w. work_began w.desk.now w.clock.now w.first.value w.entrance.value };
 
-    ghost over = { λ w. IsServedOut (O.over w.door) w.before (O.faults w.door) };
+    ghost over = { λ w. IsServedOut (O.over w.door) (O.faults w.entrance.value) (O.faults w.door)
+        × ∥ ServedSince (K.answers w.desk.now) (C.moment w.clock.now) (sight O.In.left O.In.faults O.Out.given O.Out.faults) K.holds w.first.value w.pass
+        (door_view O.over O.gave O.returned O.faults w.entrance.value) (door_view O.over O.gave O.returned O.faults w.door) ∥₁ };
 
     /// Serves the door, as `serve_door` does; a call that hands on the bound of a door gets no proof in a trait's method.
     fn work(&mut self)
-        ensures over { IsServedOut (O.over self.new.door) self.new.before (O.faults self.new.door) }
-        ensures kept { work_keeps (K.holds self.new.pass) self.new.before ≡ work_keeps (K.holds self.old.pass) self.old.before }
+        ensures over { IsServedOut (O.over self.new.door) (O.faults self.new.entrance.value) (O.faults self.new.door)
+            × ∥ ServedSince (K.answers self.new.desk.now) (C.moment self.new.clock.now) (sight O.In.left O.In.faults O.Out.given O.Out.faults)
+            K.holds self.new.first.value self.new.pass
+            (door_view O.over O.gave O.returned O.faults self.new.entrance.value) (door_view O.over O.gave O.returned O.faults self.new.door) ∥₁ }
+        ensures kept { work_began self.new.desk.now self.new.clock.now self.new.first.value self.new.entrance.value
+            ≡ work_began self.old.desk.now self.old.clock.now self.old.first.value self.old.entrance.value }
         ensures served { (end : DoorEnd) × DoorServed (K.answers self.old.desk.now) (C.moment self.old.clock.now)
             (sight O.In.left O.In.faults O.Out.given O.Out.faults) end self.old.pass self.new.pass
             (door_view O.over O.gave O.returned O.faults self.old.door) (door_view O.over O.gave O.returned O.faults self.new.door) }
@@ -108,7 +130,7 @@ impl<
     }
 }
 
-impl<R: Drop, K: Desk<Pass: Drop>, O: Door + Drop, C> Drop for ServeWork<'_, R, K, O, C> {
+impl<R: Drop, K: Desk<Pass: Drop>, O: Door + Drop, C: Clock> Drop for ServeWork<'_, R, K, O, C> {
     fn drop(self) {
         let Self {
             rt: _,
@@ -117,6 +139,8 @@ impl<R: Drop, K: Desk<Pass: Drop>, O: Door + Drop, C> Drop for ServeWork<'_, R, 
             pass: _,
             door: _,
             clock: _,
+            first: _,
+            entrance: _,
             before: _,
         } = self;
     }

@@ -1,7 +1,8 @@
 use Rattle.std.proofs.Common.{refl, ◌∙◌}
 use Rattle.serve_loop.specs.Doors.{door_view, sight}
 use Rattle.serve_loop.specs.declared.doors.DoorEnd.TheVariants.{DoorFailed}
-use Rattle.serve_loop.proofs.DoorLemmas.{door_failed, door_more, door_none, serves_one, visits_none}
+use Rattle.std.proofs.Math.Logic.{∥∥₁_map}
+use Rattle.serve_loop.proofs.DoorLemmas.{door_more, door_none, ends_failed, ends_over, serves_one, since_more}
 use Rattle.serve_loop.proofs.works.ServeWorkWork.work.Goals as goal
 
 pub rounds-init : goal.rounds-init
@@ -37,7 +38,28 @@ pub returns-in-Err-clause-served : goal.returns-in-Err-clause-served
 returns-in-Err-clause-served g c =
     let view = door_view g.O.Door.over g.O.Door.gave g.O.Door.returned g.O.Door.faults in (
       DoorFailed (g.O.Door.faults c.args.self.now.door) (g.O.Door.faults c.next-in-rounds.new.self),
-      door_failed (g.K.Desk.answers c.args.self.now.desk.now) (g.C.Clock.moment c.args.self.now.clock.now) (sight g.O.In.Source.left g.O.In.Source.faults g.O.Out.Sink.given g.O.Out.Sink.faults)
-          c.args.self.now.pass c.rounds.pass c.rounds.pass (view c.args.self.now.door) (view c.rounds.door) (view c.next-in-rounds.new.self) _ _ c.rounds.invariant.so_far
-          (refl, visits_none (view c.rounds.door) (view c.next-in-rounds.new.self) c.in-Err.ensures.gave c.in-Err.ensures.returned, c.in-Err.ensures.over, c.in-Err.ensures.counted) refl refl,
+      ends_failed (g.K.Desk.answers c.args.self.now.desk.now) (g.C.Clock.moment c.args.self.now.clock.now)
+          (sight g.O.In.Source.left g.O.In.Source.faults g.O.Out.Sink.given g.O.Out.Sink.faults)
+          c.args.self.now.pass c.rounds.pass (view c.args.self.now.door) (view c.rounds.door) (view c.next-in-rounds.new.self) c.rounds.invariant.so_far
+          c.in-Err.ensures.gave c.in-Err.ensures.returned c.in-Err.ensures.over c.in-Err.ensures.counted,
     )
+
+pub invariant_of-self-clause-served : goal.invariant_of-self-clause-served
+invariant_of-self-clause-served g c =
+    let view = door_view g.O.Door.over g.O.Door.gave g.O.Door.returned g.O.Door.faults in
+    ∥∥₁_map c.args.self.now.served (λ since. since_more (g.K.Desk.answers c.args.self.now.desk.now) (g.C.Clock.moment c.args.self.now.clock.now)
+    (sight g.O.In.Source.left g.O.In.Source.faults g.O.Out.Sink.given g.O.Out.Sink.faults)
+    g.K.Desk.holds _ _ _ _ _ _ _ since c.rounds.invariant.holds (ends_over (g.K.Desk.answers c.args.self.now.desk.now) (g.C.Clock.moment c.args.self.now.clock.now)
+    (sight g.O.In.Source.left g.O.In.Source.faults g.O.Out.Sink.given g.O.Out.Sink.faults)
+    c.args.self.now.pass c.rounds.pass (view c.args.self.now.door) (view c.rounds.door) (view c.next-in-rounds.new.self) c.rounds.invariant.so_far
+    (rw c.in-Ok-None.field-0-is at c.in-Ok-None.ensures.gave) c.in-Ok-None.ensures.returned (rw c.in-Ok-None.field-0-is at c.in-Ok-None.ensures.over) c.in-Ok-None.ensures.counted))
+
+pub invariant_of-self-in-Err-clause-served : goal.invariant_of-self-in-Err-clause-served
+invariant_of-self-in-Err-clause-served g c =
+    let view = door_view g.O.Door.over g.O.Door.gave g.O.Door.returned g.O.Door.faults in
+    ∥∥₁_map c.args.self.now.served (λ since. since_more (g.K.Desk.answers c.args.self.now.desk.now) (g.C.Clock.moment c.args.self.now.clock.now)
+    (sight g.O.In.Source.left g.O.In.Source.faults g.O.Out.Sink.given g.O.Out.Sink.faults)
+    g.K.Desk.holds _ _ _ _ _ _ _ since c.rounds.invariant.holds (ends_failed (g.K.Desk.answers c.args.self.now.desk.now) (g.C.Clock.moment c.args.self.now.clock.now)
+    (sight g.O.In.Source.left g.O.In.Source.faults g.O.Out.Sink.given g.O.Out.Sink.faults)
+    c.args.self.now.pass c.rounds.pass (view c.args.self.now.door) (view c.rounds.door) (view c.next-in-rounds.new.self) c.rounds.invariant.so_far
+    c.in-Err.ensures.gave c.in-Err.ensures.returned c.in-Err.ensures.over c.in-Err.ensures.counted))
