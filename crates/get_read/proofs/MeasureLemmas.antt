@@ -8,15 +8,14 @@ use Rattle.std.proofs.lemmas.Nat.{mul-le}
 use Rattle.drive_base.specs.declared.plan.SetPlan.{SetPlan}
 use Rattle.manifest_file.specs.declared.manifest.Manifest.{Manifest}
 use Rattle.shard_file.proofs.StripeLemmas.{stripes_reach}
-use Rattle.shard_file.specs.Stripes.{stripe_count, stripe_size}
-use Rattle.get_read.specs.Advancing.{GivesSoLong, next_table}
+use Rattle.shard_file.specs.Stripes.{stripe_count}
 use Rattle.get_read.specs.Going.{StaysBesides}
 use Rattle.get_read.specs.Held.{all_bytes}
 use Rattle.get_read.specs.Judging.{JudgesStripe}
 use Rattle.get_read.specs.Measure.{Falls, FallsOn, ahead_left, alone_left, one_held, one_told, run_left, search_left, state_left, steps_a_stripe, stripe_left}
 use Rattle.get_read.specs.Readers.{set_of}
 use Rattle.get_read.specs.Turning.{BeginsSpan, GivesPiece}
-use Rattle.get_read.specs.Windows.{RunPasses, RunTakes}
+use Rattle.get_read.specs.Windows.{RunTakes}
 use Rattle.get_read.specs.declared.faults.ReadFaultKind.{ReadFaultKind}
 use Rattle.get_read.specs.declared.faults.ReadFaultKind.TheVariants.{NoMemory}
 use Rattle.get_read.specs.declared.reader.ReadStep.{ReadStep}
@@ -26,7 +25,7 @@ use Rattle.get_read.specs.declared.state.Search.{Search}
 use Rattle.get_read.specs.declared.state.Fetching.{Fetching as FetchingRecord}
 use Rattle.get_read.specs.declared.state.StripeWork.{StripeWork}
 use Rattle.get_read.specs.declared.state.State.{State}
-use Rattle.get_read.specs.declared.state.State.TheVariants.{Searching, Fetching, Ended, Refused}
+use Rattle.get_read.specs.declared.state.State.TheVariants.{Searching, Fetching, Refused}
 use Rattle.get_read.specs.declared.window.Window.{Window}
 
 -- at most one call is saved
@@ -175,12 +174,6 @@ held_later tables k j table low some =
       | inr apart ↦ omega (arith, ap one_held (at ∙ get_or-set_other (all_bytes tables) k j table.items [] apart))
     ]
 
--- the window falls where its next drive is passed over, or it is given up
-pub passed_falls : (set : SetPlan) (tables : List (List ℕ)) (w : Window) (ahead : Option Window) (alone : ℕ) → w.tried < set.drives → RunPasses w ahead
-    → ahead_left set tables ahead + alone < run_left set tables w + alone
-passed_falls set tables w None alone low passes = omega (arith, low, held_most (slice_index_or tables w.tried []))
-passed_falls set tables w (Some new) alone low passes = omega (arith, low, passes.past, held_most (slice_index_or tables w.tried []))
-
 -- or gave its blocks
 pub took_falls : (Z : Type 0) (set : SetPlan) (tables : List (List ℕ)) (w : Window) (run digests : List ℕ) (result : Result (Option (Vec ℕ Z)) ReadFaultKind) (ahead : Option Window)
     (alone : ℕ) → w.tried < set.drives → RunTakes set w run digests result ahead → FallsOn result (run_left set tables w + alone) (ahead_left set tables ahead + alone)
@@ -188,13 +181,6 @@ took_falls Z set tables w run digests (Ok None) None alone low takes = omega (ar
 took_falls Z set tables w run digests (Ok None) (Some new) alone low takes = omega (arith, low, takes.past, held_most (slice_index_or tables w.tried []))
 took_falls Z set tables w run digests (Ok (Some bytes)) ahead alone low takes = tt
 took_falls Z set tables w run digests (Err fault) ahead alone low takes = tt
-
--- what is given of a window has a stripe's bytes at least
-pub took_long : (Z : Type 0) (set : SetPlan) (w : Window) (run digests : List ℕ) (result : Result (Option (Vec ℕ Z)) ReadFaultKind) (ahead : Option Window)
-    → 1 ≤ w.count → RunTakes set w run digests result ahead → GivesSoLong stripe_size result
-took_long Z set w run digests (Ok None) ahead some takes = tt
-took_long Z set w run digests (Ok (Some bytes)) ahead some takes = omega (arith, takes.1.4.0, takes.1.1.same.count, some)
-took_long Z set w run digests (Err fault) ahead some takes = tt
 
 -- where all but the window stays
 pub stays_left : (old new : FetchingRecord) → StaysBesides old new

@@ -45,14 +45,6 @@ pub asked_again : (wanted : Wanted) (id : VersionId) (span : Span) (one two : sp
     → the_asked wanted id span one ≡ the_asked wanted id span two
 asked_again wanted id span one two = ap (the_asked wanted id span) (ℕ_set (span.at + span.length) wanted.reach one two)
 
--- no call was made and nothing was given
-pub begins_so : (asked : Asked) (search : Search) → search.asked ≡ asked → IsSearchOf search [] → AreOfState asked (Searching search) (record { before = []; since = [] }) []
-begins_so asked search same is = record {
-  in_use = λ k d low. absurd (omega arith);
-  exact = λ body has. inl refl;
-  is = (same, refl, is);
-}
-
 module _ {D : Type 0} (ghosts : Ghosts D) where
   -- no call of a step is one of a drive that is out
   pub calls_in_use : (out : ℕ) (calls : Account) (before after : List D) → AreCalls ghosts out calls before after → AreInUse out calls

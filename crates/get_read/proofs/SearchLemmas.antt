@@ -44,14 +44,6 @@ passes_good set place next old new low counted good over =
     let same : slice_set old place Good ≡ old = ap (slice_set old place) (sym good) ∙ set-get_or old place Good in
     passes_drive set Good place next old new low counted (subst (λ (w : List Why). PassesOver set (place + 1) next w new) (sym same) over)
 
--- before the first call
-pub search_begins : (asked : Asked) (tried : ℕ) (whys old : List Why) → PassesOver (set_of asked) 0 tried old whys → IsSearch asked tried None whys []
-search_begins asked tried whys old over = record {
-  tried_so = λ k low. let is = over.out k (omega arith) low in inl is;
-  next_in_use = over.in_use;
-  sized = λ n some. absurd cc;
-}
-
 -- the length of the next drive's file is told
 pub search_sized : (asked : Asked) (tried : ℕ) (size : Option ℕ) (whys : List Why) (calls : Account) (n : ℕ) → IsSearch asked tried size whys calls
     → n ≤ LONGEST_FILE

@@ -1,14 +1,11 @@
 -- What the steps of reading a manifest answer.
-use Rattle.std.specs.Prelude.{◌≡◌, ℕ, Bool, IsTrue, List, Some, Result, Ok, Err}
-use Rattle.stamp_id.specs.declared.version.VersionId.{VersionId}
+use Rattle.std.specs.Prelude.{◌≡◌, ℕ, List, Result, Ok, Err}
 use Rattle.call_types.specs.declared.why.Why.{Why}
 use Rattle.call_types.specs.declared.why.Why.TheVariants.{Good, Failed, Damaged, Behind, Lacks}
-use Rattle.drive_base.specs.Files.{Files}
 use Rattle.manifest_file.specs.Canonical.{IsCanonical}
 use Rattle.manifest_file.specs.Spelling.{file_of}
 use Rattle.manifest_file.specs.declared.manifest.Manifest.{Manifest as ManifestRecord}
-use Rattle.body_print.specs.Names.{manifest_name}
-use Rattle.get_read.specs.Causes.{Wanted, Serves, IsUnserved, NoManifest}
+use Rattle.get_read.specs.Causes.{Wanted, Serves, IsUnserved}
 use Rattle.file_access.specs.declared.cause.NotGiven.{NotGiven}
 use Rattle.file_access.specs.declared.cause.NotGiven.TheVariants.{Because, NoMemory}
 
@@ -25,10 +22,3 @@ abbrev pub IsServed : Wanted → List ℕ → Result ManifestRecord NotGiven →
 IsServed wanted file (Ok m) = IsCanonical m × (file ≡ file_of m) × Serves wanted m
 IsServed wanted file (Err (Because why)) = IsDamagedSo wanted file why
 IsServed wanted file (Err NoMemory) = Unit {0}
-
--- a manifest that serves, which a drive that tells shows, or why the drive gave none; or there was not enough memory, and its count of faults stood
-abbrev pub GivesManifest : Wanted → VersionId → Type 0 → Result ManifestRecord NotGiven → Bool → Files → ℕ → ℕ → Type 0
-GivesManifest wanted id out (Ok m) tells files old new =
-    IsCanonical m × Serves wanted m × (IsTrue tells → files.shown (manifest_name id) ≡ Some (file_of m))
-GivesManifest wanted id out (Err (Because why)) tells files old new = NoManifest wanted id why out tells files old new
-GivesManifest wanted id out (Err NoMemory) tells files old new = new ≡ old

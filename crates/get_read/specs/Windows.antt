@@ -101,6 +101,15 @@ AreRebuilt set window bytes = (length bytes ≡ stripe_size * window.count) × (
     → ((j : ℕ) → j < length window.rows.items → run_block window j s ≡ slice_index_or shards (slice_index window.rows.items j) [])
     → piece stripe_size bytes s ≡ stripe)
 
+-- a stripe of a window is added to bytes, if its blocks are these
+pub record AddsStripe (set : SetPlan) (window : Window) (s : ℕ) (old new : List ℕ) : Type 0 where
+  pub long : length new ≡ length old + stripe_size
+  pub kept : take (length old) new ≡ old
+  pub stripe : (stripe : List ℕ) (shards : List (List ℕ)) → length stripe ≡ stripe_size
+      → AreStripeBlocks set.drives (data_drives set.drives set.parity) stripe shards
+      → ((j : ℕ) → j < length window.rows.items → run_block window j s ≡ slice_index_or shards (slice_index window.rows.items j) [])
+      → new ≡ old ++ stripe
+
 -- the digests that a table has for the stripes of a window
 abbrev pub digests_in : List ℕ → ℕ → ℕ → List ℕ
 digests_in table first count = take (32 * count) (drop (32 * first) table)

@@ -17,7 +17,7 @@ use crate::calls::{call_block, call_table};
 use crate::faults::ReadFaultKind;
 use crate::letters::past_out;
 use crate::state::{Fetching, Found, PartWork, StripeWork};
-use crate::stripes::add_stripe;
+use crate::stripes::stripe_of;
 use crate::tables::Fetched;
 use call_types::{Why, Whys};
 use drive_base::{Drive, SetPlan};
@@ -199,8 +199,7 @@ impl StripeWork {
         let wanted = set.read_quorum() as usize;
         if are_enough(&mut self.found, &mut self.whys, self.size, wanted) {
             let found = mem::replace(&mut self.found, no_blocks(alloc));
-            let mut bytes = Vec::new(alloc);
-            add_stripe(alloc, set, &found, self.size, long, &mut bytes)?;
+            let bytes = stripe_of(alloc, set, found, self.size, long)?;
             return Ok(Some(bytes));
         }
         if self.tried < set.drives {

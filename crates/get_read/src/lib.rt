@@ -5,8 +5,8 @@
 //! every body with that print, whatever the drives did, or two byte strings with one SHA-256 were met, of which the
 //! clause names both. Where the read is refused, each drive's cause is told.
 //!
-//! `read_whole` and `read_manifest` make all calls at once. A `Reader` makes at most one drive call a step, and others may
-//! work on the drives between two steps: what it promises is said of its own calls, each at its moment.
+//! A `Reader` makes at most one drive call a step, and others may work on the drives between two steps: what it promises is
+//! said of its own calls, each at its moment.
 //!
 //! A digest table is read and verified once for each drive and part. A block is rebuilt only from blocks whose digests
 //! were compared; those of a stripe are computed together, once there are as many blocks as it has data blocks, or all
@@ -20,7 +20,6 @@ mod faults;
 mod fetching;
 mod letters;
 mod manifests;
-mod parts;
 mod places;
 mod reader;
 mod rows;
@@ -29,14 +28,11 @@ mod state;
 mod stepping;
 mod stripes;
 mod tables;
-mod whole;
 mod window;
 mod windows;
 
 pub use faults::ReadFaultKind;
-pub use manifests::read_manifest;
 pub use reader::{ReadStep, Reader};
-pub use whole::read_whole;
 
 #[cfg(test)]
 mod tests;

@@ -1,16 +1,16 @@
 //! The rows of a window: how they are added, compared with their digests, and made stripes of.
 
-ghost use Rattle.std.specs.Prelude.{◌≡◌, ◌<◌, ◌≤◌, ◌+◌, ◌*◌, [], ℕ, IfOk, IsTrue, length, slice_index_or};
+ghost use Rattle.std.specs.Prelude.{◌≡◌, ◌<◌, ◌≤◌, ◌+◌, ◌*◌, [], ℕ, IfOk, IsTrue, OnOk, length, slice_index, slice_index_or};
 ghost use Rattle.std.specs.Int.{IsBitSet};
 ghost use Rattle.drive_base.specs.Plan.{data_drives};
 ghost use Rattle.shard_file.specs.Stripes.{block_size, piece, stripe_size};
 ghost use Rattle.get_read.specs.Turning.{HasNoRuns};
-ghost use Rattle.get_read.specs.Windows.{AreRebuilt, FitsAhead, TookRun, Verifies, digests_in, run_block};
+ghost use Rattle.get_read.specs.Windows.{AddsStripe, AreRebuilt, FitsAhead, TookRun, Verifies, digests_in, run_block};
 
 use crate::blocks::Blocks;
 use crate::manifests::Wanted;
 use crate::state::{PartWork, StripeWork};
-use crate::stripes::add_stripe;
+use crate::stripes::{add_stripe, are_data};
 use crate::window::Window;
 use drive_base::SetPlan;
 use shard_file::{STRIPE, block_digests, block_len};
@@ -71,12 +71,50 @@ impl Window {
         requires size { self.now.size ≡ block_size (data_drives set.now.drives set.now.parity) stripe_size }
         ensures { IfOk result (λ bytes. AreRebuilt set.now self.now bytes.items) }
     {
-        let mut bytes = Vec::new(alloc);
+        let mut bytes = Vec::with_capacity(alloc, self.bytes.len())?;
         for stripe in 0..self.count {
-            let blocks = self.blocks_of(alloc, stripe)?;
-            add_stripe(alloc, set, &blocks, self.size, STRIPE as usize, &mut bytes)?;
+            self.add_one(alloc, set, stripe, &mut bytes)?;
         }
         Ok(bytes)
+    }
+
+    /// Adds the bytes of one of the stripes.
+    fn add_one(
+        &self,
+        alloc: Global,
+        set: &SetPlan,
+        stripe: usize,
+        body: &mut Vec<u8>,
+    ) -> Result<(), AllocError>
+        requires stripe { stripe < self.now.count }
+        requires rows { length self.now.rows.items ≡ data_drives set.now.drives set.now.parity }
+        requires below { self.now.tried ≤ set.now.drives }
+        requires size { self.now.size ≡ block_size (data_drives set.now.drives set.now.parity) stripe_size }
+        ensures { OnOk result (AddsStripe set.now self.now stripe body.old.items body.new.items) }
+    {
+        if are_data(self.rows.as_slice()) {
+            return self.add_data(set, stripe, body);
+        }
+        let blocks = self.blocks_of(alloc, stripe)?;
+        add_stripe(alloc, set, &blocks, self.size, STRIPE as usize, body)?;
+        Ok(())
+    }
+
+    /// Adds the bytes of one of the stripes, whose data blocks are at hand.
+    fn add_data(&self, set: &SetPlan, stripe: usize, body: &mut Vec<u8>) -> Result<(), AllocError>
+        requires stripe { stripe < self.now.count }
+        requires rows { length self.now.rows.items ≡ data_drives set.now.drives set.now.parity }
+        requires own { (j : ℕ) → j < length self.now.rows.items → slice_index self.now.rows.items j ≡ j }
+        requires size { self.now.size ≡ block_size (data_drives set.now.drives set.now.parity) stripe_size }
+        ensures { OnOk result (AddsStripe set.now self.now stripe body.old.items body.new.items) }
+    {
+        let wanted = body.len() + STRIPE as usize;
+        for row in 0..set.read_quorum() as usize {
+            let from = (row * self.count + stripe) * self.size;
+            body.extend_from_slice(&self.bytes.as_slice()[from..from + self.size])?;
+        }
+        body.truncate(wanted);
+        Ok(())
     }
 
     /// The blocks of one of the stripes.

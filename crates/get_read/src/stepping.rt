@@ -16,11 +16,11 @@ ghost use Rattle.get_read.specs.declared.faults.ReadFaultKind.TheVariants as ref
 
 use crate::faults::ReadFaultKind;
 use crate::manifests::Wanted;
-use crate::parts::no_tables;
 use crate::places::part_with;
 use crate::reader::{ReadStep, Reader};
 use crate::rows::window_at;
 use crate::state::{Asked, Fetching, PartWork, Search, State, StripeWork};
+use crate::tables::no_tables;
 use body_print::name_of_shard;
 use call_types::Span;
 use drive_base::{Drive, SetPlan};

@@ -1,8 +1,10 @@
 //! Bodies are staged on drives in memory, which are damaged or lost, and read back.
 
 mod ailing;
+mod feeds;
 mod golden;
 mod hello;
+mod kinds;
 mod large;
 mod made;
 mod rows;

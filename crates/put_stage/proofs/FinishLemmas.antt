@@ -3,7 +3,7 @@ use Rattle.std.proofs.Common.{◌≡◌, ◌∙◌, ℕ, ◌<◌, ◌≤◌, tru
 use Rattle.std.specs.Prelude.{Result, Ok, Err}
 use Rattle.std.specs.Int.{IsBitSet}
 use Rattle.std.specs.String.{string_bytes}
-use Rattle.std.proofs.lemmas.List.{get_or-map, get_or_default}
+use Rattle.std.proofs.lemmas.List.{get_or-map, get_or_default, length-map}
 use Rattle.call_types.specs.Good.{is_good}
 use Rattle.call_types.specs.declared.why.FileKind.TheVariants.{Format}
 use Rattle.call_types.specs.declared.why.Why.{Why}
@@ -12,11 +12,11 @@ use Rattle.drive_base.specs.Files.{Files}
 use Rattle.drive_base.specs.Plan.{data_drives}
 use Rattle.manifest_file.specs.Canonical.{IsCanonical}
 use Rattle.manifest_file.specs.Print.{Cut, print_text}
-use Rattle.shard_file.specs.Shards.{root_of, shard_bytes}
+use Rattle.shard_file.specs.Shards.{root_of, table_of}
 use Rattle.body_print.proofs.ShardLemmas.{shards_have_their_blocks}
 use Rattle.body_print.specs.Prints.{HasPrint, IsCutOf}
 use Rattle.put_stage.specs.Cells.{DataCells, data_of}
-use Rattle.put_stage.specs.Coding.{IsSharded, block_at}
+use Rattle.put_stage.specs.Coding.{block_at}
 use Rattle.put_stage.specs.Dues.{is_nothing}
 use Rattle.put_stage.specs.Finishing.{StagesBody, StagesManifestAlone}
 use Rattle.put_stage.specs.Holding.{HoldsBody}
@@ -30,7 +30,7 @@ use Rattle.put_stage.specs.declared.stage.Load.{Load}
 use Rattle.put_stage.specs.declared.stage.Stage.{Stage}
 use Rattle.put_stage.specs.declared.staged.Staged.{Staged}
 use Rattle.put_stage.specs.declared.staged.StageFault.{StageFault}
-use Rattle.put_stage.proofs.ManifestLemmas.{canonical}
+use Rattle.put_stage.proofs.ManifestLemmas.{canonical_of_tables, roots_of_tables}
 
 -- no other call is none
 nothing_left : (due : Due) → is_nothing due ≡ true → due ≡ Nothing
@@ -98,14 +98,10 @@ one_part load body print shards taken whole is =
 pub whole_manifest : (load : Load) (body : List ℕ) (shards : List (List (List ℕ))) → HasTaken load body shards → load.left ≡ 0
     → IsCanonical (manifest_in load body shards)
 whole_manifest load body shards taken whole =
-    let set = load.set in
-    let d = data_drives set.drives set.parity in
-    let roots = map root_of shards in
     let fits : length body ≤ 5368709120 = omega (arith, taken.long, load.few taken.of_body) in
-    let sharded : IsSharded set.drives d body (map shard_bytes shards) roots =
-    record { shards = shards; are = taken.are; files_are = refl; roots_are = refl } in
-    canonical set load.names.id (string_bytes load.name) body (length body) d (map shard_bytes shards) roots (manifest_in load body shards) refl
-    load.short_name fits sharded
+    let counted : length (map table_of shards) ≡ load.set.drives = length-map shards table_of ∙ taken.are.count in
+    canonical_of_tables load.set load.names.id (string_bytes load.name) (length body) (map table_of shards) (map root_of shards) (manifest_in load body shards) refl
+    load.short_name fits (sym (roots_of_tables shards)) counted
 
 -- a drive with all in place holds the body
 holds_body : (stage : Stage) (body print : List ℕ) (shards : List (List (List ℕ))) (k : ℕ) (first : DataCells) (files : Files)

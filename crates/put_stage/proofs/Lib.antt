@@ -3,14 +3,12 @@ pub mod CallLemmas
 pub mod CodingLemmas
 pub mod FillLemmas
 pub mod FinishLemmas
-pub mod HolderLemmas
 pub mod JoinLemmas
 pub mod LawProofs
 pub mod LeftLemmas
 pub mod ManifestLemmas
 pub mod NameLemmas
 pub mod RunLemmas
-pub mod ShardLemmas
 pub mod SparesLemmas
 pub mod StepLemmas
 pub mod WindowLemmas

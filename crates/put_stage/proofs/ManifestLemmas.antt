@@ -16,7 +16,6 @@ use Rattle.manifest_file.specs.Spelling.{file_of}
 use Rattle.md5.specs.Md5.{md5}
 use Rattle.sha2.specs.Sha256.{sha256}
 use Rattle.std.specs.String.{string_bytes}
-use Rattle.put_stage.specs.Coding.{IsSharded}
 use Rattle.put_stage.specs.Taking.{IsMadeOf}
 use Rattle.put_stage.specs.declared.stage.Load.{Load}
 use Rattle.put_stage.specs.declared.stage.Made.{Made}
@@ -51,37 +50,12 @@ next_fits manifest parts i total part is same low so at =
     let fits = total_fits manifest is in
     omega (arith, within, size, all, so, fits)
 
--- roots are digests
-pub roots_are_roots : (shards : List (List (List ℕ))) → AllByRecursion IsRoot (map root_of shards)
-roots_are_roots [] = tt
-roots_are_roots (shard ∷ shards) = (sha256_is_root (table_of shard), roots_are_roots shards)
-
--- the manifest of a body that is one part is canonical
-pub canonical : (set : SetPlan) (id : VersionId) (name body : List ℕ) (size d : ℕ) (files roots : List (List ℕ)) (m : Manifest)
-    → m ≡ manifest_of set id name size roots → length name < 2 ^ 16 → size ≤ 5368709120 → IsSharded set.drives d body files roots → IsCanonical m
-canonical set id name body size d files roots m is short few sharded =
-    let counted : length roots ≡ set.drives = ap length sharded.roots_are ∙ length-map sharded.shards root_of ∙ sharded.are.count in
-    let part : IsCanonicalPart set.drives (record { id = id; length = size; roots = roots }) = record {
-      size = few;
-      counted = counted;
-      roots = subst (AllByRecursion IsRoot) (sym sharded.roots_are) (roots_are_roots sharded.shards);
-    } in
-    let made : IsCanonical (manifest_of set id name size roots) = record {
-      name = short;
-      drives = omega arith;
-      parity = omega arith;
-      some = omega arith;
-      few = omega arith;
-      parts = (part, tt);
-    } in
-    subst IsCanonical (sym is) made
-
 -- digests are roots
 digests_are_roots : (tables : List (List ℕ)) → AllByRecursion IsRoot (map sha256 tables)
 digests_are_roots [] = tt
 digests_are_roots (table ∷ tables) = (sha256_is_root table, digests_are_roots tables)
 
--- so is the manifest with the roots of these digest tables, one for each drive
+-- the manifest of a body that is one part, with the roots of these digest tables, one for each drive, is canonical
 pub canonical_of_tables : (set : SetPlan) (id : VersionId) (name : List ℕ) (size : ℕ) (tables roots : List (List ℕ)) (m : Manifest)
     → m ≡ manifest_of set id name size roots → length name < 2 ^ 16 → size ≤ 5368709120 → roots ≡ map sha256 tables → length tables ≡ set.drives → IsCanonical m
 canonical_of_tables set id name size tables roots m is short few roots_are counted =

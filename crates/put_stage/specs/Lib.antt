@@ -8,12 +8,9 @@ pub mod Holding
 pub mod Laws
 pub mod Left
 pub mod Manifests
-pub mod OnDrives
 pub mod Outcomes
 pub mod Parity
-pub mod Preparing
 pub mod Stepping
-pub mod Steps
 pub mod Taking
 pub mod Windows
 pub mod Working

@@ -1,5 +1,5 @@
 -- What a stage of a body answers.
-use Rattle.std.specs.Prelude.{◌≡◌, ◌≢◌, ◌↔◌, ◌<◌, ◌≤◌, ◌^◌, ℕ, Bool, List, [], ◌∷◌, length, map, Option, Some, Result, Ok, Err, slice_index_or}
+use Rattle.std.specs.Prelude.{◌≡◌, ◌≢◌, ◌↔◌, ◌<◌, ◌≤◌, ◌^◌, ℕ, List, [], ◌∷◌, length, Option, Some, Result, Ok, Err, slice_index_or}
 use Rattle.std.specs.Int.{IsBitSet}
 use Rattle.md5.specs.Md5.{md5}
 use Rattle.stamp_id.specs.declared.version.VersionId.{VersionId}
@@ -7,16 +7,10 @@ use Rattle.call_types.specs.Good.{good_count}
 use Rattle.call_types.specs.declared.why.FileKind.TheVariants.{Format}
 use Rattle.call_types.specs.declared.why.Why.{Why}
 use Rattle.call_types.specs.declared.why.Why.TheVariants.{Good, Lacks}
-use Rattle.drive_base.specs.Files.{Files}
-use Rattle.drive_base.specs.Plan.{data_drives, write_drives}
+use Rattle.drive_base.specs.Plan.{write_drives}
 use Rattle.drive_base.specs.declared.plan.SetPlan.{SetPlan}
-use Rattle.manifest_file.specs.Print.{print_of_parts}
-use Rattle.manifest_file.specs.Spelling.{file_of}
 use Rattle.manifest_file.specs.declared.manifest.Manifest.{Manifest}
 use Rattle.manifest_file.specs.declared.manifest.ManifestPart.{ManifestPart}
-use Rattle.shard_file.specs.Shards.{root_of, shard_bytes}
-use Rattle.body_print.specs.Shards.{AreShards}
-use Rattle.put_stage.specs.OnDrives.{PlacesNothing, StagedFile, StagesOn, manifest_and_shard}
 use Rattle.put_stage.specs.declared.staged.Staged.{Staged}
 use Rattle.put_stage.specs.declared.staged.StageFault.{StageFault}
 use Rattle.put_stage.specs.declared.staged.StageFault.TheVariants.{WriteQuorum, BadDigest, BodyCut, ReadFault, NoMemory}
@@ -57,48 +51,3 @@ Answers set whys print long etag (Err (BadDigest given computed)) = ⊥
 Answers set whys print long etag (Err BodyCut) = ⊥
 Answers set whys print long etag (Err ReadFault) = ⊥
 Answers set whys print long etag (Err NoMemory) = ⊥
-
--- a stage that was refused for its body, or for want of memory, left the drives as they were
-abbrev pub Untouched : {T D : Type 0} → Result T StageFault → List D → List D → Type 0
-Untouched (Ok _) old new = Unit {0}
-Untouched (Err (WriteQuorum _)) old new = Unit {0}
-Untouched (Err (BadDigest _ _)) old new = new ≡ old
-Untouched (Err BodyCut) old new = new ≡ old
-Untouched (Err ReadFault) old new = new ≡ old
-Untouched (Err NoMemory) old new = new ≡ old
-
--- what a stage of a body writes on each drive: the manifest, and the shard of the drive
-abbrev pub files_of : VersionId → List ℕ → List (List ℕ) → ℕ → List StagedFile
-files_of id manifest shards k = manifest_and_shard id manifest (slice_index_or shards k [])
-
-module _ {D : Type 0} (tells : D → Bool) (files : D → Files) (count : D → ℕ) where
-  -- the files of a body were written to each drive that took them, and to no other whole
-  pub record Wrote (set : SetPlan) (id : VersionId) (name body : List ℕ) (shards : List (List (List ℕ))) (whys : List Why) (old new : List D) : Type 0 where
-    pub are : AreShards set.drives (data_drives set.drives set.parity) body shards
-    pub on : StagesOn tells files count set (files_of id (file_of (manifest_of set id name (length body) (map root_of shards)))
-        (map shard_bytes shards)) whys old new
-
-  -- a body is staged: enough drives have its files, and the answer tells its print, length and MD5, and which drives
-  pub record IsStaged (set : SetPlan) (id : VersionId) (name body : List ℕ) (stated : Option (List ℕ)) (staged : Staged) (old new : List D) : Type 0 where
-    pub shards : List (List (List ℕ))
-    pub whys : List Why
-    pub wrote : Wrote set id name body shards whys old new
-    pub told : Acknowledges set whys (print_of_parts set.drives set.parity ((length body, map root_of shards) ∷ [])) (length body) (md5 body) staged
-    pub agrees : Agrees stated body
-
-  -- fewer drives than a write needs took all
-  pub record IsShort (set : SetPlan) (id : VersionId) (name body : List ℕ) (stated : Option (List ℕ)) (whys : List Why) (old new : List D) : Type 0 where
-    pub shards : List (List (List ℕ))
-    pub wrote : Wrote set id name body shards whys old new
-    pub few : good_count whys < write_drives set.drives set.parity
-    pub agrees : Agrees stated body
-
-  -- each answer of a stage that has the whole body
-  abbrev pub Stages : SetPlan → VersionId → List ℕ → List ℕ → Option (List ℕ) → Result Staged StageFault → List D → List D → Type 0
-  Stages set id name body stated (Ok staged) old new = IsStaged set id name body stated staged old new
-  Stages set id name body stated (Err (WriteQuorum whys)) old new = IsShort set id name body stated whys old new
-  Stages set id name body stated (Err (BadDigest given computed)) old new =
-      (stated ≡ Some given) × (computed ≡ md5 body) × (given ≢ computed) × PlacesNothing tells files set (manifest_and_shard id [] []) old new
-  Stages set id name body stated (Err BodyCut) old new = ⊥
-  Stages set id name body stated (Err ReadFault) old new = ⊥
-  Stages set id name body stated (Err NoMemory) old new = PlacesNothing tells files set (manifest_and_shard id [] []) old new

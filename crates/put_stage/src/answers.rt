@@ -1,7 +1,7 @@
-//! What a stage answers, by what each drive answered.
+//! What a stage answers, by what each drive answered and by the MD5 that was stated.
 
 ghost use Rattle.std.specs.Prelude.{◌≡◌, length};
-ghost use Rattle.put_stage.specs.Outcomes.{Answers};
+ghost use Rattle.put_stage.specs.Outcomes.{Answers, Compares};
 
 use crate::staged::{StageFault, Staged};
 use call_types::Whys;
@@ -27,4 +27,17 @@ pub fn answer(
         etag,
         took: DriveSet::from_mask(whys.good_mask()),
     })
+}
+
+/// Whether the MD5 that was stated, if any, is the body's.
+pub fn compare(stated: Option<[u8; 16]>, computed: [u8; 16]) -> Result<(), StageFault>
+    ensures { Compares stated computed result }
+{
+    let Some(stated) = stated else {
+        return Ok(());
+    };
+    if stated != computed {
+        return Err(StageFault::BadDigest { stated, computed });
+    }
+    Ok(())
 }

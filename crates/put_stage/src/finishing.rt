@@ -3,10 +3,9 @@
 ghost use Rattle.put_stage.specs.Finishing.{Concludes, PutsNothing, StagesBody, StagesManifestAlone};
 ghost use Rattle.put_stage.specs.Stepping.{MayFinish};
 
-use crate::answers::answer;
+use crate::answers::{answer, compare};
 use crate::stage::Stage;
 use crate::staged::{StageFault, Staged};
-use crate::whole::compare;
 
 impl Stage {
     /// The answer, once no call is due and the body is whole: where enough drives took all, the print, the length and the MD5

@@ -6,42 +6,32 @@
 //! that was put up in parts becomes one manifest alone, since its parts are staged already.
 //!
 //! The crate stands on `shard_file`, `poly_code` and `manifest_file` for the files, on `body_print` for what a body's
-//! shards are, and on `drive_base` for drives. [`stage_whole`] promises that each drive that took all holds the manifest
-//! and the shard file of exactly this body and no loose file of the stage, that a drive that failed has neither, the
-//! manifest alone or both, and that the drives are as they were where the body has another MD5 than stated, or where
-//! memory is missing. [`stage_manifest`] promises the same of the manifest that it is given, and that no other file is
-//! touched.
-//!
-//! A [`Stage`] does the same step by step, a window of whole stripes of the body or one drive call at a time, so that calls of others can
-//! come between two steps. What it leaves is said of its own four names on each drive: a step keeps what is said of them,
-//! and at the end each drive that took all holds the body's files, where others left these names alone. Its order is fixed:
-//! window by window the blocks on each drive, then drive by drive the digest table, the manifest, and both renames.
+//! shards are, and on `drive_base` for drives. A [`Stage`] does this step by step, a window of whole stripes of the body or
+//! one drive call at a time, so that calls of others can come between two steps. What it leaves is said of its own four
+//! names on each drive: a step keeps what is said of them, and at the end each drive that took all holds the manifest and
+//! the shard file of exactly this body, where others left these names alone. A drive that failed has neither, the manifest
+//! alone or both, and nothing is in place where the body has another MD5 than stated. Its order is fixed: window by window
+//! the blocks on each drive, then drive by drive the digest table, the manifest, and both renames.
 #![tactic(auto)]
 
 mod answers;
 mod coding;
-mod drives;
 mod dues;
-mod each;
 mod filling;
 mod finishing;
 mod laws;
 mod making;
 mod manifests;
 mod names;
-mod shards;
 mod stage;
 mod staged;
 mod stepping;
 mod stripes;
-mod whole;
 mod window;
 
 pub use laws::stage_laws;
-pub use manifests::stage_manifest;
 pub use stage::{Stage, StageNext};
 pub use staged::{StageFault, Staged};
-pub use whole::stage_whole;
 
 #[cfg(test)]
 mod tests;

@@ -15,10 +15,9 @@ ghost use Rattle.md5.specs.Md5.{md5};
 ghost use Rattle.sha2.specs.Sha256.{sha256};
 
 use crate::dues::Due;
-use crate::manifests::total_size;
+use crate::manifests::{manifest_of, total_size};
 use crate::names::names_of;
 use crate::stage::{Load, Made, Stage};
-use crate::whole::manifest_of;
 use crate::window::Window;
 use call_types::{FileKind, Why, Whys};
 use drive_base::SetPlan;

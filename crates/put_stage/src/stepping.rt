@@ -8,9 +8,9 @@ ghost use Rattle.put_stage.specs.Left.{calls_left};
 ghost use Rattle.put_stage.specs.Stepping.{HasAfter, HasAppended, HasDone, IsDue, IsFirst, IsNext, LetterOf, Serves, StepWorks, StepsOnce};
 ghost use Rattle.put_stage.specs.Working.{Blocks, Disagrees, IsBefore, IsOfDrive, due_at};
 
+use crate::answers::compare;
 use crate::dues::Due;
 use crate::stage::{Load, Stage, StageNext};
-use crate::whole::compare;
 use call_types::{FileKind, Why};
 use drive_base::Drive;
 use file_access::{append_on, place, sync_on};

@@ -4,7 +4,7 @@ ghost use Rattle.std.specs.Prelude.{◌≡◌, ◌<◌, IfOk, length};
 
 use call_types::{Why, Whys};
 use drive_base::{Drive, DriveSet, SetPlan};
-use drive_memory::MemDrive;
+use drive_memory::{MemDrive, Script, ScriptedDrive, Voice};
 use stamp_id::{Ballot, ChangeId, VersionId};
 use std::alloc::{AllocError, Global};
 use std::test::Fail;
@@ -12,8 +12,12 @@ use std::test::Fail;
 mod feeds;
 mod golden;
 mod manifests;
+mod others;
 mod steps;
 mod whole;
+
+/// The script of a drive that is lost.
+const LOST: Script = Script::Names { front: "" };
 
 /// The drives of four that are out, one that is lost, and those that take a stage then.
 const SERVED: [(u16, Option<usize>, u16); 3] = [
@@ -37,24 +41,37 @@ fn plan(out: u16) -> SetPlan
     set
 }
 
-/// So many drives without a file.
-fn fresh_drives(alloc: Global, count: u8) -> Result<Vec<MemDrive>, AllocError>
+/// So many drives that tell, of which no call fails.
+fn passing(alloc: Global, count: u8) -> Result<Vec<ScriptedDrive>, AllocError>
     ensures { IfOk result (λ drives. length drives.items ≡ count) }
 {
     let mut drives = Vec::new(alloc);
     for made in 0..count {
-        drives.push(MemDrive::new(alloc))?;
+        drives.push(ScriptedDrive::new(alloc, Voice::Tells, Script::Pass))?;
     }
     Ok(drives)
 }
 
-/// Loses the drive at this place, if there is one.
-fn lose(drives: &mut [MemDrive], place: usize)
-    ensures { length drives.new ≡ length drives.old }
+/// Four drives that tell, of which each follows a script.
+fn scripted(alloc: Global, scripts: [Script; 4]) -> Result<Vec<ScriptedDrive>, AllocError>
+    ensures { IfOk result (λ drives. length drives.items ≡ 4) }
 {
-    if let Some(drive) = drives.get_mut(place) {
-        drive.lose();
+    let mut drives = Vec::new(alloc);
+    for place in 0..4usize {
+        drives.push(ScriptedDrive::new(alloc, Voice::Tells, scripts[place]))?;
     }
+    Ok(drives)
+}
+
+/// Four drives that tell, of which the one at this place, if any, is lost.
+fn four_but(alloc: Global, gone: Option<usize>) -> Result<Vec<ScriptedDrive>, AllocError>
+    ensures { IfOk result (λ drives. length drives.items ≡ 4) }
+{
+    let mut scripts = [Script::Pass; 4];
+    if let Some(script) = scripts.get_mut(gone.unwrap_or(4)) {
+        *script = LOST;
+    }
+    scripted(alloc, scripts)
 }
 
 /// Which of four drives are in a mask.
@@ -86,13 +103,12 @@ fn shown(alloc: Global, drive: &mut MemDrive, name: &str) -> Result<Vec<u8>, Fai
     Ok(found)
 }
 
-/// Whether a drive, which is back, shows no file under a name.
+/// Whether a drive that is back shows no file under a name.
 fn shows_no(drive: &mut MemDrive, name: &str) -> bool {
-    drive.back();
     drive.size(name).is_err()
 }
 
-/// Whether a drive, which is back, shows these bytes under a name.
+/// Whether a drive that is back shows these bytes under a name.
 fn shows(alloc: Global, drive: &mut MemDrive, name: &str, bytes: &[u8]) -> Result<bool, Fail> {
     if shows_no(drive, name) {
         return Ok(false);

@@ -1,15 +1,16 @@
 //! `hello` on four drives with 2 of parity: what a read answers, whole, whatever befell the drives.
 
-ghost use Rattle.std.specs.Prelude.{◌≡◌, length};
+ghost use Rattle.std.specs.Prelude.{◌≡◌, IfOk, length};
 
 use super::golden::{COMPUTED, HELLO_PRINT, STORED, TWICE_MANIFEST, TWICE_PRINT};
-use super::made::{MANIFEST, damage, fresh_drives, gave, id, lose, place, plan};
-use crate::{ReadFaultKind, read_manifest, read_whole};
-use call_types::{FileKind, Why, Whys};
+use super::made::{
+    MANIFEST, Run, damage, fresh_drives, gave, id, lose, place, plan, read_by_steps, run_to, stage,
+};
+use crate::{ReadFaultKind, Reader};
+use call_types::{FileKind, Span, Why, Whys};
 use drive_base::{Drive, DriveSet, SetPlan};
 use drive_memory::MemDrive;
 use manifest_file::print_of;
-use put_stage::stage_whole;
 use seal_file::Damage;
 use stamp_id::{Ballot, ChangeId, VersionId};
 use std::alloc::Global;
@@ -24,30 +25,26 @@ fn four(out: u16) -> SetPlan
     set
 }
 
-/// Stages `hello` on four drives.
-fn stage_hello(alloc: Global, drives: &mut [MemDrive]) -> Result<(), Fail>
-    requires { length drives.old ≡ 4 }
-    ensures { length drives.new ≡ 4 }
+/// Four drives on which `hello` is staged.
+fn staged_drives(alloc: Global) -> Result<Vec<MemDrive>, Fail>
+    ensures { IfOk result (λ drives. length drives.items ≡ 4) }
 {
-    let staged = stage_whole(alloc, four(0), id(), "k/pic/a", b"hello", None, drives);
-    if staged.is_err() {
-        return Err("not staged".into());
-    }
-    Ok(())
+    let mut drives = fresh_drives(alloc, 4)?;
+    let _ = stage(alloc, four(0), b"hello", &mut drives)?;
+    Ok(drives)
 }
 
-/// What a read of so many bytes of the body of a print answers.
+/// What the steps of a reader of so many bytes of the body of a print answer.
 fn read_of(
     alloc: Global,
     out: u16,
     print: [u8; 32],
-    long: u64,
+    long: u32,
     drives: &mut [MemDrive],
-) -> Result<Vec<u8>, ReadFaultKind>
-    requires { length drives.old ≡ 4 }
-    ensures { length drives.new ≡ 4 }
+) -> Result<Run, ReadFaultKind>
+    ensures { length drives.new ≡ length drives.old }
 {
-    read_whole(alloc, four(out), print, id(), long, drives)
+    read_by_steps(alloc, four(out), print, (0, long), drives)
 }
 
 /// The cause for each of four drives.
@@ -75,8 +72,7 @@ fn failed(before: u64) -> Why {
 
 #[test]
 fn damaged_blocks_are_told_where_too_few_are_left(rt: HostRuntime) -> Result<(), Fail> {
-    let mut drives = fresh_drives(rt.alloc(), 4)?;
-    stage_hello(rt.alloc(), &mut drives)?;
+    let mut drives = staged_drives(rt.alloc())?;
     damage(rt.alloc(), &mut drives, 0)?;
     damage(rt.alloc(), &mut drives, 2)?;
     let answer = read_of(rt.alloc(), 0, HELLO_PRINT, 5, &mut drives);
@@ -95,8 +91,7 @@ fn damaged_blocks_are_told_where_too_few_are_left(rt: HostRuntime) -> Result<(),
 
 #[test]
 fn two_lost_drives_leave_it_and_three_are_told(rt: HostRuntime) -> Result<(), Fail> {
-    let mut drives = fresh_drives(rt.alloc(), 4)?;
-    stage_hello(rt.alloc(), &mut drives)?;
+    let mut drives = staged_drives(rt.alloc())?;
     lose(&mut drives, 0);
     lose(&mut drives, 2);
     let answer = read_of(rt.alloc(), 0, HELLO_PRINT, 5, &mut drives);
@@ -115,8 +110,7 @@ fn two_lost_drives_leave_it_and_three_are_told(rt: HostRuntime) -> Result<(), Fa
 
 #[test]
 fn drives_that_are_out_are_not_read(rt: HostRuntime) -> Result<(), Fail> {
-    let mut drives = fresh_drives(rt.alloc(), 4)?;
-    stage_hello(rt.alloc(), &mut drives)?;
+    let mut drives = staged_drives(rt.alloc())?;
     lose(&mut drives, 0);
     let answer = read_of(rt.alloc(), 0b0011, HELLO_PRINT, 5, &mut drives);
     assert!(rt; gave(answer, b"hello"));
@@ -134,14 +128,16 @@ fn is_refused(
     set: SetPlan,
     id: VersionId,
     print: [u8; 32],
-    long: u64,
+    length: u32,
     why: Why,
-) -> Result<bool, Fail>
-    requires { set.drives ≡ 4 }
-{
-    let mut drives = fresh_drives(alloc, 4)?;
-    stage_hello(alloc, &mut drives)?;
-    let answer = read_whole(alloc, set, print, id, long, &mut drives);
+) -> Result<bool, Fail> {
+    let mut drives = staged_drives(alloc)?;
+    let span = Span {
+        at: 0,
+        length: length as u64,
+    };
+    let mut reader = Reader::new(alloc, &set, print, id, span)?;
+    let answer = run_to(alloc, &mut reader, u32::MAX, &mut drives);
     Ok(answer.err() == because(why, why, why, why))
 }
 
@@ -161,20 +157,21 @@ fn manifests_that_do_not_suit_are_told(rt: HostRuntime) -> Result<(), Fail> {
 
 #[test]
 fn the_manifest_is_read(rt: HostRuntime) -> Result<(), Fail> {
-    let mut drives = fresh_drives(rt.alloc(), 4)?;
-    stage_hello(rt.alloc(), &mut drives)?;
+    let mut drives = staged_drives(rt.alloc())?;
     lose(&mut drives, 0);
-    let answer = read_manifest(rt.alloc(), four(0), HELLO_PRINT, id(), &mut drives);
-    let manifest = answer.ok().ok_or("no manifest")?;
+    let span = Span { at: 0, length: 0 };
+    let mut reader = Reader::new(rt.alloc(), &four(0), HELLO_PRINT, id(), span)?;
+    let answer = run_to(rt.alloc(), &mut reader, u32::MAX, &mut drives);
+    assert!(rt; gave(answer, b""));
+    let manifest = reader.manifest().ok_or("no manifest")?;
     assert_eq!(rt; manifest.name.as_slice(), b"k/pic/a".as_slice());
-    assert_eq!(rt; print_of(&manifest), HELLO_PRINT);
+    assert_eq!(rt; print_of(manifest), HELLO_PRINT);
     Ok(())
 }
 
 #[test]
 fn two_parts_are_joined(rt: HostRuntime) -> Result<(), Fail> {
-    let mut drives = fresh_drives(rt.alloc(), 4)?;
-    stage_hello(rt.alloc(), &mut drives)?;
+    let mut drives = staged_drives(rt.alloc())?;
     // The last drive alone has the manifest of `hellohello`.
     let last = drives.get_mut(3).ok_or("no drive")?;
     place(last, MANIFEST, &TWICE_MANIFEST)?;

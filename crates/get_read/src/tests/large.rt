@@ -1,13 +1,14 @@
 //! A body of 33 MiB goes through a `Stage`, from a feed that makes its bytes, and comes back through a `Reader` piece by piece, one drive call a step.
 
-ghost use Rattle.std.specs.Prelude.{◌≡◌, ◌+◌, ◌≤◌, ◌<◌, None, length};
+ghost use Rattle.std.specs.Prelude.{◌≡◌, length};
 
+use super::feeds::{Repeats, put_on};
 use super::made::{fresh_drives, id, lose, plan, step_on};
 use crate::{ReadStep, Reader};
-use call_types::{Cut, Feed, Span};
+use call_types::Span;
 use drive_base::SetPlan;
 use drive_memory::MemDrive;
-use put_stage::{Stage, StageNext};
+use put_stage::Stage;
 use std::alloc::{AllocError, Global};
 use std::test::Fail;
 
@@ -16,14 +17,6 @@ const LONG: u64 = 34_603_011;
 
 /// The number of bytes that repeat.
 const PERIOD: usize = 251;
-
-/// A feed of the body, of which byte i is i mod 251.
-#[derive(Drop)]
-struct Repeats {
-    bytes: Vec<u8>,
-    given: u64,
-    pub ghost at_most: { given ≤ 34603011 },
-}
 
 /// Bytes of which byte i is i mod 251, as many as a piece has behind any of the first 251.
 fn period(alloc: Global) -> Result<Vec<u8>, AllocError> {
@@ -34,76 +27,14 @@ fn period(alloc: Global) -> Result<Vec<u8>, AllocError> {
     Ok(bytes)
 }
 
-impl Repeats {
-    fn new(bytes: Vec<u8>) -> Repeats
-        ensures stated { (⟦<Repeats as Feed>⟧.seen result).stated ≡ LONG }
-        ensures given { (⟦<Repeats as Feed>⟧.seen result).given ≡ 0 }
-    {
-        Repeats { bytes, given: 0 }
-    }
-}
-
-impl Feed for Repeats {
-    ghost seen = { λ feed. record { stated = 34603011; given = feed.given; left = None } };
-
-    ghost faults = { λ feed. 0 };
-
-    fn take(&mut self, into: &mut [u8]) -> Result<usize, Cut> {
-        let wanted = (into.len() as u64).min(LONG - self.given) as usize;
-        if wanted == 0 {
-            return Ok(0);
-        }
-        let at = (self.given % PERIOD as u64) as usize;
-        if at >= self.bytes.len() {
-            return Err(Cut::BodyCut {
-                read: self.given,
-                stated: LONG,
-            });
-        }
-        let count = wanted.min(self.bytes.len() - at);
-        into[..count].copy_from_slice(&self.bytes.as_slice()[at..at + count]);
-        self.given += count as u64;
-        Ok(count)
-    }
-}
-
 /// Puts the body, and tells its print.
 fn put(alloc: Global, set: SetPlan, drives: &mut [MemDrive]) -> Result<[u8; 32], Fail>
     requires { length drives.old ≡ set.drives }
     ensures { length drives.new ≡ length drives.old }
 {
     let stage = Stage::new(alloc, set, id(), "k/pic/a", LONG, None)?;
-    put_on(alloc, stage, Repeats::new(period(alloc)?), drives)
-}
-
-/// Runs a stage of the body to its end.
-fn put_on(
-    alloc: Global,
-    stage: Stage,
-    feed: Repeats,
-    drives: &mut [MemDrive],
-) -> Result<[u8; 32], Fail>
-    requires drives { length drives.old ≡ stage.load.set.drives }
-    requires feed { (⟦<Repeats as Feed>⟧.seen feed).given + stage.load.left ≡ (⟦<Repeats as Feed>⟧.seen feed).stated }
-    ensures { length drives.new ≡ length drives.old }
-{
-    let mut stage = stage;
-    let mut feed = feed;
-    for round in 0..1000u32 {
-        match stage.next() {
-            StageNext::Fill => {
-                if stage.fill(alloc, &mut feed).is_err() {
-                    return Err("not taken".into());
-                }
-            }
-            StageNext::Step => stage.step(drives),
-            StageNext::Finish => return stage
-                .finish()
-                .map(|staged| staged.print)
-                .map_err(|_| "not staged".into()),
-        }
-    }
-    Err("it does not end".into())
+    let feed = Repeats::new(period(alloc)?, PERIOD as u64, LONG);
+    put_on(alloc, stage, feed, drives)
 }
 
 /// Whether a piece at a place of the body has its bytes.

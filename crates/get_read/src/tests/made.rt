@@ -2,11 +2,12 @@
 
 ghost use Rattle.std.specs.Prelude.{◌≡◌, ◌+◌, ◌<◌, ◌≤◌, ◌^◌, IfOk, length};
 
+use super::feeds::{Repeats, put_on};
 use crate::{ReadFaultKind, ReadStep, Reader};
 use call_types::Span;
 use drive_base::{Drive, LONGEST_NAME, SetPlan};
 use drive_memory::MemDrive;
-use put_stage::stage_whole;
+use put_stage::Stage;
 use stamp_id::{Ballot, ChangeId, VersionId};
 use std::alloc::{AllocError, Global};
 use std::test::Fail;
@@ -64,22 +65,22 @@ pub fn some_body(alloc: Global, long: usize) -> Result<Vec<u8>, AllocError> {
 }
 
 /// Stages a body over the drives of a set, and tells its print.
-pub fn stage(
+pub fn stage<D: Drive>(
     alloc: Global,
     set: SetPlan,
     body: &[u8],
-    drives: &mut [MemDrive],
+    drives: &mut [D],
 ) -> Result<[u8; 32], Fail>
     requires { length drives.old ≡ set.drives }
     ensures { length drives.new ≡ length drives.old }
 {
-    if body.len() > 5_368_709_120 {
+    let long = body.len() as u64;
+    if long > 5_368_709_120 {
         return Err("too long".into());
     }
-    match stage_whole(alloc, set, id(), "k/pic/a", body, None, drives) {
-        Ok(staged) => Ok(staged.print),
-        Err(_) => Err("not staged".into()),
-    }
+    let feed = Repeats::new(Vec::from_slice(alloc, body)?, long, long);
+    let stage = Stage::new(alloc, set, id(), "k/pic/a", long, None)?;
+    put_on(alloc, stage, feed, drives)
 }
 
 /// What the steps of a reader gave: their number, that of their pieces, and the bytes of these, joined.
@@ -91,10 +92,10 @@ pub struct Run {
 }
 
 /// A step, where there are as many drives as the reader's set has.
-pub fn step_on(
+pub fn step_on<D: Drive>(
     alloc: Global,
     reader: &mut Reader,
-    drives: &mut [MemDrive],
+    drives: &mut [D],
 ) -> Result<ReadStep, ReadFaultKind>
     ensures { length drives.new ≡ length drives.old }
 {
@@ -105,12 +106,14 @@ pub fn step_on(
 }
 
 /// Steps up to so many pieces, or to the end.
-pub fn run_to(
+pub fn run_to<D: Drive>(
     alloc: Global,
     reader: &mut Reader,
     pieces: u32,
-    drives: &mut [MemDrive],
-) -> Result<Run, ReadFaultKind> {
+    drives: &mut [D],
+) -> Result<Run, ReadFaultKind>
+    ensures { length drives.new ≡ length drives.old }
+{
     let mut run = Run {
         steps: 0,
         pieces: 0,
@@ -134,13 +137,16 @@ pub fn run_to(
 }
 
 /// What all steps of a reader of a span of the body with this print give.
-pub fn read_by_steps(
+pub fn read_by_steps<D: Drive>(
     alloc: Global,
     set: SetPlan,
     print: [u8; 32],
-    (at, length): (u32, u32),
-    drives: &mut [MemDrive],
-) -> Result<Run, ReadFaultKind> {
+    part: (u32, u32),
+    drives: &mut [D],
+) -> Result<Run, ReadFaultKind>
+    ensures { length drives.new ≡ length drives.old }
+{
+    let (at, length) = part;
     let span = Span {
         at: at as u64,
         length: length as u64,
@@ -158,10 +164,7 @@ pub fn steps_give(
     drives: &mut [MemDrive],
 ) -> bool {
     let long = due.len().min(u32::MAX as usize) as u32;
-    match read_by_steps(alloc, set, print, (0, long), drives) {
-        Ok(run) => run.bytes.as_slice() == due,
-        Err(_) => false,
-    }
+    gave(read_by_steps(alloc, set, print, (0, long), drives), due)
 }
 
 /// Puts the shard file of a drive in place anew, with the lowest bit of its first byte changed.
@@ -201,10 +204,10 @@ pub fn lose(drives: &mut [MemDrive], at: usize)
     }
 }
 
-/// Whether these bytes were read.
-pub fn gave(answer: Result<Vec<u8>, ReadFaultKind>, due: &[u8]) -> bool {
+/// Whether the steps of a reader gave these bytes.
+pub fn gave(answer: Result<Run, ReadFaultKind>, due: &[u8]) -> bool {
     match answer {
-        Ok(bytes) => bytes.as_slice() == due,
+        Ok(run) => run.bytes.as_slice() == due,
         Err(_) => false,
     }
 }

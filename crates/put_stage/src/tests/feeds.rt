@@ -2,18 +2,17 @@
 
 ghost use Rattle.std.specs.Prelude.{◌≡◌, ◌+◌, ◌≤◌, None, length};
 
+use super::id;
+use super::others::Others;
 use crate::{Stage, StageFault, StageNext, Staged};
 use call_types::{Cut, Feed};
-use drive_base::Drive;
+use drive_base::SetPlan;
 use drive_memory::ScriptedDrive;
 use std::alloc::Global;
 use std::test::Fail;
 
 /// The most steps that a stage of these tests takes.
 const MOST_STEPS: u32 = 1000;
-
-/// The number of no step: nobody else is at work.
-pub const NEVER: u32 = u32::MAX;
 
 /// A feed that has some bytes of a body, and then ends or fails.
 #[derive(Drop)]
@@ -69,28 +68,13 @@ impl Feed for TestFeed {
     }
 }
 
-/// What others do on drives between two calls: a file of another name is made, put in place and hurt, and the drive is lost
-/// and back.
-fn disturb(drives: &mut [ScriptedDrive]) -> Result<(), Fail> {
-    for drive in drives.iter_mut() {
-        let behind = drive.behind();
-        behind.append("other", b"+")?;
-        behind.sync("other")?;
-        behind.rename("other", "m/other")?;
-        let _ = behind.hurt("m/other", 0);
-        behind.lose();
-        behind.back();
-    }
-    Ok(())
-}
-
-/// Runs a stage to its end, with others at work before the step of this number.
+/// Runs a stage to its end, with others at work between its steps.
 pub fn run(
     alloc: Global,
     stage: Stage,
     feed: TestFeed,
     drives: &mut [ScriptedDrive],
-    place: u32,
+    others: Others,
 ) -> Result<Result<Staged, StageFault>, Fail>
     requires drives { length drives.old ≡ stage.load.set.drives }
     requires feed { (⟦<TestFeed as Feed>⟧.seen feed).given + stage.load.left ≡ (⟦<TestFeed as Feed>⟧.seen feed).stated }
@@ -98,9 +82,7 @@ pub fn run(
     let mut stage = stage;
     let mut feed = feed;
     for round in 0..MOST_STEPS {
-        if round == place {
-            disturb(drives)?;
-        }
+        others.work(round, drives)?;
         match stage.next() {
             StageNext::Fill => {
                 if let Err(fault) = stage.fill(alloc, &mut feed) {
@@ -112,4 +94,27 @@ pub fn run(
         }
     }
     Err(Fail::new("it does not end"))
+}
+
+/// What a stage of a body answers, that comes whole.
+pub fn staged(
+    alloc: Global,
+    set: SetPlan,
+    body: Vec<u8>,
+    md5: Option<[u8; 16]>,
+    drives: &mut [ScriptedDrive],
+    others: Others,
+) -> Result<Result<Staged, StageFault>, Fail>
+    requires drives { length drives.old ≡ set.drives }
+    requires few { length body.items ≤ 5368709120 }
+{
+    let long = body.len();
+    let stage = Stage::new(alloc, set, id(), "k/pic/a", long as u64, md5)?;
+    run(
+        alloc,
+        stage,
+        TestFeed::new(body, long, false),
+        drives,
+        others,
+    )
 }

@@ -1,19 +1,23 @@
 //! A manifest of two parts on four drives with 2 of parity.
 
-ghost use Rattle.std.specs.Prelude.{◌≡◌, IfOk, length};
+ghost use Rattle.std.specs.Prelude.{◌≡◌, IfOk};
 ghost use Rattle.manifest_file.specs.Canonical.{IsCanonical};
 
+use super::feeds::{TestFeed, run};
 use super::golden::*;
-use super::{SERVED, fresh_drives, id, in_mask, lose, plan, shows, shows_no};
-use crate::{StageFault, Staged, stage_manifest};
+use super::others::NOBODY;
+use super::steps::calls;
+use super::{SERVED, four_but, id, in_mask, plan, shows, shows_no};
+use crate::{Stage, Staged};
+use call_types::Feed;
 use drive_base::DriveSet;
-use drive_memory::MemDrive;
+use drive_memory::ScriptedDrive;
 use manifest_file::{Manifest, read};
 use std::alloc::Global;
 use std::test::Fail;
 
 /// The manifest of the golden file.
-pub fn golden_manifest(alloc: Global) -> Result<Manifest, Fail>
+fn golden_manifest(alloc: Global) -> Result<Manifest, Fail>
     ensures canonical { IfOk result (λ manifest. IsCanonical manifest) }
     ensures drives { IfOk result (λ manifest. manifest.drives ≡ 4) }
     ensures parity { IfOk result (λ manifest. manifest.parity ≡ 2) }
@@ -27,34 +31,20 @@ pub fn golden_manifest(alloc: Global) -> Result<Manifest, Fail>
     Ok(manifest)
 }
 
-/// What a stage of the golden manifest answers, with an ETag.
-fn staged(
-    alloc: Global,
-    out: u16,
-    drives: &mut [MemDrive],
-) -> Result<Result<Staged, StageFault>, Fail>
-    requires { length drives.old ≡ 4 }
-    ensures { length drives.new ≡ 4 }
-{
-    let manifest = golden_manifest(alloc)?;
-    let set = plan(out);
-    Ok(stage_manifest(alloc, set, id(), &manifest, [9; 16], drives))
-}
-
 /// Which drives show the golden manifest, and no shard file.
-fn that_show_it(alloc: Global, drives: &mut [MemDrive]) -> Result<[bool; 4], Fail> {
+fn that_show_it(alloc: Global, drives: &mut [ScriptedDrive]) -> Result<[bool; 4], Fail> {
     let mut shown = [false; 4];
     for (place, drive) in drives.iter_mut().enumerate() {
         if place < 4 {
-            shown[place] = shows(alloc, drive, MANIFEST, &PARTS_MANIFEST)?
-                && shows_no(drive, SHARD);
+            shown[place] = shows(alloc, drive.behind(), MANIFEST, &PARTS_MANIFEST)?
+                && shows_no(drive.behind(), SHARD);
         }
     }
     Ok(shown)
 }
 
 /// The answer with this mask of the drives that took it.
-pub fn parts_on(took: u16) -> Staged {
+fn parts_on(took: u16) -> Staged {
     Staged {
         print: PARTS_PRINT,
         length: 5_368_709_131,
@@ -64,15 +54,20 @@ pub fn parts_on(took: u16) -> Staged {
 }
 
 #[test]
-fn a_manifest_goes_to_the_drives_that_answer(rt: HostRuntime) -> Result<(), Fail> {
+fn a_manifest_goes_to_the_drives_that_answer_by_three_calls(rt: HostRuntime) -> Result<(), Fail> {
     for (out, gone, took) in SERVED {
-        let mut drives = fresh_drives(rt.alloc(), 4)?;
-        if let Some(place) = gone {
-            lose(&mut drives, place);
-        }
-        let answer = staged(rt.alloc(), out, &mut drives)?;
+        let mut drives = four_but(rt.alloc(), gone)?;
+        let manifest = golden_manifest(rt.alloc())?;
+        let stage = Stage::of_manifest(rt.alloc(), plan(out), id(), manifest, [9; 16])?;
+        let feed = TestFeed::new(Vec::new(rt.alloc()), 0, false);
+        let answer = run(rt.alloc(), stage, feed, &mut drives, NOBODY)?;
         assert_eq!(rt; answer, Ok(parts_on(took)));
         assert_eq!(rt; that_show_it(rt.alloc(), &mut drives)?, in_mask(took));
+        for (drive, holds) in drives.iter().zip(in_mask(took)) {
+            if holds {
+                assert_eq!(rt; drive.calls(), calls((1, 1, 1)));
+            }
+        }
     }
     Ok(())
 }

@@ -2,15 +2,15 @@
 
 ghost use Rattle.std.specs.Prelude.{◌≡◌, ◌<◌, IfOk, length};
 
-use super::feeds::{NEVER, TestFeed, run};
+use super::feeds::{TestFeed, run, staged};
 use super::golden::*;
-use super::manifests::{golden_manifest, parts_on};
+use super::others::NOBODY;
 use super::whole::hello_on;
-use super::{SERVED, id, in_mask, lost, plan, shown, shows_no};
+use super::{id, lost, passing, plan, scripted, shown, shows_no};
 use crate::{Stage, StageFault, Staged};
 use call_types::Feed;
 use drive_base::{Drive, SetPlan};
-use drive_memory::{Calls, Script, ScriptedDrive, Voice};
+use drive_memory::{Calls, Script, ScriptedDrive};
 use sha2::{Digest, Sha256};
 use std::alloc::{AllocError, Global};
 use std::test::Fail;
@@ -38,19 +38,13 @@ const CALLS_OF: [(u32, (u64, u64, u64)); 4] = [
 /// is left of less than a stripe, one for the digest table and one for the manifest.
 const WINDOWS_OF: [(u8, u32, u64); 3] = [(6, 2097153, 4), (6, 3145728, 4), (5, 4194304, 3)];
 
-/// The SHA-256 of the files of a body of five bytes on four drives, as in `STAGES`.
-const FIVE_FILES: &str = "f6b5c3ed4fe1a0ba76ae8ecd0a3a54a7e5295d2cf5ea65d784dc2d7abb647520";
-
-/// The print of that body.
-const FIVE_PRINT: &str = "a3ddf7734d438195880eaa6858f8af89b25fe536b2bd6275272d0c3035406e86";
-
 /// The MD5 of the body of 1,048,577 bytes of which byte i is i mod 251.
 const LONG_MD5: [u8; 16] = [
     0x79, 0xb6, 0x7c, 0x7f, 0xbf, 0x43, 0xb7, 0x6e, 0x5b, 0x7f, 0x18, 0x23, 0x28, 0xbd, 0xc4, 0xb6,
 ];
 
 /// A body of so many bytes, of which byte i is i mod 251.
-fn body_of(alloc: Global, count: u32) -> Result<Vec<u8>, AllocError>
+pub fn body_of(alloc: Global, count: u32) -> Result<Vec<u8>, AllocError>
     ensures { IfOk result (λ body. length body.items ≡ count) }
 {
     let mut body = Vec::with_capacity(alloc, count as usize)?;
@@ -71,7 +65,7 @@ fn digest_of_files(alloc: Global, drives: &mut [ScriptedDrive]) -> Result<String
 }
 
 /// So many calls of `append`, `sync` and `rename`.
-fn calls((append, sync, rename): (u64, u64, u64)) -> Calls {
+pub fn calls((append, sync, rename): (u64, u64, u64)) -> Calls {
     Calls {
         size: 0,
         read: 0,
@@ -84,42 +78,17 @@ fn calls((append, sync, rename): (u64, u64, u64)) -> Calls {
     }
 }
 
-/// Four drives that tell, of which each follows a script.
-fn scripted(alloc: Global, scripts: [Script; 4]) -> Result<Vec<ScriptedDrive>, AllocError>
-    ensures { IfOk result (λ drives. length drives.items ≡ 4) }
-{
-    let mut drives = Vec::new(alloc);
-    for place in 0..4usize {
-        drives.push(ScriptedDrive::new(alloc, Voice::Tells, scripts[place]))?;
-    }
-    Ok(drives)
-}
-
-/// So many drives that tell, of which no call fails.
-fn passing(alloc: Global, count: u8) -> Result<Vec<ScriptedDrive>, AllocError>
-    ensures { IfOk result (λ drives. length drives.items ≡ count) }
-{
-    let mut drives = Vec::new(alloc);
-    for made in 0..count {
-        drives.push(ScriptedDrive::new(alloc, Voice::Tells, Script::Pass))?;
-    }
-    Ok(drives)
-}
-
-/// What a stage of a body of so many bytes answers, with others at work before the step of this number.
-fn staged(
+/// What a stage of a body of so many bytes answers, of which byte i is i mod 251.
+fn staged_of(
     alloc: Global,
     set: SetPlan,
     bytes: u32,
     md5: Option<[u8; 16]>,
     drives: &mut [ScriptedDrive],
-    place: u32,
 ) -> Result<Result<Staged, StageFault>, Fail>
     requires { length drives.old ≡ set.drives }
 {
-    let feed = TestFeed::new(body_of(alloc, bytes)?, bytes as usize, false);
-    let stage = Stage::new(alloc, set, id(), "k/pic/a", bytes as u64, md5)?;
-    run(alloc, stage, feed, drives, place)
+    staged(alloc, set, body_of(alloc, bytes)?, md5, drives, NOBODY)
 }
 
 /// What a stage of the bytes of `hello` that come, of 5, answers.
@@ -133,20 +102,18 @@ fn staged_hello(
 {
     let feed = TestFeed::new(Vec::from_slice(alloc, come)?, 5, breaks);
     let stage = Stage::new(alloc, plan(0), id(), "k/pic/a", 5, Some(HELLO_MD5))?;
-    run(alloc, stage, feed, drives, NEVER)
+    run(alloc, stage, feed, drives, NOBODY)
 }
 
-/// Whether a body of so many bytes goes to the drives of this mask as files of this SHA-256 with this print, with others at
-/// work before the step of this number.
+/// Whether a body of so many bytes goes to all drives as files of this SHA-256 with this print.
 fn goes_as(
     alloc: Global,
     set: SetPlan,
     bytes: u32,
     (took, files, print): (u16, &str, &str),
-    place: u32,
 ) -> Result<bool, Fail> {
     let mut drives = passing(alloc, set.drives)?;
-    let Ok(staged) = staged(alloc, set, bytes, None, &mut drives, place)? else {
+    let Ok(staged) = staged_of(alloc, set, bytes, None, &mut drives)? else {
         return Ok(false);
     };
     Ok(
@@ -163,24 +130,7 @@ fn files_and_prints_of_each_set(rt: HostRuntime) -> Result<(), Fail> {
         assert!(rt; count >= 4 && count <= 16 && parity >= 1 && parity <= count / 2);
         let set = SetPlan::new([7; 16], count, parity);
         let took = u16::MAX >> (16 - count);
-        assert!(rt; goes_as(rt.alloc(), set, bytes, (took, files, print), NEVER)?);
-    }
-    Ok(())
-}
-
-#[test]
-fn others_at_work_between_two_steps_leave_the_files(rt: HostRuntime) -> Result<(), Fail> {
-    // A fill, seven calls on each of four drives, and the answer.
-    for place in 0..30u32 {
-        assert!(rt;
-            goes_as(
-                rt.alloc(),
-                plan(0),
-                5,
-                (0b1111, FIVE_FILES, FIVE_PRINT),
-                place
-            )?
-        );
+        assert!(rt; goes_as(rt.alloc(), set, bytes, (took, files, print))?);
     }
     Ok(())
 }
@@ -190,7 +140,7 @@ fn each_step_is_one_call(rt: HostRuntime) -> Result<(), Fail> {
     for (bytes, each) in CALLS_OF {
         let mut drives = scripted(rt.alloc(), [Script::Pass; 4])?;
         // Drive 2 is out.
-        let answer = staged(rt.alloc(), plan(4), bytes, None, &mut drives, NEVER)?;
+        let answer = staged_of(rt.alloc(), plan(4), bytes, None, &mut drives)?;
         assert!(rt; answer.is_ok());
         for (place, drive) in drives.iter().enumerate() {
             let expected = if place == 2 { (0, 0, 0) } else { each };
@@ -206,7 +156,7 @@ fn a_window_is_one_call_of_a_drive(rt: HostRuntime) -> Result<(), Fail> {
         assert!(rt; count >= 4 && count <= 16);
         let set = SetPlan::new([7; 16], count, 2);
         let mut drives = passing(rt.alloc(), count)?;
-        let answer = staged(rt.alloc(), set, bytes, None, &mut drives, NEVER)?;
+        let answer = staged_of(rt.alloc(), set, bytes, None, &mut drives)?;
         assert!(rt; answer.is_ok());
         for drive in drives.iter() {
             assert_eq!(rt; drive.calls(), calls((appends, 2, 2)));
@@ -264,7 +214,7 @@ fn two_drives_that_failed_are_too_many(rt: HostRuntime) -> Result<(), Fail> {
 fn another_md5_puts_nothing_in_place(rt: HostRuntime) -> Result<(), Fail> {
     let mut drives = scripted(rt.alloc(), [Script::Pass; 4])?;
     let md5 = Some(EMPTY_MD5);
-    let answer = staged(rt.alloc(), plan(0), 1048577, md5, &mut drives, NEVER)?;
+    let answer = staged_of(rt.alloc(), plan(0), 1048577, md5, &mut drives)?;
     let fault = StageFault::BadDigest {
         stated: EMPTY_MD5,
         computed: LONG_MD5,
@@ -283,28 +233,6 @@ fn a_body_that_does_not_come_whole_is_refused(rt: HostRuntime) -> Result<(), Fai
         let mut drives = scripted(rt.alloc(), [Script::Pass; 4])?;
         let answer = staged_hello(rt.alloc(), b"hel", breaks, &mut drives)?;
         assert_eq!(rt; answer, Err(fault));
-    }
-    Ok(())
-}
-
-#[test]
-fn a_manifest_alone_takes_three_calls(rt: HostRuntime) -> Result<(), Fail> {
-    for (out, gone, took) in SERVED {
-        let mut scripts = [Script::Pass; 4];
-        if let Some(place) = gone {
-            scripts[place] = Script::Names { front: "" };
-        }
-        let mut drives = scripted(rt.alloc(), scripts)?;
-        let manifest = golden_manifest(rt.alloc())?;
-        let stage = Stage::of_manifest(rt.alloc(), plan(out), id(), manifest, [9; 16])?;
-        let feed = TestFeed::new(Vec::new(rt.alloc()), 0, false);
-        let answer = run(rt.alloc(), stage, feed, &mut drives, NEVER)?;
-        assert_eq!(rt; answer, Ok(parts_on(took)));
-        for (drive, holds) in drives.iter().zip(in_mask(took)) {
-            if holds {
-                assert_eq!(rt; drive.calls(), calls((1, 1, 1)));
-            }
-        }
     }
     Ok(())
 }

@@ -1,40 +1,25 @@
 //! Whole bodies on four drives with 2 of parity.
 
-ghost use Rattle.std.specs.Prelude.{◌≡◌, ◌≤◌, length};
-
+use super::feeds::staged;
 use super::golden::*;
-use super::{SERVED, fresh_drives, id, in_mask, lose, plan, shows};
-use crate::{StageFault, Staged, stage_whole};
+use super::others::NOBODY;
+use super::{SERVED, four_but, in_mask, plan, shows};
+use crate::Staged;
 use drive_base::DriveSet;
-use drive_memory::MemDrive;
+use drive_memory::ScriptedDrive;
 use std::alloc::Global;
 use std::test::Fail;
 
 /// The shard files of `hello`, in the order of the drives.
 const HELLO_SHARDS: [[u8; 35]; 4] = [HELLO_SHARD_0, HELLO_SHARD_1, HELLO_SHARD_2, HELLO_SHARD_3];
 
-/// What a stage of this body answers.
-fn staged(
-    alloc: Global,
-    out: u16,
-    body: &[u8],
-    md5: Option<[u8; 16]>,
-    drives: &mut [MemDrive],
-) -> Result<Staged, StageFault>
-    requires drives { length drives.old ≡ 4 }
-    requires few { length body.now ≤ 5368709120 }
-    ensures { length drives.new ≡ 4 }
-{
-    stage_whole(alloc, plan(out), id(), "k/pic/a", body, md5, drives)
-}
-
 /// Which drives show the shard file and the manifest of `hello`.
-fn that_show_hello(alloc: Global, drives: &mut [MemDrive]) -> Result<[bool; 4], Fail> {
+fn that_show_hello(alloc: Global, drives: &mut [ScriptedDrive]) -> Result<[bool; 4], Fail> {
     let mut shown = [false; 4];
     for (place, drive) in drives.iter_mut().enumerate() {
         if place < 4 {
-            shown[place] = shows(alloc, drive, SHARD, &HELLO_SHARDS[place])?
-                && shows(alloc, drive, MANIFEST, &HELLO_MANIFEST)?;
+            shown[place] = shows(alloc, drive.behind(), SHARD, &HELLO_SHARDS[place])?
+                && shows(alloc, drive.behind(), MANIFEST, &HELLO_MANIFEST)?;
         }
     }
     Ok(shown)
@@ -53,11 +38,10 @@ pub fn hello_on(took: u16) -> Staged {
 #[test]
 fn hello_goes_to_the_drives_that_answer(rt: HostRuntime) -> Result<(), Fail> {
     for (out, gone, took) in SERVED {
-        let mut drives = fresh_drives(rt.alloc(), 4)?;
-        if let Some(place) = gone {
-            lose(&mut drives, place);
-        }
-        let answer = staged(rt.alloc(), out, b"hello", Some(HELLO_MD5), &mut drives);
+        let mut drives = four_but(rt.alloc(), gone)?;
+        let hello = Vec::from_slice(rt.alloc(), b"hello")?;
+        let md5 = Some(HELLO_MD5);
+        let answer = staged(rt.alloc(), plan(out), hello, md5, &mut drives, NOBODY)?;
         assert_eq!(rt; answer, Ok(hello_on(took)));
         assert_eq!(rt; that_show_hello(rt.alloc(), &mut drives)?, in_mask(took));
     }
@@ -66,12 +50,13 @@ fn hello_goes_to_the_drives_that_answer(rt: HostRuntime) -> Result<(), Fail> {
 
 #[test]
 fn the_worked_rows_are_the_blocks_of_the_files(rt: HostRuntime) -> Result<(), Fail> {
-    for (body, print, files) in ROWS {
-        let mut drives = fresh_drives(rt.alloc(), 4)?;
-        let answer = staged(rt.alloc(), 0, &body, None, &mut drives);
+    for (row, print, files) in ROWS {
+        let mut drives = four_but(rt.alloc(), None)?;
+        let body = Vec::from_slice(rt.alloc(), &row)?;
+        let answer = staged(rt.alloc(), plan(0), body, None, &mut drives, NOBODY)?;
         assert_eq!(rt; answer.ok().map(|staged| staged.print), Some(print));
         for (drive, file) in drives.iter_mut().zip(files) {
-            assert!(rt; shows(rt.alloc(), drive, SHARD, &file)?);
+            assert!(rt; shows(rt.alloc(), drive.behind(), SHARD, &file)?);
         }
     }
     Ok(())

@@ -1,56 +1,29 @@
-use Rattle.std.proofs.Common.{rules, ◌≡◌, ◌+◌, ◌<◌, ◌∙◌, ℕ, List, [], ◌++◌, length, slice_index, slice_index_or, take, drop, ◌≤◌, ap, sym, subst, arith}
+use Rattle.std.proofs.Common.{rules, ◌≡◌, ◌+◌, ◌*◌, ◌∙◌, ℕ, List, [], ◌++◌, length, slice_index_or, take, ap, refl, sym, arith}
 use Rattle.std.specs.List.{concat}
 use Rattle.std.proofs.Math.Seq.{take-append-add}
-use Rattle.std.proofs.lemmas.List.{append_assoc, append-nil, take-append-le, take-take, take_all}
-use Rattle.std.proofs.Math.ListN.{drop_of_length-le}
+use Rattle.std.proofs.lemmas.List.{append_assoc, take-take}
 use Rattle.drive_base.specs.Plan.{data_drives}
-use Rattle.poly_code.specs.Codeword.{IsOfCodeword}
-use Rattle.poly_code.specs.Columns.{column}
 use Rattle.shard_file.proofs.ShardLemmas.{concat-take_more}
 use Rattle.shard_file.proofs.StripeLemmas.{data_blocks_are_the_stripe}
-use Rattle.shard_file.specs.Stripes.{block_size}
-use Rattle.body_print.proofs.RebuildLemmas.{rebuilt_block}
 use Rattle.get_read.proofs.stripes.add_stripe.Goals as goal
 
 pub loop-which-preserved : goal.loop-which-preserved
 loop-which-preserved c =
-    let d = data_drives c.args.set.now.drives c.args.set.now.parity in
-    let size = c.args.size in
-    let rows = c.args.blocks.now.rows.items in
-    let bytes = c.args.blocks.now.bytes.items in
     let inv = c.loop-which.invariant in
-    let n = c.args.set.now.drives in
+    let old = c.args.body.now.items in
     let which = c.loop-which.which in
-    let new = c.rebuild.new.out in
-    let slot : length c.as_mut_slice.result.now ≡ size = search rules in
-    let made : length new ≡ size = search rules in
-    let rows_are : c.as_slice.result.now ≡ rows = search rules in
-    let bytes_are : c.as_slice-in-loop-which.result.now ≡ bytes = search rules in
-    let len = c.loop-which.out.len in
-    let past : drop (length new) c.loop-which.out.items ≡ [] = drop_of_length-le c.loop-which.out.items (omega (arith, made, inv.out)) in
-    let full : length new ≤ len = omega (arith, made, inv.out, c.loop-which.out.ok) in
-    let slice : c.as_slice-in-loop-which-2.result.now ≡ new =
-    c.as_slice-in-loop-which-2.ensures.value ∙ ap (λ (rest : List ℕ). take len (new ++ rest)) past
-    ∙ ap (λ (all : List ℕ). take len all) (append-nil new) ∙ take_all len new full in
-    let code : (k : ℕ) → k < size → IsOfCodeword n d rows (column d size k bytes) which (slice_index new k) =
-    subst (λ (b : List ℕ). (k : ℕ) → k < size → IsOfCodeword n d rows (column d size k b) which (slice_index new k)) bytes_are
-    (subst (λ (r : List ℕ). (k : ℕ) → k < size → IsOfCodeword n d r (column d size k c.as_slice-in-loop-which.result.now) which (slice_index new k)) rows_are
-    (subst (λ (w : ℕ). (k : ℕ) → k < w → IsOfCodeword n d c.as_slice.result.now (column d w k c.as_slice-in-loop-which.result.now) which (slice_index new k)) slot
-    c.rebuild.ensures)) in
-    let gained = c.in_ok-extend_from_slice.ensures.items in
+    let begun = c.loop-which.body.items in
+    let new = c.add_data_block.new.body.items in
+    let added = c.in_ok-add_data_block.ensures in
+    let next : (which + 1) * c.args.size ≡ which * c.args.size + c.args.size = omega arith in
     record {
-      out = search rules;
-      long = search rules;
-      kept = ap (take (length c.args.body.now.items)) gained
-          ∙ take-append-le (length c.args.body.now.items) c.loop-which.body.items c.as_slice-in-loop-which-2.result.now (omega (arith, inv.long)) ∙ inv.kept;
+      long = omega (arith, added.long refl, inv.long, next);
+      kept = sym (take-take (length old) (length begun) new (omega (arith, inv.long))) ∙ ap (take (length old)) (added.kept refl) ∙ inv.kept;
       front = λ stripe shards is are same.
-          let block : new ≡ slice_index_or shards which [] =
-          rebuilt_block n d size which rows bytes new stripe shards (omega arith) c.requires.rows c.requires.below c.requires.distinct (omega arith)
-          (c.requires.size ∙ ap (block_size d) (sym is)) made are (λ j below. same j (omega (arith, below, c.requires.rows))) code in
-          gained ∙ ap (λ (rest : List ℕ). c.loop-which.body.items ++ rest) (slice ∙ block)
+          added.block refl stripe shards is are same
           ∙ ap (λ (begin : List ℕ). begin ++ slice_index_or shards which []) (inv.front stripe shards is are same)
-          ∙ append_assoc c.args.body.now.items (concat (take which shards)) (slice_index_or shards which [])
-          ∙ ap (λ (rest : List ℕ). c.args.body.now.items ++ rest) (sym (concat-take_more shards which (omega (arith, are.count))));
+          ∙ append_assoc old (concat (take which shards)) (slice_index_or shards which [])
+          ∙ ap (λ (rest : List ℕ). old ++ rest) (sym (concat-take_more shards which (omega (arith, are.count))));
     }
 
 pub returns-clause-stripe : goal.returns-clause-stripe

@@ -8,7 +8,6 @@ use Rattle.get_read.proofs.stripes.add_stripe.Given as goal
 -- the body has gained the blocks so far, and they are the data blocks of a stripe that has the blocks at hand
 abbrev pub invariant-loop-which : goal.invariant-loop-which
 invariant-loop-which l = record {
-  out : length l.out.items ≡ l.size;
   long : length l.body.items ≡ length l.initial.body.items + l.which * l.size;
   kept : take (length l.initial.body.items) l.body.items ≡ l.initial.body.items;
   front : (stripe : List ℕ) (shards : List (List ℕ)) → length stripe ≡ l.long

@@ -1,4 +1,4 @@
-use Rattle.std.proofs.Common.{◌≡◌, ◌∙◌, ◌++◌, ℕ, List, length, ap, refl, subst, sym, arith}
+use Rattle.std.proofs.Common.{◌≡◌, ◌∙◌, length, ap, subst, sym, arith}
 use Rattle.get_read.specs.Sifting.{AreSifted}
 use Rattle.get_read.specs.declared.blocks.Blocks.{Blocks}
 use Rattle.get_read.proofs.AtHandLemmas.{sifted_below, sifted_untried}
@@ -14,10 +14,7 @@ returns-then-are_enough-clause-judges c =
       found,
       sifted,
       ap (λ (b : Blocks). length b.rows.items) same ∙ c.are_enough.ensures.enough c.if-are_enough.true ∙ c.read_quorum-wanted.ensures.quorum,
-      (
-        omega (arith, c.in_ok-add_stripe.ensures.long refl, ap (length {A = ℕ}) c.new-bytes.ensures.items),
-        λ stripe shards long are each. c.in_ok-add_stripe.ensures.stripe refl stripe shards long are each ∙ ap (λ (b : List ℕ). b ++ stripe) c.new-bytes.ensures.items,
-      ),
+      (c.in_ok-bytes.ensures.long, c.in_ok-bytes.ensures.stripe),
       ap (λ (b : Blocks). b.rows.items) c.replace-found.ensures.after ∙ c.no_blocks.ensures.rows,
     )
 

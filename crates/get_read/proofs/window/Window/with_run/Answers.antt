@@ -1,6 +1,5 @@
-use Rattle.std.proofs.Common.{rules, ◌≡◌, ◌+◌, ◌-◌, ◌*◌, ◌++◌, ◌∷◌, ◌∙◌, [], ℕ, List, length, take, drop, ap, refl, arith}
+use Rattle.std.proofs.Common.{◌≡◌, ◌+◌, ◌-◌, ◌*◌, ◌++◌, ◌∷◌, ◌∙◌, [], ℕ, length, take, drop, ap, refl, arith}
 use Rattle.std.proofs.lemmas.List.{length-drop, length-take-le}
-use Rattle.get_read.specs.Windows.{digests_in}
 use Rattle.get_read.proofs.WindowLemmas.{distinct_more, more_long, rows_more}
 use Rattle.get_read.proofs.window.Window.with_run.Goals as goal
 
