@@ -2,8 +2,10 @@
 
 use drive_base::SetPlan;
 
+mod audits;
 mod callers;
 mod files;
+mod lives;
 mod looks;
 mod opening;
 mod orders;
@@ -11,6 +13,8 @@ mod plans;
 mod puts;
 mod reads;
 mod rows;
+mod sections;
+mod slots;
 mod store;
 mod wires;
 
