@@ -1,5 +1,5 @@
 -- A call that is not served yet is told so.
-use Rattle.std.proofs.Common.{◌<◌, ℕ, List, [], ◌∷◌, Option, ap, inl, refl, arith}
+use Rattle.std.proofs.Common.{◌<◌, ℕ, [], ◌∷◌, Option, ap, refl, arith}
 use Rattle.std.specs.Prelude.{Result, Ok, Err}
 use Rattle.call_types.specs.declared.feed.Cut.{Cut}
 use Rattle.call_types.specs.declared.refusal.Refusal.TheVariants.{NotImplemented}
@@ -9,20 +9,19 @@ use Rattle.desk_base.specs.Telling.{Effect, Telling}
 use Rattle.desk_base.specs.Telling.Telling.{Head as TheHead}
 use Rattle.desk_base.specs.declared.call.Call.{Call}
 use Rattle.desk_base.specs.declared.call.Call.TheVariants.{ListBuckets, CreateBucket, HeadBucket, GetVersioning, PutVersioning, Put, Get, Head, Delete, List2, ListVersions, Create, Part, Complete, Abort}
-use Rattle.drive_base.specs.View.{DriveView}
-use Rattle.drive_base.specs.declared.drive.Drive.{Ghosts}
 use Rattle.drive_base.specs.declared.plan.SetPlan.{SetPlan}
 use Rattle.receipts.specs.Events.Event.{Told}
 use Rattle.receipts.specs.Owes.{OwesCall}
-use Rattle.op_steps.specs.Claims.{no_claim}
 use Rattle.op_steps.specs.Notes.{notes_by}
 use Rattle.op_steps.specs.Ready.{IsReady}
-use Rattle.op_steps.specs.Store.{FeedSeen, SlotSeen, TellerSeen, store_of}
+use Rattle.op_steps.specs.Store.{FeedSeen, TellerSeen}
 use Rattle.op_steps.proofs.TellLemmas.{told_pays}
 use Rattle.store_shared.specs.Answers.{NotesAre, cut_by}
 use Rattle.store_shared.specs.Later.{HasNoStub, IsLater, TellsLater}
+use Rattle.store_shared.specs.Serving.{IsToldAlone}
 use Rattle.store_shared.specs.declared.receipt.Receipt.{Receipt}
-use Rattle.store_shared.proofs.ServeLemmas.{IsDone}
+use Rattle.store_shared.proofs.UnitLemmas.{tell_any}
+use Rattle.store_shared.proofs.WireLemmas.{WiresRan, wires}
 
 -- that is what is owed before anything was done
 later_owed : (set : SetPlan) (call : Call) (now : ℕ) → IsLater call → OwesCall set call now (Refused NotImplemented) []
@@ -54,17 +53,20 @@ no_notes : (result : Result Receipt Cut) (telling : Telling) (cut : Option Cut) 
 no_notes (Ok receipt) telling cut none = ap notes_by none
 no_notes (Err why) telling cut none = ([], refl)
 
--- a call that is told so is done, and nothing of the store was touched
-pub later_done : {D T : Type 0} (ghosts : Ghosts D) (takes breaks : Effect T) (set : SetPlan) (task : Task) (result : Result Receipt Cut)
-    (slots : List (SlotSeen D)) (disks : List DriveView) (feed : FeedSeen) (old new : TellerSeen T) → IsLater task.call → TellsLater takes breaks result old new
-    → IsDone ghosts takes breaks set task result (λ claim. store_of slots disks claim feed old) (λ claim. store_of slots disks claim feed new)
-later_done ghosts takes breaks set task result slots disks feed old new later (moves, none) = record {
-  slot = 0;
-  in_store = omega arith;
-  left = no_claim 0;
-  log = Told (TheHead (Refused NotImplemented)) (cut_by result) ∷ [];
-  lets_go = inl refl;
+-- a call that is told so is served by that telling alone
+pub later_told : {T : Type 0} (takes breaks : Effect T) (set : SetPlan) (task : Task) (result : Result Receipt Cut) (feed : FeedSeen) (old new : TellerSeen T)
+    → IsLater task.call → TellsLater takes breaks result old new
+    → IsToldAlone set task result (Told (TheHead (Refused NotImplemented)) (cut_by result) ∷ [])
+later_told takes breaks set task result feed old new later (moves, none) = record {
+  feed = feed;
+  faults = old.faults;
+  faults_after = new.faults;
+  told = (new.faults, tell_any takes breaks (TheHead (Refused NotImplemented)) (cut_by result) old new moves, refl);
   pays = told_pays takes breaks set task (Refused NotImplemented) [] (cut_by result) old new refl (λ more. refl) (is_ready set task later) moves;
-  ran = (store_of slots disks (no_claim 0) feed new, record { moves = moves; leaves = refl }, refl);
   notes = no_notes result (TheHead (Refused NotImplemented)) (cut_by result) none;
 }
+
+-- and so its feed and its teller go on
+pub later_wired : {T : Type 0} (takes breaks : Effect T) (result : Result Receipt Cut) (feed : FeedSeen) (old new : TellerSeen T) → TellsLater takes breaks result old new
+    → WiresRan takes breaks (Told (TheHead (Refused NotImplemented)) (cut_by result) ∷ []) (wires feed old) (wires feed new)
+later_wired takes breaks result feed old new (moves, none) = (new, moves, refl)

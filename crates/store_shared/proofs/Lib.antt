@@ -1,3 +1,8 @@
+pub mod AmongLemmas
+pub mod AmongRunLemmas
+pub mod ApartLemmas
+pub mod ClosingLemmas
+pub mod FitsLemmas
 pub mod HolderClosingLemmas
 pub mod HolderDataLemmas
 pub mod HolderFileLemmas
@@ -9,10 +14,17 @@ pub mod HolderOutLemmas
 pub mod HolderTriedLemmas
 pub mod LaterLemmas
 pub mod LawLemmas
+pub mod MakingLemmas
 pub mod OpeningLemmas
 pub mod OrderLemmas
+pub mod PartingLemmas
+pub mod PlaceLemmas
+pub mod PlainLemmas
+pub mod RiseLemmas
 pub mod ServeLemmas
+pub mod SharedLemmas
 pub mod TermLemmas
+pub mod TurnedLemmas
 pub mod UnitLemmas
 pub mod WireLemmas
 pub mod WireTellLemmas

@@ -1,32 +1,24 @@
 -- A call that was served by its op does what is asked of a desk.
-use Rattle.std.proofs.Common.{◌≡◌, ◌<◌, ◌⊎◌, ◌∙◌, ℕ, List, [], ◌∷◌, Option, Some, None, ap, inl, inr, refl, subst, sym, arith}
+use Rattle.std.proofs.Common.{◌≡◌, ◌<◌, ◌⊎◌, ◌∙◌, ℕ, List, [], ◌∷◌, Some, None, ap, inl, inr, refl, subst, sym, arith}
 use Rattle.std.specs.Prelude.{IfOk, Result, Ok, Err}
-use Rattle.audit_trail.specs.declared.entry.Entry.{Entry}
 use Rattle.call_types.specs.declared.feed.Cut.{Cut}
 use Rattle.call_types.specs.declared.feed.Cut.TheVariants.{BodyCut, NoMemory, ReadFault, ShardCut, WriteFault}
 use Rattle.desk_base.specs.Answering.{CallTells, CutCause, Serves, Task, WasTold}
 use Rattle.desk_base.specs.Calls.{IsFeedOf}
-use Rattle.desk_base.specs.Telling.{Effect, TellsAll}
-use Rattle.drive_base.specs.declared.drive.Drive.{Ghosts}
+use Rattle.desk_base.specs.Telling.{Effect, Telling, TellsAll}
 use Rattle.drive_base.specs.declared.plan.SetPlan.{SetPlan}
 use Rattle.receipts.specs.Events.{Log, body_of, cuts_of, notes_of, tried_of}
 use Rattle.receipts.specs.Paying.{Pays}
 use Rattle.receipts.proofs.TriedLemmas.{NoneBroke, pay_is_told, pays_broken, pays_cut, pays_uncut, tried_is_told, unbroken}
 use Rattle.op_steps.specs.Claims.{Claim, no_claim}
-use Rattle.op_steps.specs.Going.{CallDone}
 use Rattle.op_steps.specs.Notes.{notes_by}
-use Rattle.op_steps.specs.Steps.{Ran}
-use Rattle.op_steps.specs.Store.{FeedSeen, Store, TellerSeen}
-use Rattle.op_steps.specs.Words.{LetsGo}
+use Rattle.op_steps.specs.Store.{FeedSeen, TellerSeen}
 use Rattle.op_steps.specs.declared.run.Served.{Served}
 use Rattle.op_steps.proofs.TellLemmas.{none_pays}
-use Rattle.store_shared.specs.Answers.{NotesAre, PlainAnswers, cut_by}
-use Rattle.store_shared.specs.Passes.{set_of, store_at}
-use Rattle.store_shared.specs.Serving.{IsReceiptOf}
-use Rattle.store_shared.specs.declared.pass.PlainPass.{PlainPass}
+use Rattle.store_shared.specs.Answers.{NotesAre, cut_by}
+use Rattle.store_shared.specs.Serving.{IsDone, IsReceiptOf, IsToldAlone, WasServed}
 use Rattle.store_shared.specs.declared.receipt.Receipt.{Receipt}
-use Rattle.store_shared.proofs.UnitLemmas.{ran_any}
-use Rattle.store_shared.proofs.WireLemmas.{NoneFailed, OneFailed, OneEnded, Wires, WiresRan, ended_so, ends_there, gave_all, reads_rise, reads_stay, wires, wires_of, wires_ran}
+use Rattle.store_shared.proofs.WireLemmas.{NoneFailed, OneFailed, OneEnded, Wires, WiresRan, ended_so, ends_there, gave_all, reads_rise, reads_stay, wires}
 use Rattle.store_shared.proofs.WireTellLemmas.{broke_so, told_all, writes_stay}
 
 -- an op that has one task has any that is equal to it
@@ -118,24 +110,10 @@ module _ {T : Type 0} (takes breaks : Effect T) (set : SetPlan) (task : Task) wh
   cut_cause (Err NoMemory) log old new ran pays fed =
       let cut = pays_cut set task NoMemory log pays in lacks_memory log old new ran cut.owes.1
 
--- a call was served: a log of its steps leads from the store before to the store after and pays what it owes
-pub record IsDone {D T : Type 0} (ghosts : Ghosts D) (takes breaks : Effect T) (set : SetPlan) (task : Task) (result : Result Receipt Cut)
-    (old new : Claim → Store D T) : Type 0 where
-  pub slot : ℕ
-  pub in_store : slot < 64
-  pub left : Claim
-  pub log : Log
-  pub lets_go : LetsGo left log
-  pub pays : Pays set task (cut_by result) log
-  pub ran : Ran ghosts takes breaks set log (old (no_claim slot)) (new left)
-  pub notes : NotesAre result log
-
-module _ {D T : Type 0} (ghosts : Ghosts D) (takes breaks : Effect T) (set : SetPlan) (task : Task) where
-  -- it was by its op
-  pub is_done : (served : Served) (result : Result Receipt Cut) (slot : ℕ) (old new : Claim → Store D T) → slot < 64
-      → CallDone ghosts takes breaks set task served.cut slot old new served.stubs.items → IsReceiptOf served result
-      → IsDone ghosts takes breaks set task result old new
-  is_done served result slot old new below x is = record {
+module _ (set : SetPlan) (task : Task) (result : Result Receipt Cut) (Leads : Log → Claim → Claim → Type 0) where
+  -- by its op
+  pub op_done : (served : Served) (slot : ℕ) → slot < 64 → WasServed set task served slot Leads → IsReceiptOf served result → IsDone set task result Leads
+  op_done served slot below x is = record {
     slot = slot;
     in_store = below;
     left = x.left;
@@ -146,68 +124,49 @@ module _ {D T : Type 0} (ghosts : Ghosts D) (takes breaks : Effect T) (set : Set
     notes = notes_are served result x.log is x.notes;
   }
 
-  pub op_done : (served : Served) (result : Result Receipt Cut) (plan : SetPlan) (slot : ℕ) (old new : Claim → Store D T) → plan ≡ set → slot < 64
-      → CallDone ghosts takes breaks plan task served.cut slot old new served.stubs.items → IsReceiptOf served result
-      → IsDone ghosts takes breaks set task result old new
-  op_done served result plan slot old new same below x is = is_done served result slot old new below
-      (subst (λ p. CallDone ghosts takes breaks p task served.cut slot old new served.stubs.items) same x) is
-
-  -- or there was no memory for its op, and nothing was done
-  pub none_done : (store : Claim → Store D T) → IsDone ghosts takes breaks set task (Err NoMemory) store store
-  none_done store = record {
+  -- or by tellings alone
+  abbrev pub told_done : (log : Log) → IsToldAlone set task result log → Leads log (no_claim 0) (no_claim 0) → IsDone set task result Leads
+  told_done log x ran = record {
     slot = 0;
     in_store = omega arith;
     left = no_claim 0;
-    log = [];
+    log = log;
     lets_go = inl refl;
-    pays = none_pays set task [] refl refl (inl (λ k d l. let below : k < 0 = l in absurd (omega arith)));
-    ran = refl;
-    notes = ([], refl);
+    pays = x.pays;
+    ran = ran;
+    notes = x.notes;
   }
 
-module _ {D A T : Type 0} (ghosts : Ghosts D) (entries : A → Option (List Entry)) (count : A → ℕ) (takes breaks : Effect T) (task : Task) where
-  -- then it does what is asked of a desk
-  pub done_serves : (result : Result Receipt Cut) (before after : PlainPass D A) (feed feed_after : FeedSeen) (teller teller_after : TellerSeen T)
-      → IsDone ghosts takes breaks (set_of before) task result (store_at ghosts entries count before feed teller) (store_at ghosts entries count after feed_after teller_after)
-      → Serves takes breaks (λ body tale. PlainAnswers ghosts entries count task before after body tale result) task.call result feed.view feed_after.view
-      teller.value teller_after.value
-  done_serves result before after feed feed_after teller teller_after x =
-      let old = store_at ghosts entries count before feed teller (no_claim x.slot) in
-      let new = store_at ghosts entries count after feed_after teller_after x.left in
-      let ran = wires_ran takes breaks ghosts (set_of before) x.log old new x.ran in
+-- there was no memory for its op, and nothing was told
+pub none_told : (set : SetPlan) (task : Task) (feed : FeedSeen) (faults : ℕ) → IsToldAlone set task (Err NoMemory) []
+none_told set task feed faults = record {
+  feed = feed;
+  faults = faults;
+  faults_after = faults;
+  told = refl;
+  pays = none_pays set task [] refl refl (inl (λ k d l. let below : k < 0 = l in absurd (omega arith)));
+  notes = ([], refl);
+}
+
+module _ {T : Type 0} (takes breaks : Effect T) (set : SetPlan) (task : Task) (result : Result Receipt Cut) (Leads : Log → Claim → Claim → Type 0)
+    (feed feed_after : FeedSeen) (teller teller_after : TellerSeen T)
+    (wired : (log : Log) (claim later : Claim) → Leads log claim later → WiresRan takes breaks log (wires feed teller) (wires feed_after teller_after)) where
+  -- then it does what is asked of a desk, whose answers are such
+  pub done_serves : (Answers : List ℕ → List Telling → Type 0) (x : IsDone set task result Leads) → Answers (body_of x.log) (tried_of x.log)
+      → Serves takes breaks Answers task.call result feed.view feed_after.view teller.value teller_after.value
+  done_serves Answers x answers =
+      let ran = wired x.log (no_claim x.slot) x.left x.ran in
       record {
         body = body_of x.log;
         took = gave_all takes breaks x.log (wires feed teller) (wires feed_after teller_after) ran;
         tale = tried_of x.log;
-        told = was_told takes breaks (set_of before) task result x.log (wires feed teller) (wires feed_after teller_after) ran x.pays;
-        whole = call_tells takes breaks (set_of before) task result x.log x.pays;
-        answers = record {
-          slot = x.slot;
-          in_store = x.in_store;
-          left = x.left;
-          log = x.log;
-          feed = feed;
-          feed_after = feed_after;
-          faults = teller.faults;
-          faults_after = teller_after.faults;
-          ran = ran_any takes breaks ghosts (set_of before) x.log old new x.ran;
-          lets_go = x.lets_go;
-          body_is = refl;
-          tale_is = refl;
-          pays = x.pays;
-          notes = x.notes;
-        };
+        told = was_told takes breaks set task result x.log (wires feed teller) (wires feed_after teller_after) ran x.pays;
+        whole = call_tells takes breaks set task result x.log x.pays;
+        answers = answers;
       }
 
-module _ {D T : Type 0} (ghosts : Ghosts D) (takes breaks : Effect T) (set : SetPlan) (task : Task) where
   -- and has its cause, if it was cut
-  pub done_cause : (result : Result Receipt Cut) (old new : Claim → Store D T) (feed feed_after : FeedSeen) (teller teller_after : TellerSeen T)
-      → IsFeedOf feed.view task.call
-      → ((claim : Claim) → wires_of (old claim) ≡ wires feed teller) → ((claim : Claim) → wires_of (new claim) ≡ wires feed_after teller_after)
-      → IsDone ghosts takes breaks set task result old new
+  pub done_cause : IsFeedOf feed.view task.call → IsDone set task result Leads
       → CutCause result feed_after.view feed.faults feed_after.faults teller.faults teller_after.faults
-  done_cause result old new feed feed_after teller teller_after fed was now x =
-      let ran = wires_ran takes breaks ghosts set x.log (old (no_claim x.slot)) (new x.left) x.ran in
-      cut_cause takes breaks set task result x.log (wires feed teller) (wires feed_after teller_after)
-      (subst (λ w. WiresRan takes breaks x.log w (wires feed_after teller_after)) (was (no_claim x.slot))
-      (subst (λ w. WiresRan takes breaks x.log (wires_of (old (no_claim x.slot))) w) (now x.left) ran)) x.pays fed
+  done_cause fed x = cut_cause takes breaks set task result x.log (wires feed teller) (wires feed_after teller_after)
+      (wired x.log (no_claim x.slot) x.left x.ran) x.pays fed

@@ -1,5 +1,5 @@
 -- A log of steps with some teller is one with a teller of which only the count of faults is seen.
-use Rattle.std.proofs.Common.{Bool, [], ◌∷◌, Option, Some, None, ap, refl}
+use Rattle.std.proofs.Common.{[], ◌∷◌, Option, Some, None, ap, refl}
 use Rattle.call_types.specs.declared.feed.Cut.{Cut}
 use Rattle.call_types.specs.declared.feed.Cut.TheVariants as cut_of
 use Rattle.desk_base.specs.Telling.{Effect, Telling}
@@ -17,7 +17,7 @@ abbrev pub unseen : {D T : Type 0} → Store D T → Store D (Unit {0})
 unseen store = store_of store.slots store.disks store.claim store.feed (any_teller store.teller.faults)
 
 module _ {T : Type 0} (takes breaks : Effect T) where
-  tell_any : (telling : Telling) (cut : Option Cut) (old new : TellerSeen T) → TellMoves takes breaks telling cut old new
+  pub tell_any : (telling : Telling) (cut : Option Cut) (old new : TellerSeen T) → TellMoves takes breaks telling cut old new
       → TellMoves any_effect any_effect telling cut (any_teller old.faults) (any_teller new.faults)
   tell_any telling None old new moves = (tt, moves.1)
   tell_any telling (Some cut_of.ReadFault) old new moves = absurd moves
@@ -27,7 +27,7 @@ module _ {T : Type 0} (takes breaks : Effect T) where
   tell_any telling (Some cut_of.NoMemory) old new moves = (refl, moves.1)
 
   module _ {D : Type 0} (ghosts : Ghosts D) (set : SetPlan) where
-    step_any : (event : Event) (old new : Store D T) → StepMoves ghosts takes breaks set event old new
+    pub step_any : (event : Event) (old new : Store D T) → StepMoves ghosts takes breaks set event old new
         → StepMoves ghosts any_effect any_effect set event (unseen old) (unseen new)
     step_any (Turned k made shown) old new step =
         record { was = step.was; now = step.now; is = step.is; disks = step.disks; moves = step.moves; leaves = ap unseen step.leaves }

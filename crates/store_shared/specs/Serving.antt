@@ -1,16 +1,24 @@
 -- How a call is served by its op.
-use Rattle.std.specs.Prelude.{◌≡◌, ℕ, List, Option, Some, None, Result, Ok, Err}
+use Rattle.std.specs.Prelude.{◌≡◌, ◌<◌, ℕ, List, [], ◌∷◌, Option, Some, None, Result, Ok, Err}
 use Rattle.audit_trail.specs.declared.entry.Entry.{Entry}
 use Rattle.call_types.specs.declared.feed.Cut.{Cut}
 use Rattle.desk_base.specs.Answering.{Task}
-use Rattle.desk_base.specs.Telling.{Effect}
+use Rattle.desk_base.specs.Telling.{Effect, Telling}
 use Rattle.drive_base.specs.View.{views}
 use Rattle.drive_base.specs.declared.drive.Drive.{Ghosts}
 use Rattle.drive_base.specs.declared.plan.SetPlan.{SetPlan}
+use Rattle.receipts.specs.Events.{Log, body_of, notes_of, tried_of}
+use Rattle.receipts.specs.Events.Event.{Told}
+use Rattle.receipts.specs.Paying.{Pays}
 use Rattle.slot_core.specs.declared.slot.Slot.{Slot}
+use Rattle.op_steps.specs.Claims.{Claim, no_claim}
 use Rattle.op_steps.specs.Going.{CallDone}
-use Rattle.op_steps.specs.Store.{FeedSeen, TellerSeen, slots_seen, store_of}
+use Rattle.op_steps.specs.Moves.{TellMoves}
+use Rattle.op_steps.specs.Notes.{notes_by}
+use Rattle.op_steps.specs.Store.{FeedSeen, TellerSeen, any_effect, slots_seen, store_of}
+use Rattle.op_steps.specs.Words.{LetsGo}
 use Rattle.op_steps.specs.declared.run.Served.{Served}
+use Rattle.store_shared.specs.Answers.{NotesAre, any_teller, cut_by}
 use Rattle.store_shared.specs.declared.receipt.Receipt.{Receipt}
 
 -- a receipt has the stubs of a call that was served whole
@@ -25,3 +33,44 @@ module _ {D A T : Type 0} (ghosts : Ghosts D) (entries : A → Option (List Entr
       CallDone ghosts takes breaks set task served.cut slot
       (λ claim. store_of (slots_seen entries count slots) (views ghosts disks) claim feed teller)
       (λ claim. store_of (slots_seen entries count slots_after) (views ghosts disks_after) claim feed_after teller_after) served.stubs.items
+
+-- the op of a call was done, of which nothing was held before: a log of its steps leads to what is held then, and pays what the call owes, and its notes are
+-- those of the stubs. Where a log leads is said by those whose steps it has
+pub record WasServed (set : SetPlan) (task : Task) (served : Served) (slot : ℕ) (Leads : Log → Claim → Claim → Type 0) : Type 0 where
+  pub left : Claim
+  pub log : Log
+  pub lets_go : LetsGo left log
+  pub pays : Pays set task served.cut log
+  pub ran : Leads log (no_claim slot) left
+  pub notes : notes_by served.stubs.items ≡ notes_of log
+
+-- a call was served so, and its notes are the receipt's
+pub record IsDone (set : SetPlan) (task : Task) (result : Result Receipt Cut) (Leads : Log → Claim → Claim → Type 0) : Type 0 where
+  pub slot : ℕ
+  pub in_store : slot < 64
+  pub left : Claim
+  pub log : Log
+  pub lets_go : LetsGo left log
+  pub pays : Pays set task (cut_by result) log
+  pub ran : Leads log (no_claim slot) left
+  pub notes : NotesAre result log
+
+-- a log has tellings alone, over which the faults of the sink went so
+abbrev pub OnlyTold : Log → ℕ → ℕ → Type 0
+OnlyTold [] old new = new ≡ old
+OnlyTold (Told telling cut ∷ log) old new = (mid : ℕ) × TellMoves any_effect any_effect telling cut (any_teller old) (any_teller mid) × OnlyTold log mid new
+OnlyTold (other ∷ log) old new = ⊥
+
+-- a call was served by tellings alone
+pub record IsToldAlone (set : SetPlan) (task : Task) (result : Result Receipt Cut) (log : Log) : Type 0 where
+  pub feed : FeedSeen
+  pub faults : ℕ
+  pub faults_after : ℕ
+  pub told : OnlyTold log faults faults_after
+  pub pays : Pays set task (cut_by result) log
+  pub notes : NotesAre result log
+
+-- so a desk may answer, whose pass stays
+abbrev pub AnswersAlone : {P : Type 0} → (P → SetPlan) → (Task → P → P → List ℕ → List Telling → Result Receipt Cut → Type 0) → Type 0
+AnswersAlone {P} set_of Answers = (task : Task) (pass : P) (result : Result Receipt Cut) (log : Log) → IsToldAlone (set_of pass) task result log
+    → Answers task pass pass (body_of log) (tried_of log) result

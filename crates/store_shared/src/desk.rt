@@ -1,18 +1,15 @@
-//! The desk's calls.
+//! The calls of the desk of one caller.
 
 ghost use Rattle.drive_base.specs.declared.plan.SetPlan.{SetPlan};
 
-use crate::later::refuse_later;
+use crate::calls::serve_call;
 use crate::pass::PlainPass;
 use crate::plain::PlainDesk;
 use crate::receipt::Receipt;
-use crate::serving::serve;
 use audit_trail::Audit;
-use bucket_ops::{ChangeOp, ListOp, LookOp};
 use call_types::{Cut, Feed};
 use desk_base::{Call, Desk, Teller};
 use drive_base::Drive;
-use object_ops::{DeleteOp, GetOp, HeadOp, PutOp};
 use std::alloc::Global;
 
 impl<D: Drive, A: Audit> Desk for PlainDesk<D, A> {
@@ -43,42 +40,6 @@ impl<D: Drive, A: Audit> Desk for PlainDesk<D, A> {
         feed: &mut F,
         teller: &mut T,
     ) -> Result<Receipt, Cut> {
-        let set = pass.set;
-        match call {
-            Call::ListBuckets => {
-                let op = ListOp::new(alloc, set, now);
-                serve(alloc, pass, op, feed, teller)
-            }
-            Call::HeadBucket { .. } | Call::GetVersioning { .. } => {
-                let op = LookOp::new(alloc, set, call, now);
-                serve(alloc, pass, op, feed, teller)
-            }
-            Call::CreateBucket { .. } | Call::PutVersioning { .. } => {
-                let op = ChangeOp::new(alloc, set, call, now);
-                serve(alloc, pass, op, feed, teller)
-            }
-            Call::Put { .. } => {
-                let op = PutOp::new(alloc, set, call, now);
-                serve(alloc, pass, op, feed, teller)
-            }
-            Call::Get { .. } => {
-                let op = GetOp::new(alloc, set, call, now);
-                serve(alloc, pass, op, feed, teller)
-            }
-            Call::Head { .. } => {
-                let op = HeadOp::new(alloc, set, call, now);
-                serve(alloc, pass, op, feed, teller)
-            }
-            Call::Delete { .. } => {
-                let op = DeleteOp::new(alloc, set, call, now);
-                serve(alloc, pass, op, feed, teller)
-            }
-            Call::List2 { .. }
-            | Call::ListVersions { .. }
-            | Call::Create { .. }
-            | Call::Part { .. }
-            | Call::Complete { .. }
-            | Call::Abort { .. } => refuse_later(alloc, pass, call, now, feed, teller),
-        }
+        serve_call(self, alloc, pass, call, now, feed, teller)
     }
 }

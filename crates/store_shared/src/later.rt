@@ -6,15 +6,12 @@ ghost use Rattle.desk_base.specs.Calls.{IsFeedOf};
 ghost use Rattle.desk_base.specs.Telling.Telling.{Head};
 ghost use Rattle.op_steps.specs.Moves.{TellMoves};
 ghost use Rattle.op_steps.specs.Store.{teller_of};
-ghost use Rattle.store_shared.specs.Answers.{PlainAnswers};
 ghost use Rattle.store_shared.specs.Later.{IsLater, TellsLater};
 
-use crate::pass::PlainPass;
+use crate::op_desk::OpDesk;
 use crate::receipt::Receipt;
-use audit_trail::Audit;
 use call_types::{Cut, Feed, Refusal, Reply};
 use desk_base::{Call, Teller};
-use drive_base::Drive;
 use std::alloc::Global;
 
 /// Tells the head of a reply, and says why that was cut, if it was.
@@ -37,9 +34,10 @@ fn tell_later<T: Teller>(alloc: Global, teller: &mut T) -> Result<Receipt, Cut>
 }
 
 /// Answers a call that is not served yet: it is told so. Nothing of its body is taken, and nothing of the store is touched.
-pub(crate) fn refuse_later<D: Drive, A: Audit, F: Feed, T: Teller>(
+pub(crate) fn refuse_later<S: OpDesk, F: Feed, T: Teller>(
+    desk: &S,
+    pass: &S::Pass,
     alloc: Global,
-    pass: &PlainPass<D, A>,
     call: &Call,
     now: u64,
     feed: &F,
@@ -48,9 +46,10 @@ pub(crate) fn refuse_later<D: Drive, A: Audit, F: Feed, T: Teller>(
     requires later { IsLater call.now }
     requires feed { IsFeedOf (F.seen feed.now) call.now }
     ensures serves { Serves T.takes T.breaks
-        (λ body tale. PlainAnswers D.Drive A.entries A.count (record { call = call.now; now = now }) pass.now pass.now body tale result)
+        (λ body tale. S.answers desk.now (record { call = call.now; now = now }) pass.now pass.now body tale result)
         call.now result (F.seen feed.now) (F.seen feed.now) teller.old teller.new }
     ensures cause { CutCause result (F.seen feed.now) (F.faults feed.now) (F.faults feed.now) (T.faults teller.old) (T.faults teller.new) }
 {
+    desk.told_alone();
     tell_later(alloc, teller)
 }

@@ -1,6 +1,7 @@
 //! The laws of passes, and of what their desk answers.
 
 ghost use Rattle.store_shared.specs.Laws.{AnswersAreCalls, PassesAreInOrder};
+ghost use Rattle.store_shared.specs.SharedLaws.{SharedAnswersHaveTurns};
 
 use audit_trail::Audit;
 use drive_base::Drive;
@@ -15,4 +16,10 @@ pub fn pass_law<D: Drive, A: Audit>()
 /// That both passes have one set is the clause `holds` of `Desk::call`.
 pub fn answers_law<D: Drive, A: Audit>()
     ensures { AnswersAreCalls D.Drive A.entries A.count }
+{}
+
+/// Whatever a call of a shared desk answers, in each slot its pass has those turns more that its log has: their tickets rise, none is below what the pass had
+/// seen there before, and the pass has seen each then. The note of each section, and so its stub, tells the ticket of its turn. It does nothing.
+pub fn shared_answers_law<D: Drive, A: Audit>()
+    ensures { SharedAnswersHaveTurns D.Drive A.entries A.count }
 {}

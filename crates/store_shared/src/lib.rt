@@ -6,14 +6,25 @@
 //! the call owes. That the desk tells what a desk must, and that a call which is cut has its cause, follows from the log. By its laws the log is that of one
 //! call on the store of the pass, so that the laws of calls of `op_steps` hold of it.
 //!
+//! A [`SharedDesk`] serves several callers at once, each in a thread of its own with a [`SharedPass`]. Each slot stands behind a turn lock of `turn_lock`, and a
+//! section is done in a turn of its slot; between two steps a call holds nothing, and a gate is told. What it answers is said in `specs/SharedAnswers.antt`: a
+//! log of the call's steps among those of others, in which the turns of each slot are told with their tickets. Once all passes are joined again the desk is
+//! closed, and the turns of all callers are the history of each slot. Both desks pick and serve ops by one function (`calls.rt`).
+//!
 //! The crate stands on `op_steps` for the loop, on `receipts` for what is owed, on `object_ops` and `bucket_ops` for the ops, on `slot_core` for slots and
-//! their stubs, and on `desk_base` for what a desk is.
+//! their stubs, on `turn_lock` for turns, and on `desk_base` for what a desk is.
 #![tactic(auto)]
 
+mod among;
+mod calls;
+mod closing;
 mod desk;
+mod homes;
 mod later;
 mod laws;
 mod lives;
+mod making;
+mod op_desk;
 mod opened;
 mod opening;
 mod paging;
@@ -22,8 +33,17 @@ mod pass;
 mod plain;
 mod receipt;
 mod serving;
+mod shared;
+mod shared_desk;
+mod shared_paging;
+mod shared_pass;
+mod shared_serving;
+mod splitting;
+mod stubs;
+mod turned;
+mod turns;
 
-pub use laws::{answers_law, pass_law};
+pub use laws::{answers_law, pass_law, shared_answers_law};
 pub use lives::opened_law;
 pub use opened::{NotOpened, StoreParts};
 pub use opening::open_all;
@@ -31,6 +51,8 @@ pub use parts::PassParts;
 pub use pass::PlainPass;
 pub use plain::PlainDesk;
 pub use receipt::Receipt;
+pub use shared::{SharedDesk, SharedPass};
+pub use turned::TurnedSlot;
 
 #[cfg(test)]
 mod tests;

@@ -1,29 +1,27 @@
-//! The serving of any call by its op.
+//! The serving of any call by its op, for the desk of one caller.
 
-ghost use Rattle.std.specs.Prelude.{◌≡◌, ◌<◌, ℕ, [], IfOk};
-ghost use Rattle.desk_base.specs.Answering.{CutCause, Serves, Task};
-ghost use Rattle.desk_base.specs.Calls.{IsFeedOf};
+ghost use Rattle.std.specs.Prelude.{◌≡◌, ◌<◌, ℕ, []};
 ghost use Rattle.drive_base.specs.View.{views};
+ghost use Rattle.drive_base.specs.declared.plan.SetPlan.{SetPlan};
 ghost use Rattle.op_steps.specs.Claims.{no_claim};
 ghost use Rattle.op_steps.specs.Going.{IsFeedAt};
 ghost use Rattle.op_steps.specs.Store.{AreInOrder, slots_seen, teller_of};
-ghost use Rattle.store_shared.specs.Answers.{PlainAnswers};
-ghost use Rattle.store_shared.specs.Passes.{set_of};
 ghost use Rattle.store_shared.specs.Serving.{IsReceiptOf, StoreDone};
 
+use crate::op_desk::OpDesk;
 use crate::pass::PlainPass;
+use crate::plain::PlainDesk;
 use crate::receipt::Receipt;
 use audit_trail::Audit;
 use call_types::{Cut, Feed};
-use desk_base::Teller;
-use drive_base::Drive;
-use fault_base::NoMemory;
+use desk_base::{Call, Teller};
+use drive_base::{Drive, SetPlan};
 use op_steps::{Op, Served, call_op};
 use slot_core::Slot;
 use std::alloc::Global;
 
 /// The receipt of a call, or why it was cut.
-fn receipt_of(served: Served) -> Result<Receipt, Cut>
+pub(crate) fn receipt_of(served: Served) -> Result<Receipt, Cut>
     ensures { IsReceiptOf served result }
 {
     let Served { stubs, cut } = served;
@@ -60,48 +58,38 @@ fn work_on<O: Op, D: Drive, A: Audit, F: Feed, T: Teller>(
     )
 }
 
-/// Serves a call by its op, which has done nothing yet.
-fn serve_op<O: Op, D: Drive, A: Audit, F: Feed, T: Teller>(
-    alloc: Global,
-    pass: &mut PlainPass<D, A>,
-    op: &mut O,
-    feed: &mut F,
-    teller: &mut T,
-) -> Result<Receipt, Cut>
-    requires set { O.set op.old ≡ set_of pass.old }
-    requires taken { O.taken op.old ≡ 0 }
-    requires begins { (slot : ℕ) × (slot < 64) × O.stands op.old (no_claim slot) [] }
-    requires feed { IsFeedOf (F.seen feed.old) (O.task op.old).call }
-    ensures set { set_of pass.new ≡ set_of pass.old }
-    ensures serves { Serves T.takes T.breaks
-        (λ body tale. PlainAnswers D.Drive A.entries A.count (O.task op.old) pass.old pass.new body tale result)
-        (O.task op.old).call result (F.seen feed.old) (F.seen feed.new) teller.old teller.new }
-    ensures cause { CutCause result (F.seen feed.new) (F.faults feed.old) (F.faults feed.new) (T.faults teller.old) (T.faults teller.new) }
-{
-    let served = work_on(alloc, op, &mut pass.slots, &mut pass.disks, feed, teller);
-    receipt_of(served)
-}
+impl<D: Drive, A: Audit> OpDesk for PlainDesk<D, A> {
+    ghost use Rattle.store_shared.specs.Answers.{PlainAnswers};
+    ghost use Rattle.store_shared.specs.Passes.{set_of};
 
-/// Serves a call by its op, which has done nothing yet. Where there was no memory for it the call is cut, and nothing is done.
-pub(crate) fn serve<O: Op + Drop, D: Drive, A: Audit, F: Feed, T: Teller>(
-    alloc: Global,
-    pass: &mut PlainPass<D, A>,
-    op: Result<O, NoMemory>,
-    feed: &mut F,
-    teller: &mut T,
-) -> Result<Receipt, Cut>
-    requires set { IfOk op (λ op. O.set op ≡ set_of pass.old) }
-    requires taken { IfOk op (λ op. O.taken op ≡ 0) }
-    requires begins { IfOk op (λ op. (slot : ℕ) × (slot < 64) × O.stands op (no_claim slot) []) }
-    requires feed { IfOk op (λ op. IsFeedOf (F.seen feed.old) (O.task op).call) }
-    ensures set { set_of pass.new ≡ set_of pass.old }
-    ensures serves { (task : Task) → IfOk op (λ op. O.task op ≡ task) → Serves T.takes T.breaks
-        (λ body tale. PlainAnswers D.Drive A.entries A.count task pass.old pass.new body tale result)
-        task.call result (F.seen feed.old) (F.seen feed.new) teller.old teller.new }
-    ensures cause { CutCause result (F.seen feed.new) (F.faults feed.old) (F.faults feed.new) (T.faults teller.old) (T.faults teller.new) }
-{
-    match op {
-        Ok(mut op) => serve_op(alloc, pass, &mut op, feed, teller),
-        Err(_) => Err(Cut::NoMemory),
+    type Pass = PlainPass<D, A>;
+
+    ghost Holds = { SetPlan };
+
+    ghost holds = { λ pass. set_of pass };
+
+    ghost set = { λ set. set };
+
+    ghost fits = { λ desk set. Unit {0} };
+
+    ghost answers = { λ desk task before after body tale result. PlainAnswers D.Drive A.entries A.count task before after body tale result };
+
+    fn set_in(&self, pass: &PlainPass<D, A>) -> SetPlan {
+        pass.set
     }
+
+    fn serve_op<O: Op, F: Feed, T: Teller>(
+        &self,
+        alloc: Global,
+        pass: &mut PlainPass<D, A>,
+        _call: &Call,
+        op: &mut O,
+        feed: &mut F,
+        teller: &mut T,
+    ) -> Result<Receipt, Cut> {
+        let served = work_on(alloc, op, &mut pass.slots, &mut pass.disks, feed, teller);
+        receipt_of(served)
+    }
+
+    fn told_alone(&self) {}
 }

@@ -22,6 +22,7 @@ use std::test::Fail;
 use term_gate::OpenRefusal;
 use wires::{Ear, Heard, Source};
 
+mod sharing;
 mod wires;
 
 /// The second of the calls.
@@ -176,26 +177,42 @@ fn call_of(alloc: Global, ask: Ask, bucket: Text, at: Key) -> Call
 }
 
 /// What a lawful call is told.
-fn tells(alloc: Global, pass: &mut MemPass, call: &Call) -> Heard
+fn tells<K: Desk>(desk: &K, alloc: Global, pass: &mut K::Pass, call: &Call) -> Heard
+    requires fits { K.fits desk.now (K.holds pass.old) }
     requires lawful { IsLawful call.now }
     requires short { stated_length call.now ≤ 5 }
+    ensures holds { K.holds pass.new ≡ K.holds pass.old }
 {
     let mut source = Source::new(call.stated_length() as usize);
     let mut ear = Ear {
         heard: Heard::Nothing,
     };
-    match MemDesk::new().call(alloc, pass, call, NOW, &mut source, &mut ear) {
+    match desk.call(alloc, pass, call, NOW, &mut source, &mut ear) {
         Ok(_) => ear.heard,
         Err(_) => Heard::Cut,
     }
 }
 
 /// What a call of the tests is told.
-fn hears(rt: &impl Abort, alloc: Global, pass: &mut MemPass, ask: Ask) -> Result<Heard, Fail> {
+fn hears_at<K: Desk>(
+    rt: &impl Abort,
+    desk: &K,
+    alloc: Global,
+    pass: &mut K::Pass,
+    ask: Ask,
+) -> Result<Heard, Fail>
+    requires fits { K.fits desk.now (K.holds pass.old) }
+    ensures holds { K.holds pass.new ≡ K.holds pass.old }
+{
     let bucket = bucket(rt, alloc)?;
     let at = key(rt, alloc)?;
     let call = call_of(alloc, ask, bucket, at);
-    Ok(tells(alloc, pass, &call))
+    Ok(tells(desk, alloc, pass, &call))
+}
+
+/// What a call of the tests is told by the desk of one caller.
+fn hears(rt: &impl Abort, alloc: Global, pass: &mut MemPass, ask: Ask) -> Result<Heard, Fail> {
+    hears_at(rt, &MemDesk::new(), alloc, pass, ask)
 }
 
 /// How many names of registers a slot lists.

@@ -3,7 +3,7 @@ use Rattle.desk_base.specs.Answering.{Task}
 use Rattle.desk_base.specs.declared.call.Call.{Call}
 use Rattle.desk_base.specs.declared.call.Call.TheVariants.{ListBuckets}
 use Rattle.store_shared.proofs.ServeLemmas.{task_is}
-use Rattle.store_shared.proofs.desk.PlainDeskDesk.call.Goals as goal
+use Rattle.store_shared.proofs.calls.serve_call.Goals as goal
 
 pub returns-in-ListBuckets-clause-serves : goal.returns-in-ListBuckets-clause-serves
 returns-in-ListBuckets-clause-serves g c =

@@ -1,10 +1,10 @@
-use Rattle.std.proofs.Common.{◌∙◌, refl, subst, sym}
+use Rattle.std.proofs.Common.{◌∙◌, subst, sym}
 use Rattle.drive_base.specs.View.{views}
-use Rattle.op_steps.specs.Store.{AreInOrder, slots_seen, store_of, teller_of}
+use Rattle.op_steps.specs.Store.{AreInOrder, slots_seen, teller_of}
 use Rattle.store_shared.specs.Passes.{disks_of, set_of, slots_of}
 use Rattle.store_shared.proofs.OrderLemmas.{in_order, order_count, order_drives, order_index, order_set}
-use Rattle.store_shared.proofs.ServeLemmas.{done_cause, done_serves, op_done}
-use Rattle.store_shared.proofs.serving.serve_op.Goals as goal
+use Rattle.store_shared.proofs.PlainLemmas.{plain_cause, plain_serves}
+use Rattle.store_shared.proofs.serving.PlainDeskOpDesk.serve_op.Goals as goal
 
 pub work_on-served-requires-clause-order : goal.work_on-served-requires-clause-order
 work_on-served-requires-clause-order g c =
@@ -39,26 +39,19 @@ invariant_of-pass-clause-drives g c =
 
 pub returns-clause-serves : goal.returns-clause-serves
 returns-clause-serves g c =
-    done_serves g.D.Drive g.A.Audit.entries g.A.Audit.count g.T.Teller.takes g.T.Teller.breaks (g.O.Op.task c.args.op.now) c.receipt_of.result c.args.pass.now _
+    plain_serves g.D.Drive g.A.Audit.entries g.A.Audit.count g.T.Teller.takes g.T.Teller.breaks
     (record { view = g.F.Feed.seen c.args.feed.now; faults = g.F.Feed.faults c.args.feed.now })
     (record { view = g.F.Feed.seen c.work_on-served.new.feed; faults = g.F.Feed.faults c.work_on-served.new.feed })
     (teller_of c.args.teller.now (g.T.Teller.faults c.args.teller.now)) (teller_of c.work_on-served.new.teller (g.T.Teller.faults c.work_on-served.new.teller))
-    (op_done g.D.Drive g.T.Teller.takes g.T.Teller.breaks (set_of c.args.pass.now) (g.O.Op.task c.args.op.now) c.work_on-served.result c.receipt_of.result
-    (g.O.Op.set c.args.op.now) c.requires.begins.0 _ _ c.requires.set c.requires.begins.1 (c.work_on-served.ensures.done c.requires.begins.0 c.requires.begins.2)
-    c.receipt_of.ensures)
+    (g.O.Op.task c.args.op.now) c.receipt_of.result c.args.pass.now _ (g.O.Op.set c.args.op.now) c.work_on-served.result c.requires.begins.0 c.requires.set
+    c.requires.begins.1 (c.work_on-served.ensures.done c.requires.begins.0 c.requires.begins.2) c.receipt_of.ensures
 
 pub returns-clause-cause : goal.returns-clause-cause
 returns-clause-cause g c =
-    done_cause g.D.Drive g.T.Teller.takes g.T.Teller.breaks (set_of c.args.pass.now) (g.O.Op.task c.args.op.now) c.receipt_of.result
-    (λ claim. store_of (slots_seen g.A.Audit.entries g.A.Audit.count (slots_of c.args.pass.now)) (views g.D.Drive (disks_of c.args.pass.now)) claim
-    (record { view = g.F.Feed.seen c.args.feed.now; faults = g.F.Feed.faults c.args.feed.now }) (teller_of c.args.teller.now (g.T.Teller.faults c.args.teller.now)))
-    (λ claim. store_of (slots_seen g.A.Audit.entries g.A.Audit.count c.work_on-served.new.slots.items) (views g.D.Drive c.work_on-served.new.disks.items) claim
-    (record { view = g.F.Feed.seen c.work_on-served.new.feed; faults = g.F.Feed.faults c.work_on-served.new.feed })
-    (teller_of c.work_on-served.new.teller (g.T.Teller.faults c.work_on-served.new.teller)))
+    plain_cause g.D.Drive g.A.Audit.entries g.A.Audit.count g.T.Teller.takes g.T.Teller.breaks (set_of c.args.pass.now)
     (record { view = g.F.Feed.seen c.args.feed.now; faults = g.F.Feed.faults c.args.feed.now })
     (record { view = g.F.Feed.seen c.work_on-served.new.feed; faults = g.F.Feed.faults c.work_on-served.new.feed })
     (teller_of c.args.teller.now (g.T.Teller.faults c.args.teller.now)) (teller_of c.work_on-served.new.teller (g.T.Teller.faults c.work_on-served.new.teller))
-    c.requires.feed (λ claim. refl) (λ claim. refl)
-    (op_done g.D.Drive g.T.Teller.takes g.T.Teller.breaks (set_of c.args.pass.now) (g.O.Op.task c.args.op.now) c.work_on-served.result c.receipt_of.result
-    (g.O.Op.set c.args.op.now) c.requires.begins.0 _ _ c.requires.set c.requires.begins.1 (c.work_on-served.ensures.done c.requires.begins.0 c.requires.begins.2)
-    c.receipt_of.ensures)
+    (g.O.Op.task c.args.op.now) c.receipt_of.result (slots_of c.args.pass.now) (disks_of c.args.pass.now) c.work_on-served.new.slots.items
+    c.work_on-served.new.disks.items (g.O.Op.set c.args.op.now) c.work_on-served.result c.requires.begins.0 c.requires.set
+    c.requires.begins.1 (c.work_on-served.ensures.done c.requires.begins.0 c.requires.begins.2) c.receipt_of.ensures c.requires.feed

@@ -1,0 +1,113 @@
+-- Logs of steps among others: they go on by one step, and what they do to the feed and the teller.
+use Rattle.std.proofs.Common.{◌≡◌, ◌∙◌, ℕ, List, [], ◌∷◌, ◌++◌, Option, map, append-nil, append_assoc, ap, refl, subst, sym}
+use Rattle.std.proofs.lemmas.Grind.{flat_map-append}
+use Rattle.std.proofs.lemmas.List.{map-append}
+use Rattle.audit_trail.specs.declared.entry.Entry.{Entry}
+use Rattle.desk_base.specs.Telling.{Effect}
+use Rattle.drive_base.specs.View.{DriveView}
+use Rattle.drive_base.specs.declared.drive.Drive.{Ghosts}
+use Rattle.drive_base.specs.declared.plan.SetPlan.{SetPlan}
+use Rattle.receipts.specs.Events.{Event, Log, Section, notes_of, section_in, sections_of}
+use Rattle.receipts.specs.Events.Event.{BarredFrom, Called, Fed, Told, Turned}
+use Rattle.slot_core.specs.declared.stub.Stub.{Stub}
+use Rattle.op_steps.specs.Claims.{Claim}
+use Rattle.op_steps.specs.Notes.{notes_by}
+use Rattle.op_steps.specs.Store.{FeedSeen, any_effect}
+use Rattle.store_shared.specs.Among.{PassSeen, Reach, reach_of, without_slots}
+use Rattle.store_shared.specs.AmongSteps.{RanAmong, RanSoAmong, StepAmong, StepsSoAmong}
+use Rattle.store_shared.specs.Answers.{any_teller}
+use Rattle.store_shared.specs.Serving.{OnlyTold}
+use Rattle.store_shared.proofs.UnitLemmas.{step_any}
+use Rattle.store_shared.proofs.WireLemmas.{Wires, WiresRan, wires, wires_of}
+
+notes_join : (log more : Log) → notes_of (log ++ more) ≡ notes_of log ++ notes_of more
+notes_join log more = ap (map (λ (section : Section). section.note)) (flat_map-append section_in log more)
+    ∙ map-append (λ (section : Section). section.note) (sections_of log) (sections_of more)
+
+-- what a call has with a teller of which only the count of faults is seen
+abbrev pub any_reach : {D A T : Type 0} → Reach D A T → Reach D A (Unit {0})
+any_reach reach = reach_of reach.passes reach.disks reach.claim reach.feed (any_teller reach.teller.faults)
+
+module _ {D A T : Type 0} (ghosts : Ghosts D) (entries : A → Option (List Entry)) (count : A → ℕ) (takes breaks : Effect T) (set : SetPlan) where
+  -- a log goes on by one step
+  among_more : (log : Log) (event : Event) (a b c : Reach D A T) → RanAmong ghosts entries count takes breaks set log a b
+      → StepAmong ghosts entries count takes breaks set event b c → RanAmong ghosts entries count takes breaks set (log ++ event ∷ []) a c
+  among_more [] event a b c same step = (c, subst (λ s. StepAmong ghosts entries count takes breaks set event s c) same step, refl)
+  among_more (first ∷ log) event a b c ran step = (ran.0, ran.1, among_more log event ran.0 b c ran.2 step)
+
+  -- nothing was done
+  pub among_none : (Old : Claim → Log → Type 0) (reach : Claim → Reach D A T) (stubs : List Stub)
+      → RanSoAmong ghosts entries count takes breaks set Old Old reach reach stubs stubs
+  among_none Old reach stubs claim log holds =
+      (claim, [], subst (λ l. Old claim l) (sym (append-nil log)) holds, refl, sym (append-nil (notes_by stubs)))
+
+  -- one step more was
+  pub among_so_more : (Old Mid New : Claim → Log → Type 0) (old mid new : Claim → Reach D A T) (s t u : List Stub)
+      → RanSoAmong ghosts entries count takes breaks set Old Mid old mid s t → StepsSoAmong ghosts entries count takes breaks set Mid New mid new t u
+      → RanSoAmong ghosts entries count takes breaks set Old New old new s u
+  among_so_more Old Mid New old mid new s t u ran steps claim log holds =
+      let one = ran claim log holds in
+      let two = steps one.0 (log ++ one.1) one.2 in
+      let event = two.1 in (
+        two.0,
+        one.1 ++ event ∷ [],
+        subst (λ l. New two.0 l) (append_assoc log one.1 (event ∷ [])) two.2,
+        among_more one.1 event (old claim) (mid one.0) (new two.0) one.3 two.3,
+        two.4 ∙ (ap (λ notes. notes ++ notes_of (event ∷ [])) one.4
+            ∙ (append_assoc (notes_by s) (notes_of one.1) (notes_of (event ∷ [])) ∙ ap (λ notes. notes_by s ++ notes) (sym (notes_join one.1 (event ∷ []))))),
+      )
+
+  -- the feed and the teller go on by a log as in any store
+  abbrev wires_in : Reach D A T → Wires T
+  wires_in reach = wires reach.feed reach.teller
+
+  pub among_wired : (log : Log) (old new : Reach D A T) → RanAmong ghosts entries count takes breaks set log old new
+      → WiresRan takes breaks log (wires_in old) (wires_in new)
+  among_wired [] old new ran = ap wires_in ran
+  among_wired (Turned k made shown ∷ log) old new (mid, step, ran) =
+      subst (λ w. WiresRan takes breaks log w (wires_in new)) (ap wires_in step.leaves) (among_wired log mid new ran)
+  among_wired (BarredFrom k why ∷ log) old new (mid, step, ran) =
+      subst (λ w. WiresRan takes breaks log w (wires_in new)) (ap wires_in step.leaves) (among_wired log mid new ran)
+  among_wired (Called k seen ∷ log) old new (mid, step, ran) =
+      subst (λ w. WiresRan takes breaks log w (wires_in new)) (ap wires_of step.1.leaves) (among_wired log mid new ran)
+  among_wired (Fed bytes cut ∷ log) old new (mid, step, ran) =
+      (mid.feed, step.1.moves, subst (λ w. WiresRan takes breaks log w (wires_in new)) (ap wires_of step.1.leaves) (among_wired log mid new ran))
+  among_wired (Told telling cut ∷ log) old new (mid, step, ran) =
+      (mid.teller, step.1.moves, subst (λ w. WiresRan takes breaks log w (wires_in new)) (ap wires_of step.1.leaves) (among_wired log mid new ran))
+
+  -- a log with some teller is one with a teller of which only the count of faults is seen
+  among_step_any : (event : Event) (old new : Reach D A T) → StepAmong ghosts entries count takes breaks set event old new
+      → StepAmong ghosts entries count any_effect any_effect set event (any_reach old) (any_reach new)
+  among_step_any (Turned k made shown) old new step = record {
+    was = step.was;
+    is = step.is;
+    turn = step.turn;
+    comes = step.comes;
+    disks = step.disks;
+    moves = step.moves;
+    leaves = ap any_reach step.leaves;
+  }
+  among_step_any (BarredFrom k why) old new step =
+      record { was = step.was; now = step.now; is = step.is; bars = step.bars; leaves = ap any_reach step.leaves }
+  among_step_any (Called k seen) old new step = (step.0, step_any takes breaks ghosts set (Called k seen) (without_slots old) (without_slots new) step.1)
+  among_step_any (Fed bytes cut) old new step = (step.0, step_any takes breaks ghosts set (Fed bytes cut) (without_slots old) (without_slots new) step.1)
+  among_step_any (Told telling cut) old new step = (step.0, step_any takes breaks ghosts set (Told telling cut) (without_slots old) (without_slots new) step.1)
+
+  pub among_any : (log : Log) (old new : Reach D A T) → RanAmong ghosts entries count takes breaks set log old new
+      → RanAmong ghosts entries count any_effect any_effect set log (any_reach old) (any_reach new)
+  among_any [] old new ran = ap any_reach ran
+  among_any (event ∷ log) old new (mid, step, ran) = (any_reach mid, among_step_any event old mid step, among_any log mid new ran)
+
+module _ {D A : Type 0} (ghosts : Ghosts D) (entries : A → Option (List Entry)) (count : A → ℕ) (set : SetPlan) (passes : List (PassSeen D A))
+    (disks : List DriveView) (claim : Claim) (feed : FeedSeen) where
+  -- tellings alone leave passes and drives
+  pub told_among : (log : Log) (faults after : ℕ) → OnlyTold log faults after
+      → RanAmong ghosts entries count any_effect any_effect set log (reach_of passes disks claim feed (any_teller faults))
+      (reach_of passes disks claim feed (any_teller after))
+  told_among [] faults after told = ap (λ n. reach_of passes disks claim feed (any_teller n)) told
+  told_among (Turned k made shown ∷ log) faults after told = absurd told
+  told_among (BarredFrom k why ∷ log) faults after told = absurd told
+  told_among (Called k seen ∷ log) faults after told = absurd told
+  told_among (Fed bytes cut ∷ log) faults after told = absurd told
+  told_among (Told telling cut ∷ log) faults after (mid, moves, told) =
+      (reach_of passes disks claim feed (any_teller mid), (refl, record { moves = moves; leaves = refl }), told_among log mid after told)

@@ -1,0 +1,68 @@
+//! What the desks of this crate have in common: each does the steps of any op over what its passes have.
+
+ghost use Rattle.std.specs.Prelude.{◌≡◌, ◌<◌, ℕ, List, [], Result};
+ghost use Rattle.call_types.specs.declared.feed.Cut.{Cut};
+ghost use Rattle.desk_base.specs.Answering.{CutCause, Serves, Task};
+ghost use Rattle.desk_base.specs.Calls.{IsFeedOf};
+ghost use Rattle.desk_base.specs.Telling.{Telling};
+ghost use Rattle.drive_base.specs.declared.plan.SetPlan.{SetPlan};
+ghost use Rattle.op_steps.specs.Claims.{no_claim};
+ghost use Rattle.store_shared.specs.Serving.{AnswersAlone};
+ghost use Rattle.store_shared.specs.declared.receipt.Receipt.{Receipt};
+
+use crate::receipt::Receipt;
+use call_types::{Cut, Feed};
+use desk_base::{Call, Teller};
+use drive_base::SetPlan;
+use op_steps::Op;
+use std::alloc::Global;
+
+/// A desk that serves a call by its op, whatever that is. `Desk` says of each of its members but `set` and `serve_op` what it is.
+pub(crate) trait OpDesk {
+    /// The way of one caller to what the desk serves.
+    type Pass;
+
+    /// What a pass holds that no call changes.
+    ghost Holds: { Type 0 };
+
+    /// That of a pass.
+    ghost holds: { Self.Pass → Holds };
+
+    /// The set of which it is.
+    ghost set: { Holds → SetPlan };
+
+    /// Whether a pass that holds this is one of this desk's.
+    ghost fits: { Self → Holds → Type 0 };
+
+    /// What a call comes to.
+    ghost answers: { Self → Task → Self.Pass → Self.Pass → List ℕ → List Telling → Result Receipt Cut → Type 0 };
+
+    /// The set of a pass.
+    fn set_in(&self, pass: &Self::Pass) -> SetPlan
+        ensures { result ≡ set (holds pass.now) };
+
+    /// Serves a call by its op, which has done nothing yet.
+    fn serve_op<O: Op, F: Feed, T: Teller>(
+        &self,
+        alloc: Global,
+        pass: &mut Self::Pass,
+        call: &Call,
+        op: &mut O,
+        feed: &mut F,
+        teller: &mut T,
+    ) -> Result<Receipt, Cut>
+        requires fits { fits self.now (holds pass.old) }
+        requires set { O.set op.old ≡ set (holds pass.old) }
+        requires taken { O.taken op.old ≡ 0 }
+        requires begins { (slot : ℕ) × (slot < 64) × O.stands op.old (no_claim slot) [] }
+        requires feed { IsFeedOf (F.seen feed.old) (O.task op.old).call }
+        ensures holds { holds pass.new ≡ holds pass.old }
+        ensures serves { Serves T.takes T.breaks
+            (λ body tale. answers self.now (O.task op.old) pass.old pass.new body tale result)
+            (O.task op.old).call result (F.seen feed.old) (F.seen feed.new) teller.old teller.new }
+        ensures cause { CutCause result (F.seen feed.new) (F.faults feed.old) (F.faults feed.new) (T.faults teller.old) (T.faults teller.new) };
+
+    /// A call that is served by tellings alone is answered so, and its pass stays. It does nothing.
+    fn told_alone(&self)
+        ensures { AnswersAlone (λ pass. set (holds pass)) (answers self.now) };
+}
