@@ -231,5 +231,27 @@ else
     fails "a body of 16 MiB: status $status, or another body"
 fi
 
+# curl through the relay, where it is installed: a bucket, an upload, a part of it, a key that isn't there, and a deletion.
+curled() {
+    local at
+    at="http://127.0.0.1:$(sed -n 's/^relay: //p' "$work/relay")"
+    curl -sf -X PUT "$at/pic" && curl -sf -T "$work/body" "$at/pic/big" \
+        && curl -sf "$at/pic/big" | cmp -s - "$work/body" \
+        && curl -sf -r 5-1048580 "$at/pic/big" | cmp -s - <(tail -c +6 "$work/body" | head -c 1048576) \
+        && [[ "$(curl -so /dev/null -w '%{http_code}' "$at/pic/none")" == 404 ]] \
+        && curl -sf -X DELETE "$at/pic/big" && [[ "$(curl -sIo /dev/null -w '%{http_code}' "$at/pic/big")" == 404 ]]
+}
+
+if command -v curl >/dev/null; then
+    mkdir "$work/curled"
+    OSTORE="$ostore" python3 "$top/tools/relay.py" 0 --root "$work/curled" >"$work/relay" &
+    relay=$!
+    until grep -q '^relay: ' "$work/relay" || ! kill -0 "$relay" 2>/dev/null; do sleep 0.1; done
+    if curled; then passed=$((passed + 1)); else fails 'curl through the relay'; fi
+    kill "$relay" 2>/dev/null
+else
+    echo 'check_program: curl is not installed, so the relay was left out'
+fi
+
 echo "$passed passed, $failed failed"
 [[ $failed == 0 ]]
