@@ -1,4 +1,4 @@
-//! Tests of what no clause says: calls on a key over drives in memory, step by step, alone, beside one another, and where drives fail.
+//! Tests of what no clause says: calls on a key over drives in memory, step by step, alone, beside one another, and where drives fail; and sections of its slot.
 
 use drive_base::SetPlan;
 

@@ -39,7 +39,7 @@ fn see_all(rt: &impl Abort, alloc: Global, store: &mut Store) -> Result<Vec<Seen
     Ok(all)
 }
 
-/// Of how many registers two looks found the same.
+/// Of which registers two looks found the same.
 fn same_of(one: &[Seen], other: &[Seen]) -> [bool; 3] {
     let mut same = [false; 3];
     for (place, (one, other)) in one.iter().zip(other).enumerate() {
@@ -61,16 +61,13 @@ fn refused_change(turn: &Turn<Committed>) -> Option<ChangeId> {
     }
 }
 
-/// The change that a commit completed for an earlier one, where it did its own too.
+/// The change that a commit completed for an earlier one.
 fn late_change(turn: &Turn<Committed>) -> Option<ChangeId> {
-    if turn.answer.is_err() {
-        return None;
-    }
     turn.stub.as_ref()?.entry()?.late
 }
 
 /// Begins a change of one register, which is refused, and does the next one once the drives below this one are back. Tells of which registers a look finds the
-/// same as before, while two drives are lost and at the end, and whether the next change completed what was refused, or nothing.
+/// same as before, while two drives are lost and at the end, whether one was refused and the next one done, and whether that completed what was refused.
 fn beside(
     rt: &impl Abort,
     alloc: Global,
@@ -82,13 +79,13 @@ fn beside(
     let begun = refused_change(&change(rt, alloc, &mut store, register, b"later", 2)?);
     let lost = see_all(rt, alloc, &mut store)?;
     befalls(rt, &mut store, (2, back), &mut Back);
-    let late = late_change(&change(rt, alloc, &mut store, register, b"third", 4)?);
+    let next = change(rt, alloc, &mut store, register, b"third", 4)?;
     let after = see_all(rt, alloc, &mut store)?;
     Ok((
         same_of(before.as_slice(), lost.as_slice()),
         same_of(before.as_slice(), after.as_slice()),
-        begun.is_some(),
-        late == begun,
+        begun.is_some() && next.answer.is_ok(),
+        late_change(&next) == begun,
     ))
 }
 
