@@ -6,8 +6,13 @@
 # MD5, and the code. Then come what part of that speed is reached, and the share of the time that each of these parts
 # takes; what is left are copies, the drives' own work and blocks that fill no lanes.
 #
-# PUTs to drives that keep nothing come besides, which leave out the drives' own work. The most resident memory is that of
-# a process that makes only these, as GNU time tells it, also on a set of five, whose windows are the longest.
+# PUTs to drives that keep nothing come besides, which leave out the drives' own work.
+#
+# Then the same over folders, of which TMPDIR says on which disk: processor time, the system's share of it among it, and the
+# time by the clock of the wall, which has the fsyncs. The files that a GET reads were just written, so the system has them in memory.
+#
+# The most resident memory (VmHWM) is that of a process that does nothing else, as GNU time tells it: of a GET of 256 MiB from
+# folders on 4+2, and of PUTs of 256 MiB to drives that keep nothing, on 4+2, on 3+2, whose windows are the longest, and on 8+8.
 #
 # The program is proved and built in a temporary repository with copies of the crates; the first time that takes some
 # minutes.
@@ -15,59 +20,95 @@ set -euo pipefail
 
 source "$(dirname "$(readlink -f "${BASH_SOURCE[0]}")")/common.sh"
 
-new_program whole_bench fault_base drive_base drive_memory stamp_id call_types poly_code hash_lanes put_stage get_read md5
+new_program whole_bench fault_base drive_base drive_memory drive_file stamp_id call_types poly_code hash_lanes put_stage get_read md5 hex
+take_libraries
 cat >"$work/crates/whole_bench/src/main.rt" <<'END'
-//! Times PUT and GET of bodies over drives in memory, by one drive call a step, and their parts alone.
+//! Times PUT and GET of bodies over drives in memory and over folders, by one drive call a step, and their parts alone.
+//! With words it does one work alone: `folders`, `get PRINT` of what that put, or `sinks DRIVES PARITY`.
 #![tactic(auto)]
 
 mod bodies;
 mod feed;
+mod folders;
 mod parts;
 mod sinks;
 
 use bodies::{time_bodies, time_sinks};
+use folders::{get_again, time_folders};
 use parts::time_parts;
 use std::env;
 use std::process::ExitCode;
 use std::time::Duration;
 
+/// The bytes of a small body.
+pub const SMALL: u64 = 16_777_216;
+
+/// The bytes of a large one.
+pub const LARGE: u64 = 268_435_456;
+
 fn main(rt: HostRuntime) -> ExitCode {
-    let measured = if has_word(&rt) { measure_sinks(&rt) } else { measure(&rt) };
-    match measured {
+    let words = words(&rt).unwrap_or(Vec::new(rt.alloc()));
+    match measure(&rt, words.as_slice()) {
         Some(()) => ExitCode::SUCCESS,
         None => {
-            let _ = eprintln!(rt; "whole_bench: no memory, no clock or another body");
+            let _ = eprintln!(rt; "whole_bench: no memory, no clock, a failed call or another body");
             ExitCode::FAILURE
         }
     }
 }
 
-fn measure(rt: &HostRuntime) -> Option<()> {
-    time_parts(rt)?;
-    for drives in [6u8, 4] {
-        time_bodies(rt, drives, 16_777_216, 5)?;
-        time_bodies(rt, drives, 268_435_456, 2)?;
+/// The words behind the program's name.
+fn words(rt: &HostRuntime) -> Option<Vec<String>> {
+    let mut words = Vec::new(rt.alloc());
+    let mut all = env::args(rt).ok()?;
+    let _name = all.next();
+    for word in all {
+        words.push(word).ok()?;
     }
-    measure_sinks(rt)
+    Some(words)
 }
 
-fn measure_sinks(rt: &HostRuntime) -> Option<()> {
+fn measure(rt: &HostRuntime, words: &[String]) -> Option<()> {
+    let Some(first) = words.first() else {
+        return measure_all(rt);
+    };
+    if first.as_str() == "folders" {
+        return measure_folders(rt);
+    }
+    let second = words.get(1)?;
+    if first.as_str() == "get" {
+        return get_again(rt, second.as_str());
+    }
+    sink_alone(rt, second.as_str().parse().ok()?, words.get(2)?.as_str().parse().ok()?)
+}
+
+fn measure_all(rt: &HostRuntime) -> Option<()> {
+    time_parts(rt)?;
+    for drives in [6u8, 4] {
+        time_bodies(rt, drives, SMALL, 5)?;
+        time_bodies(rt, drives, LARGE, 2)?;
+    }
     for drives in [6u8, 4, 5] {
-        time_sinks(rt, drives, 16_777_216, 5)?;
-        time_sinks(rt, drives, 268_435_456, 2)?;
+        time_sinks(rt, drives, 2, SMALL, 5)?;
+        time_sinks(rt, drives, 2, LARGE, 2)?;
     }
     Some(())
 }
 
-/// Whether a word stands behind the program's name.
-fn has_word(rt: &HostRuntime) -> bool {
-    match env::args(rt) {
-        Ok(mut words) => {
-            let _name = words.next();
-            words.next().is_some()
-        }
-        Err(_) => false,
+/// A PUT on 2+2 and then on 4+2, whose files are left.
+fn measure_folders(rt: &HostRuntime) -> Option<()> {
+    for drives in [4u8, 6] {
+        time_folders(rt, drives, SMALL)?;
+        time_folders(rt, drives, LARGE)?;
     }
+    Some(())
+}
+
+fn sink_alone(rt: &HostRuntime, drives: u8, parity: u8) -> Option<()> {
+    if drives < 4 || drives > 16 || parity < 1 || parity > drives / 2 {
+        return None;
+    }
+    time_sinks(rt, drives, parity, LARGE, 1)
 }
 
 /// Prints the MB/s of so many bytes in a time.
@@ -247,26 +288,26 @@ pub fn time_bodies(rt: &HostRuntime, drives: u8, size: u64, runs: u32) -> Option
     report(rt, "get", drives, size, gets)
 }
 
-/// Prints the best time of a PUT to so many drives that keep nothing, two of them parity.
-pub fn time_sinks(rt: &HostRuntime, drives: u8, size: u64, runs: u32) -> Option<()>
+/// Prints the best time of a PUT to so many drives that keep nothing.
+pub fn time_sinks(rt: &HostRuntime, drives: u8, parity: u8, size: u64, runs: u32) -> Option<()>
     requires enough { 4 ≤ drives }
     requires few { drives ≤ 16 }
+    requires some { 1 ≤ parity }
+    requires half { parity + parity ≤ drives }
     requires size { size ≤ 5368709120 }
 {
+    let set = SetPlan::new([0; 16], drives, parity);
     let mut puts = Duration::MAX;
     for _ in 0..runs {
-        puts = puts.min(time_sink(rt, drives, size)?);
+        puts = puts.min(time_sink(rt, set, size)?);
     }
     report(rt, "sink", drives, size, puts)
 }
 
 /// The time of a PUT to drives that keep nothing.
-fn time_sink(rt: &HostRuntime, drives: u8, size: u64) -> Option<Duration>
-    requires enough { 4 ≤ drives }
-    requires few { drives ≤ 16 }
+fn time_sink(rt: &HostRuntime, set: SetPlan, size: u64) -> Option<Duration>
     requires size { size ≤ 5368709120 }
 {
-    let set = SetPlan::new([0; 16], drives, 2);
     let mut drives = sinks(rt.alloc(), set.drives).ok()?;
     let feed = Repeats::new(period(rt.alloc()).ok()?, size);
     let from = rt.thread_cpu_time().ok()?;
@@ -309,7 +350,7 @@ fn id() -> VersionId {
 }
 
 /// Puts a body, and tells its print.
-fn put<D: Drive>(alloc: Global, set: SetPlan, size: u64, feed: Repeats, drives: &mut [D]) -> Option<[u8; 32]>
+pub fn put<D: Drive>(alloc: Global, set: SetPlan, size: u64, feed: Repeats, drives: &mut [D]) -> Option<[u8; 32]>
     requires drives { length drives.old ≡ set.drives }
     requires size { size ≤ 5368709120 }
     requires stated { (⟦<Repeats as Feed>⟧.seen feed).stated ≡ size }
@@ -337,7 +378,14 @@ fn finish<D: Drive>(alloc: Global, stage: Stage, feed: Repeats, drives: &mut [D]
 }
 
 /// Gets a body, and looks at the first byte of each piece.
-fn get(alloc: Global, set: SetPlan, print: [u8; 32], size: u64, period: &[u8], drives: &mut [MemDrive]) -> Option<()>
+pub fn get<D: Drive>(
+    alloc: Global,
+    set: SetPlan,
+    print: [u8; 32],
+    size: u64,
+    period: &[u8],
+    drives: &mut [D],
+) -> Option<()>
     requires drives { length drives.old ≡ set.drives }
     requires size { size ≤ 5368709120 }
 {
@@ -346,7 +394,7 @@ fn get(alloc: Global, set: SetPlan, print: [u8; 32], size: u64, period: &[u8], d
     read_on(alloc, reader, size, period, drives)
 }
 
-fn read_on(alloc: Global, reader: Reader, size: u64, period: &[u8], drives: &mut [MemDrive]) -> Option<()>
+fn read_on<D: Drive>(alloc: Global, reader: Reader, size: u64, period: &[u8], drives: &mut [D]) -> Option<()>
     requires drives { length drives.old ≡ reader.asked.wanted.set.drives }
 {
     let mut reader = reader;
@@ -365,6 +413,81 @@ fn read_on(alloc: Global, reader: Reader, size: u64, period: &[u8], drives: &mut
         }
     }
     None
+}
+END
+cat >"$work/crates/whole_bench/src/folders.rt" <<'END'
+//! Bodies put to folders and got from there.
+
+ghost use Rattle.std.specs.Prelude.{◌≡◌, ◌+◌, ◌≤◌, IfSome, length};
+
+use crate::LARGE;
+use crate::bodies::{get, put};
+use crate::feed::{Repeats, period};
+use crate::report;
+use drive_base::SetPlan;
+use drive_file::FileDrive;
+use std::rt::Clock;
+use std::time::{CpuClock, Duration};
+
+/// The drives over the folders `0`, `1`, .., one each.
+fn folders(rt: &HostRuntime, count: u8) -> Option<Vec<FileDrive<HostRuntime>>>
+    ensures { IfSome result (λ drives. length drives.items ≡ count) }
+{
+    let mut drives = Vec::new(rt.alloc());
+    for number in 0..count {
+        let path = format!(in rt.alloc(); "{number}").ok()?;
+        let drive = FileDrive::open(*rt, rt.alloc(), path.as_str()).ok()?;
+        drives.push(drive).ok()?;
+    }
+    Some(drives)
+}
+
+/// The processor time of this process so far, and the time by the wall.
+fn now(rt: &HostRuntime) -> Option<(Duration, Duration)> {
+    Some((rt.thread_cpu_time().ok()?, rt.monotonic().ok()?))
+}
+
+/// Prints MB/s by processor time and by the wall since a moment.
+fn report_both(
+    rt: &HostRuntime,
+    (name, wall_name): (&str, &str),
+    drives: u8,
+    size: u64,
+    from: (Duration, Duration),
+) -> Option<()> {
+    let (cpu, wall) = now(rt)?;
+    report(rt, name, drives, size, cpu.checked_sub(from.0)?)?;
+    report(rt, wall_name, drives, size, wall.checked_sub(from.1)?)
+}
+
+/// Prints the times of a PUT to folders and of a GET from there, two of the drives parity, and the print.
+pub fn time_folders(rt: &HostRuntime, count: u8, size: u64) -> Option<()>
+    requires enough { 4 ≤ count }
+    requires few { count ≤ 16 }
+    requires size { size ≤ 5368709120 }
+{
+    let set = SetPlan::new([0; 16], count, 2);
+    let mut drives = folders(rt, set.drives)?;
+    let feed = Repeats::new(period(rt.alloc()).ok()?, size);
+    let from = now(rt)?;
+    let print = put(rt.alloc(), set, size, feed, drives.as_mut_slice())?;
+    report_both(rt, ("folder_put", "wall_put"), count, size, from)?;
+    let bytes = period(rt.alloc()).ok()?;
+    let from = now(rt)?;
+    get(rt.alloc(), set, print, size, bytes.as_slice(), drives.as_mut_slice())?;
+    report_both(rt, ("folder_get", "wall_get"), count, size, from)?;
+    let digits = hex::encode(rt.alloc(), print).ok()?;
+    println!(rt; "print {} {} {}", count, size, digits).ok()
+}
+
+/// Gets the large body on 4+2 that was put before, which has this print.
+pub fn get_again(rt: &HostRuntime, digits: &str) -> Option<()> {
+    let mut print = [0; 32];
+    hex::decode_to_slice(digits.as_bytes(), &mut print).ok()?;
+    let set = SetPlan::new([0; 16], 6, 2);
+    let mut drives = folders(rt, set.drives)?;
+    let bytes = period(rt.alloc()).ok()?;
+    get(rt.alloc(), set, print, LARGE, bytes.as_slice(), drives.as_mut_slice())
 }
 END
 cat >"$work/crates/whole_bench/src/parts.rt" <<'END'
@@ -462,7 +585,7 @@ END
 
 # The proofs that the loops keep what the calls ask for.
 proofs="$work/crates/whole_bench/proofs"
-mkdir -p "$proofs/bodies/finish" "$proofs/bodies/fresh" "$proofs/bodies/read_on" "$proofs/sinks/sinks"
+mkdir -p "$proofs/bodies/finish" "$proofs/bodies/fresh" "$proofs/bodies/read_on" "$proofs/sinks/sinks" "$proofs/folders/folders"
 echo >"$proofs/Lib.antt"
 cat >"$proofs/bodies/finish/Invariants.antt" <<'END'
 use Rattle.std.proofs.Common.{◌≡◌, ◌+◌, length}
@@ -482,12 +605,19 @@ abbrev pub invariant-loop : goal.invariant-loop
 invariant-loop l = length l.drives.items ≡ l.counter
 END
 sed 's/bodies.fresh/sinks.sinks/' "$proofs/bodies/fresh/Invariants.antt" >"$proofs/sinks/sinks/Invariants.antt"
+cat >"$proofs/folders/folders/Invariants.antt" <<'END'
+use Rattle.std.proofs.Common.{◌≡◌, length}
+use Rattle.whole_bench.proofs.folders.folders.Given as goal
+
+abbrev pub invariant-loop-number : goal.invariant-loop-number
+invariant-loop-number l = length l.drives.items ≡ l.number-counter
+END
 cat >"$proofs/bodies/read_on/Invariants.antt" <<'END'
 use Rattle.std.proofs.Common.{◌≡◌, length}
 use Rattle.whole_bench.proofs.bodies.read_on.Given as goal
 
 abbrev pub invariant-loop-round : goal.invariant-loop-round
-invariant-loop-round l = length l.drives ≡ l.reader.asked.wanted.set.drives
+invariant-loop-round g l = length l.drives ≡ l.reader.asked.wanted.set.drives
 END
 run_program whole_bench
 awk '
@@ -510,4 +640,24 @@ awk '
     END { printf "alone: SHA-256 in lanes %d MB/s of blocks, MD5 %d, encode %d on 4+2 and %d on 2+2, rebuild of blocks at hand %d\n", \
         alone["lanes"], alone["md5"], alone["encode", 6], alone["encode", 4], alone["rebuild"] }' "$work/out"
 program="$work/crates/whole_bench/out/whole_bench"
-echo "most resident memory of PUTs to drives that keep nothing: $(/usr/bin/time -f %M "$program" sinks 2>&1 >"$work/sinks") KiB"
+
+# Over folders, by processor time and by the wall.
+mkdir "$work/root"
+(cd "$work/root" && "$program" folders) >"$work/folders" || fail 1 "the bodies over folders"
+awk '
+    function mib(bytes) { return sprintf("%3d MiB", bytes / 1048576) }
+    $1 == "folder_put" || $1 == "folder_get" { cpu = $4 }
+    $1 == "wall_put" { printf "PUT of %s on %d+2 over folders %8d MB/s by processor time, %d by the wall\n", mib($3), $2 - 2, cpu, $4 }
+    $1 == "wall_get" { printf "GET of %s on %d+2 over folders %8d MB/s by processor time, %d by the wall\n", mib($3), $2 - 2, cpu, $4 }' "$work/folders"
+
+# The most resident memory of a process, in KiB: most_memory WORD..
+most_memory() {
+    (cd "$work/root" && /usr/bin/time -o "$work/memory" -f %M "$program" "$@") >"$work/alone" || fail 1 "$*"
+    cat "$work/memory"
+}
+print="$(awk '$1 == "print" && $2 == 6 { digits = $4 } END { print digits }' "$work/folders")"
+echo "most resident memory of a GET of 256 MiB on 4+2 from folders: $(most_memory get "$print") KiB"
+for set in "6 2" "5 2" "16 8"; do
+    read -r drives parity <<<"$set"
+    echo "most resident memory of a PUT of 256 MiB on $((drives - parity))+$parity to drives that keep nothing: $(most_memory sinks "$drives" "$parity") KiB"
+done
