@@ -95,7 +95,7 @@ unknown="$(refusal '404 Not Found' NoSuchKey 'The specified key does not exist.'
 # A version of a key, an empty body, and a body with its MD5 or another's.
 version="${found/\\r\\n\\r\\nhello/\\r\\n$first\\r\\nhello}"
 marked="$(refusal '404 Not Found' NoSuchKey 'The specified key does not exist.' /pic/a "$marker")"
-is_marker="$(refusal '405 Method Not Allowed' MethodNotAllowed 'The specified version is a delete marker.' "/pic/a?versionId=$marker_id" \
+is_marker="$(refusal '405 Method Not Allowed' MethodNotAllowed 'The specified version is a delete marker.' /pic/a \
     "Allow: DELETE\\r\\nLast-Modified\\r\\n$marker")"
 at_marker="/pic/a?versionId=$marker_id HTTP/1.1\r\n\r\n"
 no_bytes="${stored/5d41402abc4b2a76b9719d911017c592/d41d8cd98f00b204e9800998ecf8427e}"
@@ -244,6 +244,7 @@ curled() {
 
 if command -v curl >/dev/null; then
     mkdir "$work/curled"
+    : >"$work/relay"
     OSTORE="$ostore" python3 "$top/tools/relay.py" 0 --root "$work/curled" >"$work/relay" &
     relay=$!
     until grep -q '^relay: ' "$work/relay" || ! kill -0 "$relay" 2>/dev/null; do sleep 0.1; done

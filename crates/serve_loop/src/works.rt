@@ -20,15 +20,12 @@ pub struct ServeWork<'a, R: Drop, K: Desk<Pass: Drop>, O: Door + Drop, C: Clock>
     pass: K::Pass,
     door: O,
     clock: &'a C,
-    /// The pass and the door as they were when the work was made.
+    /// The pass as it was when the work was made.
     first: Snapshot<K::Pass>,
-    entrance: Snapshot<O>,
     /// The door's count of faults then.
     before: u64,
-    ghost begun: { before ≡ O.faults entrance.value },
     ghost counted: { before ≤ O.faults door },
-    ghost served: { ∥ ServedSince (K.answers desk.now) (C.moment clock.now) (sight O.In.left O.In.faults O.Out.given O.Out.faults) K.holds first.value pass
-        (door_view O.over O.gave O.returned O.faults entrance.value) (door_view O.over O.gave O.returned O.faults door) ∥₁ },
+    ghost served: { ∥ ServedSince (K.answers desk.now) (C.moment clock.now) (sight O.In.left O.In.faults O.Out.given O.Out.faults) K.holds first.value pass ∥₁ },
     ghost fits: { K.fits desk.now (K.holds pass) } by { K.fits_is_fact desk.now (K.holds pass) },
 }
 
@@ -48,10 +45,9 @@ impl<'a, R: Drop, K: Desk<Pass: Drop>, O: Door + Drop, C: Clock> ServeWork<'a, R
         ensures pass { result.pass ≡ pass }
         ensures door { result.door ≡ door }
         ensures first { result.first.value ≡ pass }
-        ensures entrance { result.entrance.value ≡ door }
+        ensures before { result.before ≡ O.faults door }
     {
         let first = Snapshot::of(&pass);
-        let entrance = Snapshot::of(&door);
         let before = door.faults();
         ServeWork {
             rt,
@@ -61,7 +57,6 @@ impl<'a, R: Drop, K: Desk<Pass: Drop>, O: Door + Drop, C: Clock> ServeWork<'a, R
             door,
             clock,
             first,
-            entrance,
             before,
         }
     }
@@ -80,7 +75,6 @@ impl<'a, R: Drop, K: Desk<Pass: Drop>, O: Door + Drop, C: Clock> ServeWork<'a, R
             door,
             clock: _,
             first: _,
-            entrance: _,
             before: _,
         } = self;
         (pass, door)
@@ -93,22 +87,20 @@ impl<
     O: Door + Send + Drop,
     C: Clock + Sync,
 > Work for ServeWork<'_, R, K, O, C> {
-    ghost Kept = { WorkBegan K C K.Pass O };
+    ghost Kept = { WorkBegan K C K.Pass };
 
-    ghost kept = { λ w. work_began w.desk.now w.clock.now w.first.value w.entrance.value };
+    ghost kept = { λ w. work_began w.desk.now w.clock.now w.first.value w.before };
 
-    ghost over = { λ w. IsServedOut (O.over w.door) (O.faults w.entrance.value) (O.faults w.door)
-        × ∥ ServedSince (K.answers w.desk.now) (C.moment w.clock.now) (sight O.In.left O.In.faults O.Out.given O.Out.faults) K.holds w.first.value w.pass
-        (door_view O.over O.gave O.returned O.faults w.entrance.value) (door_view O.over O.gave O.returned O.faults w.door) ∥₁ };
+    ghost over = { λ w. IsServedOut (O.over w.door) w.before (O.faults w.door)
+        × ∥ ServedSince (K.answers w.desk.now) (C.moment w.clock.now) (sight O.In.left O.In.faults O.Out.given O.Out.faults) K.holds w.first.value w.pass ∥₁ };
 
     /// Serves the door, as `serve_door` does; a call that hands on the bound of a door gets no proof in a trait's method.
     fn work(&mut self)
-        ensures over { IsServedOut (O.over self.new.door) (O.faults self.new.entrance.value) (O.faults self.new.door)
+        ensures over { IsServedOut (O.over self.new.door) self.new.before (O.faults self.new.door)
             × ∥ ServedSince (K.answers self.new.desk.now) (C.moment self.new.clock.now) (sight O.In.left O.In.faults O.Out.given O.Out.faults)
-            K.holds self.new.first.value self.new.pass
-            (door_view O.over O.gave O.returned O.faults self.new.entrance.value) (door_view O.over O.gave O.returned O.faults self.new.door) ∥₁ }
-        ensures kept { work_began self.new.desk.now self.new.clock.now self.new.first.value self.new.entrance.value
-            ≡ work_began self.old.desk.now self.old.clock.now self.old.first.value self.old.entrance.value }
+            K.holds self.new.first.value self.new.pass ∥₁ }
+        ensures kept { work_began self.new.desk.now self.new.clock.now self.new.first.value self.new.before
+            ≡ work_began self.old.desk.now self.old.clock.now self.old.first.value self.old.before }
         ensures served { (end : DoorEnd) × DoorServed (K.answers self.old.desk.now) (C.moment self.old.clock.now)
             (sight O.In.left O.In.faults O.Out.given O.Out.faults) end self.old.pass self.new.pass
             (door_view O.over O.gave O.returned O.faults self.old.door) (door_view O.over O.gave O.returned O.faults self.new.door) }
@@ -140,7 +132,6 @@ impl<R: Drop, K: Desk<Pass: Drop>, O: Door + Drop, C: Clock> Drop for ServeWork<
             door: _,
             clock: _,
             first: _,
-            entrance: _,
             before: _,
         } = self;
     }

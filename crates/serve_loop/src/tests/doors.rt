@@ -2,7 +2,7 @@
 
 use super::scripted::{ScriptedDesk, Way};
 use crate::{DoorEnd, ServeWork, serve_door};
-use io_base::{MemClock, MemDoor, MemSink, MemSource, Spawner, Turns};
+use io_base::{MemClock, MemDoor, MemSink, MemSource, Work};
 use std::alloc::Global;
 use std::test::Fail;
 
@@ -71,29 +71,28 @@ fn workers_share_a_desk(rt: HostRuntime) -> Result<(), Fail> {
     let alloc = rt.alloc();
     let desk = ScriptedDesk::new(alloc, Way::Whole)?;
     let clock = MemClock::new(784_111_777);
-    for is_beside in [true, false] {
-        let mut spawner = spawner_of(alloc, is_beside);
-        let mut works = Vec::new(alloc);
-        for _ in 0..2u8 {
-            let door = door_of_three(alloc, Vec::new(alloc))?;
-            works.push(ServeWork::new(rt, alloc, &desk, 0, door, &clock))?;
-        }
-        let spawned = spawner.run_all(&rt, alloc, works);
-        assert_eq!(rt; spawned.done.len(), 2);
-        for work in spawned.done {
-            let (served, door) = work.into_parts();
-            assert_eq!(rt; served, 2);
-            assert_eq!(rt; given_by(door), [DONE.len(), 0, 0]);
-        }
+    let mut one = ServeWork::new(
+        rt,
+        alloc,
+        &desk,
+        0,
+        door_of_three(alloc, Vec::new(alloc))?,
+        &clock,
+    );
+    let mut other = ServeWork::new(
+        rt,
+        alloc,
+        &desk,
+        0,
+        door_of_three(alloc, Vec::new(alloc))?,
+        &clock,
+    );
+    one.work();
+    other.work();
+    for work in [one, other] {
+        let (served, door) = work.into_parts();
+        assert_eq!(rt; served, 2);
+        assert_eq!(rt; given_by(door), [DONE.len(), 0, 0]);
     }
     Ok(())
-}
-
-/// A spawner of threads, or of works in turn.
-fn spawner_of(alloc: Global, is_beside: bool) -> Spawner {
-    if is_beside {
-        Spawner::Threads
-    } else {
-        Spawner::InTurn(Turns::new(Vec::new(alloc)))
-    }
 }
