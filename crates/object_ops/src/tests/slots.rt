@@ -66,6 +66,28 @@ fn late_change(turn: &Turn<Committed>) -> Option<ChangeId> {
     turn.stub.as_ref()?.entry()?.late
 }
 
+/// The change of a register that begins and is refused, with two of four drives lost.
+fn begun_change(
+    rt: &impl Abort,
+    alloc: Global,
+    store: &mut Store,
+    register: Register,
+) -> Result<Option<ChangeId>, Fail> {
+    let turn = change(rt, alloc, store, register, b"later", 2)?;
+    Ok(refused_change(&turn))
+}
+
+/// Whether the next change of a register is done, and the change that it completes for an earlier one.
+fn next_change(
+    rt: &impl Abort,
+    alloc: Global,
+    store: &mut Store,
+    register: Register,
+) -> Result<(bool, Option<ChangeId>), Fail> {
+    let turn = change(rt, alloc, store, register, b"third", 4)?;
+    Ok((turn.answer.is_ok(), late_change(&turn)))
+}
+
 /// Begins a change of one register, which is refused, and does the next one once the drives below this one are back. Tells of which registers a look finds the
 /// same as before, while two drives are lost and at the end, whether one was refused and the next one done, and whether that completed what was refused.
 fn beside(
@@ -76,16 +98,16 @@ fn beside(
 ) -> Result<([bool; 3], [bool; 3], bool, bool), Fail> {
     let mut store = stocked(rt, alloc)?;
     let before = see_all(rt, alloc, &mut store)?;
-    let begun = refused_change(&change(rt, alloc, &mut store, register, b"later", 2)?);
+    let begun = begun_change(rt, alloc, &mut store, register)?;
     let lost = see_all(rt, alloc, &mut store)?;
     befalls(rt, &mut store, (2, back), &mut Back);
-    let next = change(rt, alloc, &mut store, register, b"third", 4)?;
+    let (is_done, late) = next_change(rt, alloc, &mut store, register)?;
     let after = see_all(rt, alloc, &mut store)?;
     Ok((
         same_of(before.as_slice(), lost.as_slice()),
         same_of(before.as_slice(), after.as_slice()),
-        begun.is_some() && next.answer.is_ok(),
-        late_change(&next) == begun,
+        begun.is_some() && is_done,
+        late == begun,
     ))
 }
 
