@@ -1,11 +1,9 @@
-//! Tests of what no clause says: calls on a key over drives in memory, step by step, alone, beside one another, and where drives fail; and sections of its slot.
+//! Tests of what no clause says: calls on a key over drives in memory, step by step, alone, beside one another, and where drives fail.
 
 use drive_base::SetPlan;
 
-mod audits;
 mod callers;
 mod files;
-mod lives;
 mod looks;
 mod opening;
 mod orders;
@@ -13,8 +11,6 @@ mod plans;
 mod puts;
 mod reads;
 mod rows;
-mod sections;
-mod slots;
 mod store;
 mod wires;
 
