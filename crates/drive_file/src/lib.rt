@@ -11,7 +11,10 @@
 //! so a file that was removed may be back after a loss of power.
 //!
 //! [`SharedDrive`] is one of several ways to a drive behind a Mutex, each with a count of the faults that it met itself, or the
-//! only way to a drive, without a lock. [`RootLock`] keeps a second process out of a folder.
+//! only way to a drive, without a lock, which `share` makes one of several in place: so a program opens drives alone and serves
+//! them from several threads, over any drive that is [`Share`]. Ways to one drive have one root, the drive as it was before it
+//! was shared, by which a holder of many ways says which drive each of them leads to. [`RootLock`] keeps a second process out of
+//! a folder.
 //!
 //! It is proved that each call meets the trait `Drive`, how a call changes the names that a drive over a folder knows, how a name
 //! is spelled, and that a lost or closed drive fails each call. What the system does with a file no contract can say: that is
@@ -19,17 +22,19 @@
 //! drive over a folder and a shared one tell nothing.
 //!
 //! The crate stands on `drive_base`, which has the trait and the listing of names, on `fault_base`, which says when a count rose,
-//! and on the kit's `hex` and `thiserror`; its tests and two lemmas on `drive_memory`.
+//! and on the kit's `core`, `hex` and `thiserror`; its tests and two lemmas on `drive_memory`.
 #![tactic(auto)]
 
 mod calls;
 mod drive;
 mod fault;
 mod folders;
+mod lock;
 mod names;
 mod opening;
 mod paths;
 mod root_lock;
+mod share;
 mod shared;
 #[cfg(test)]
 mod tests;
@@ -38,4 +43,5 @@ pub use drive::FileDrive;
 pub use fault::FileFault;
 pub use paths::spelling_laws;
 pub use root_lock::{LockFault, RootLock};
+pub use share::Share;
 pub use shared::SharedDrive;

@@ -1,12 +1,16 @@
 //! A drive that several threads share.
 
-ghost use Rattle.std.specs.Prelude.{◌≡◌, false, IfOk};
-ghost use Rattle.drive_file.specs.SharedDrive.{MetAfter, way_tells, way_files, way_count};
+ghost use Rattle.std.specs.Prelude.{◌≡◌, false, IfErr, IfOk, IsErr, OnErr, OnOk, Some};
+ghost use Rattle.drive_base.specs.Files.{no_files};
+ghost use Rattle.drive_file.specs.SharedDrive.{MetAfter, Shares, way_shared, way_tells, way_files, way_count, way_root};
 
+use crate::Share;
+use crate::lock::Lock;
+use core::mem::replace_with;
 use drive_base::{Drive, DriveFault};
 use fault_base::{NoMemory, count_after};
 use std::alloc::Global;
-use std::sync::{Arc, Mutex, Wait};
+use std::sync::Wait;
 
 /// How a holder comes to the drive.
 #[derive(Drop)]
@@ -14,13 +18,16 @@ pub(crate) enum Way<D> {
     /// The drive itself, of which there is no other holder.
     Alone(D),
     /// A lock that the holders share.
-    Shared(Arc<Mutex<D>>),
+    Shared(Lock<D>),
 }
 
 /// One way to a drive, for one thread. Others may have ways of their own to the same drive.
 ///
 /// A call through a shared way waits until no other way is in a call. A shared way tells nothing, since other calls come
 /// between its own, and counts the faults that it met itself.
+///
+/// Its root, which [`Share`] names, is the drive as it was before it was shared, or of a way that is alone the drive as it is. A
+/// way that `again` gives has the root of the first. What calls did to a shared drive since, no clause says.
 #[derive(Drop)]
 pub struct SharedDrive<R, D> {
     rt: R,
@@ -30,19 +37,19 @@ pub struct SharedDrive<R, D> {
 }
 
 impl<R: Wait + Clone + Drop, D: Drive + Drop> SharedDrive<R, D> {
-    /// The first shared way to a drive, which met no fault yet. The drive comes back where no memory was found.
+    /// The first shared way to a drive, which met no fault yet. The drive comes back, untouched, where no memory was found.
     pub fn new(rt: R, alloc: Global, drive: D) -> Result<SharedDrive<R, D>, D>
+        ensures back { IfErr result (λ back. back ≡ drive) }
         ensures tells { IfOk result (λ shared. ⟦<SharedDrive<R, D> as Drive>⟧.tells shared ≡ false) }
         ensures count { IfOk result (λ shared. ⟦<SharedDrive<R, D> as Drive>⟧.count shared ≡ 0) }
+        ensures root { IfOk result (λ shared. ⟦<SharedDrive<R, D> as Share>⟧.root shared ≡ Some drive) }
     {
-        match Arc::new(alloc, Mutex::new(drive)) {
-            Ok(lock) => Ok(SharedDrive {
-                rt,
-                way: Way::Shared(lock),
-                met: 0,
-            }),
-            Err(refused) => Err(refused.value.into_inner()),
-        }
+        let lock = Lock::new(alloc, drive)?;
+        Ok(SharedDrive {
+            rt,
+            way: Way::Shared(lock),
+            met: 0,
+        })
     }
 
     /// The only way to a drive, without a lock: it tells what the drive tells, and counts as the drive does. It takes no
@@ -51,6 +58,7 @@ impl<R: Wait + Clone + Drop, D: Drive + Drop> SharedDrive<R, D> {
         ensures tells { ⟦<SharedDrive<R, D> as Drive>⟧.tells result ≡ D.tells drive }
         ensures files { ⟦<SharedDrive<R, D> as Drive>⟧.files result ≡ D.files drive }
         ensures count { ⟦<SharedDrive<R, D> as Drive>⟧.count result ≡ D.count drive }
+        ensures root { ⟦<SharedDrive<R, D> as Share>⟧.root result ≡ Some drive }
     {
         SharedDrive {
             rt,
@@ -62,18 +70,50 @@ impl<R: Wait + Clone + Drop, D: Drive + Drop> SharedDrive<R, D> {
     /// One more way to the same drive, which met no fault yet. `NoMemory` where none was found for it, and of a drive
     /// that is alone, which has no other way.
     pub fn again(&self) -> Result<SharedDrive<R, D>, NoMemory>
+        ensures alone { way_shared self.now.way ≡ false → IsErr result }
         ensures tells { IfOk result (λ shared. ⟦<SharedDrive<R, D> as Drive>⟧.tells shared ≡ false) }
         ensures count { IfOk result (λ shared. ⟦<SharedDrive<R, D> as Drive>⟧.count shared ≡ 0) }
+        ensures root { IfOk result (λ shared. ⟦<SharedDrive<R, D> as Share>⟧.root shared
+            ≡ ⟦<SharedDrive<R, D> as Share>⟧.root self.now) }
     {
         let Way::Shared(lock) = &self.way else {
             return Err(NoMemory);
         };
-        let lock = Arc::try_clone(lock)?;
+        let lock = lock.again()?;
         Ok(SharedDrive {
             rt: self.rt.clone()?,
             way: Way::Shared(lock),
             met: 0,
         })
+    }
+
+    /// Shares the drive in place, so that it may have other ways from then on: it tells nothing any more, and has met no fault
+    /// yet. Where no memory was found it stays as it was. One that is shared stays so, takes no memory, and counts anew.
+    pub fn share(&mut self, alloc: Global) -> Result<(), NoMemory>
+        ensures way { Shares result self.old.way self.new.way }
+        ensures stays { OnErr result (self.new ≡ self.old) }
+        ensures tells { OnOk result (⟦<SharedDrive<R, D> as Drive>⟧.tells self.new ≡ false) }
+        ensures files { OnOk result (⟦<SharedDrive<R, D> as Drive>⟧.files self.new ≡ no_files) }
+        ensures count { OnOk result (⟦<SharedDrive<R, D> as Drive>⟧.count self.new ≡ 0) }
+        ensures root { ⟦<SharedDrive<R, D> as Share>⟧.root self.new ≡ ⟦<SharedDrive<R, D> as Share>⟧.root self.old }
+    {
+        replace_with(&mut self.way, alloc, shared_way)?;
+        self.met = 0;
+        Ok(())
+    }
+}
+
+/// The shared way to the drive of a way, which stays as it was where no memory was found.
+fn shared_way<D: Drop>(way: Way<D>, alloc: Global) -> (Way<D>, Result<(), NoMemory>)
+    ensures way { Shares result.1 way result.0 }
+    ensures root { way_root result.0 ≡ way_root way }
+{
+    match way {
+        Way::Alone(drive) => match Lock::new(alloc, drive) {
+            Ok(lock) => (Way::Shared(lock), Ok(())),
+            Err(drive) => (Way::Alone(drive), Err(NoMemory)),
+        },
+        Way::Shared(lock) => (Way::Shared(lock), Ok(())),
     }
 }
 

@@ -1,10 +1,13 @@
 //! Drives that are shared.
 
+ghost use Rattle.std.specs.Prelude.{◌≡◌, IfOk};
+
 use super::{letters, line, place, read_four};
-use crate::SharedDrive;
+use crate::{Share, SharedDrive};
 use drive_base::{Drive, DriveFault};
 use drive_memory::MemDrive;
 use fault_base::NoMemory;
+use std::alloc::Global;
 use std::sync::Wait;
 use std::test::Fail;
 use std::thread;
@@ -53,6 +56,46 @@ fn a_drive_alone_has_no_other_way(rt: HostRuntime) -> Result<(), Fail> {
     place(&mut alone, "a", b"abc")?;
     assert_eq!(rt; read_four(&mut alone, "a", 0)?, (3, *b"abc-"));
     assert_eq!(rt; alone.again().err(), Some(NoMemory));
+    Ok(())
+}
+
+/// Shares a drive in place, and gives another way to it.
+fn shared_once_more<D: Share>(drive: &mut D, alloc: Global) -> Result<D, NoMemory>
+    ensures way { IfOk result (λ way. D.root way ≡ D.root drive.old) }
+    ensures drive { D.root drive.new ≡ D.root drive.old }
+{
+    drive.share(alloc)?;
+    drive.again()
+}
+
+#[test]
+fn a_drive_is_shared_in_place(rt: HostRuntime) -> Result<(), Fail> {
+    let alloc = rt.alloc();
+    let mut drive = MemDrive::new(alloc);
+    drive.fuse(3, false);
+    let mut first = SharedDrive::alone(rt, drive);
+    place(&mut first, "a", b"abc")?;
+    // Every call fails from here on; what met that while it was alone is not counted by a shared way.
+    assert_eq!(rt; letters(&mut first, "a"), ['f'; 6]);
+    let second = shared_once_more(&mut first, alloc)?;
+    assert_eq!(rt; (first.faults(), second.faults()), (0, 0));
+    assert_eq!(rt; first.sync("a").err(), Some(DriveFault::Failed));
+    assert_eq!(rt; (first.faults(), second.faults()), (1, 0));
+    // Of one that is shared it makes the same way anew.
+    first.share(alloc)?;
+    assert_eq!(rt; first.faults(), 0);
+    Ok(())
+}
+
+#[test]
+fn another_way_reads_what_the_first_wrote(rt: HostRuntime) -> Result<(), Fail> {
+    let alloc = rt.alloc();
+    let mut first = SharedDrive::alone(rt, MemDrive::new(alloc));
+    place(&mut first, "a", b"abc")?;
+    let mut second = shared_once_more(&mut first, alloc)?;
+    place(&mut first, "b", b"de")?;
+    assert_eq!(rt; read_four(&mut second, "a", 0)?, (3, *b"abc-"));
+    assert_eq!(rt; read_four(&mut second, "b", 0)?, (2, *b"de--"));
     Ok(())
 }
 
