@@ -7,7 +7,7 @@ use Rattle.io_base.specs.Door.{IsOwed, told_more}
 use Rattle.call_types.specs.declared.feed.Cut.{Cut}
 use Rattle.desk_base.specs.Answering.{Task}
 use Rattle.desk_base.specs.Telling.{Telling}
-use Rattle.serve_loop.specs.Doors.{AreVisited, DoorServed, DoorView, GaveVisits, IsEven, IsVisited, RoundGoes, ServedSince, ServesOne, Sight, Visit, given_of, returned_of, told_all}
+use Rattle.serve_loop.specs.Doors.{AreVisited, DoorEndsSo, DoorServed, DoorView, GaveVisits, IsEven, IsVisited, RoundGoes, ServedSince, ServesOne, Sight, Visit, given_of, returned_of, told_all}
 use Rattle.serve_loop.specs.declared.doors.DoorEnd.{DoorEnd}
 use Rattle.serve_loop.specs.declared.doors.DoorEnd.TheVariants.{Over, DoorFailed}
 use Rattle.serve_loop.specs.declared.doors.Round.TheVariants as round
@@ -44,7 +44,8 @@ module _ {S T : Type 0} where
     shut = λ over. refl;
   }
 
-  visits_more : (vs ws : List (Visit S T)) (old mid new : DoorView S T) → GaveVisits vs old mid → mid.over ≡ old.over → GaveVisits ws mid new → GaveVisits (vs ++ ws) old new
+  visits_more : (vs ws : List (Visit S T)) (old mid new : DoorView S T) → GaveVisits vs old mid → (old.over ≡ true → mid.over ≡ true) → GaveVisits ws mid new
+      → GaveVisits (vs ++ ws) old new
   visits_more vs ws old mid new first over more = record {
     gave = more.gave ∙ ap (λ k. told_all k (map given_of ws)) first.gave ∙ told_both old.gave (map given_of vs) (map given_of ws)
         ∙ ap (told_all old.gave) (sym (map-append given_of vs ws));
@@ -55,7 +56,7 @@ module _ {S T : Type 0} where
         (even_more old.gave old.returned (map given_of vs) (map returned_of vs) (as_many vs) even)) in
         more.returned now_even ∙ ap (λ k. told_all k (map returned_of ws)) came ∙ told_both old.returned (map returned_of vs) (map returned_of ws)
         ∙ ap (told_all old.returned) (sym (map-append returned_of vs ws));
-    shut = λ shut. ap (λ l. l ++ ws) (first.shut shut) ∙ more.shut (over ∙ shut);
+    shut = λ shut. ap (λ l. l ++ ws) (first.shut shut) ∙ more.shut (over shut);
   }
 
   -- one pair was given, and came back
@@ -101,7 +102,7 @@ module _ {M R S T : Type 0} (answers : Task → M → M → List ℕ → List Te
   door_more old mid new start here there so_far one = record {
     visits = so_far.visits ++ one.visit ∷ [];
     visited = visited_more so_far.visits (one.visit ∷ []) old mid new so_far.visited (new, one.visited, refl);
-    passed = visits_more so_far.visits (one.visit ∷ []) start here there so_far.passed so_far.over one.passed;
+    passed = visits_more so_far.visits (one.visit ∷ []) start here there so_far.passed (λ shut. so_far.over ∙ shut) one.passed;
     over = one.over ∙ so_far.over;
     counted = one.counted ∙ so_far.counted;
   }
@@ -111,7 +112,7 @@ module _ {M R S T : Type 0} (answers : Task → M → M → List ℕ → List Te
   door_over old mid new start here there so_far goes = record {
     visits = so_far.visits ++ [];
     visited = visited_more so_far.visits [] old mid new so_far.visited (sym goes.0);
-    passed = visits_more so_far.visits [] start here there so_far.passed so_far.over goes.1;
+    passed = visits_more so_far.visits [] start here there so_far.passed (λ shut. so_far.over ∙ shut) goes.1;
     ends = (goes.2, goes.3 ∙ so_far.counted);
   }
 
@@ -120,7 +121,7 @@ module _ {M R S T : Type 0} (answers : Task → M → M → List ℕ → List Te
   door_failed old mid new start here there before after so_far goes first last = record {
     visits = so_far.visits ++ [];
     visited = visited_more so_far.visits [] old mid new so_far.visited (sym goes.0);
-    passed = visits_more so_far.visits [] start here there so_far.passed so_far.over goes.1;
+    passed = visits_more so_far.visits [] start here there so_far.passed (λ shut. so_far.over ∙ shut) goes.1;
     ends = (goes.2 ∙ so_far.over, first, last, subst (λ n. Rose n there.faults) so_far.counted goes.3);
   }
 
@@ -135,16 +136,23 @@ module _ {M R S T : Type 0} (answers : Task → M → M → List ℕ → List Te
   ends_failed old mid start here there so_far gave returned over counted =
       door_failed old mid mid start here there start.faults there.faults so_far (refl, visits_none here there gave returned, over, counted) refl refl
 
+  -- a door that was over is over when it was served
+  stays_over : (end : DoorEnd) (old new : DoorView S T) → DoorEndsSo end old new → old.over ≡ true → new.over ≡ true
+  stays_over Over old new ends shut = ends.0
+  stays_over (DoorFailed before after) old new ends shut = ends.0 ∙ shut
+
   module _ {H : Type 0} (holds : M → H) where
     -- nothing was served yet
-    pub since_none : (old : M) → ServedSince answers clock seen holds old old
-    since_none old = record { holds_still = refl; visits = []; visited = refl }
+    pub since_none : (old : M) (start : DoorView S T) → ServedSince answers clock seen holds old old start start
+    since_none old start = record { holds_still = refl; visits = []; visited = refl; passed = visits_none start start refl refl; shut = λ shut. shut }
 
     -- a door was served once more
-    pub since_more : (old mid new : M) (start here : DoorView S T) (end : DoorEnd) → ServedSince answers clock seen holds old mid
-        → holds new ≡ holds mid → DoorServed answers clock seen end mid new start here → ServedSince answers clock seen holds old new
-    since_more old mid new start here end since stays served = record {
+    pub since_more : (old mid new : M) (start here there : DoorView S T) (end : DoorEnd) → ServedSince answers clock seen holds old mid start here
+        → holds new ≡ holds mid → DoorServed answers clock seen end mid new here there → ServedSince answers clock seen holds old new start there
+    since_more old mid new start here there end since stays served = record {
       holds_still = stays ∙ since.holds_still;
       visits = since.visits ++ served.visits;
       visited = visited_more since.visits served.visits old mid new since.visited served.visited;
+      passed = visits_more since.visits served.visits start here there since.passed since.shut served.passed;
+      shut = λ shut. stays_over end here there served.ends (since.shut shut);
     }

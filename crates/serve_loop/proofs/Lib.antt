@@ -6,6 +6,7 @@ pub mod HeadLemmas
 pub mod IntakeLemmas
 pub mod RestLemmas
 pub mod ScriptLemmas
+pub mod SendLemmas
 pub mod SessionLemmas
 pub mod TellingLemmas
 pub mod TurnLemmas

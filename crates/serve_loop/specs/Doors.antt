@@ -81,16 +81,16 @@ DoorEndsSo (DoorFailed before after) old new =
 abbrev pub IsServedOut : (over : Bool) → (before now : ℕ) → Type 0
 IsServedOut over before now = (over ≡ true) ⊎ Rose before now
 
--- what a work was made with, which stays: its desk and its clock, the pass that it was given, and its door's count of faults
-pub record WorkBegan (K C P : Type 0) : Type 0 where
+-- what a work was made with, which stays: its desk and its clock, and the pass and the door that it was given
+pub record WorkBegan (K C P O : Type 0) : Type 0 where
   pub desk : K
   pub clock : C
   pub pass : P
-  pub before : ℕ
+  pub door : O
 
 -- that, from its parts
-abbrev pub work_began : {K C P : Type 0} → K → C → P → ℕ → WorkBegan K C P
-work_began desk clock pass before = record { desk = desk; clock = clock; pass = pass; before = before }
+abbrev pub work_began : {K C P O : Type 0} → K → C → P → O → WorkBegan K C P O
+work_began desk clock pass door = record { desk = desk; clock = clock; pass = pass; door = door }
 
 module _ {M R S T : Type 0} (answers : Task → M → M → List ℕ → List Telling → Result R Cut → Type 0) (clock : Option ℕ) (seen : Sight S T) where
   -- a connection was served, and how it ended
@@ -110,11 +110,13 @@ module _ {M R S T : Type 0} (answers : Task → M → M → List ℕ → List Te
     pub passed : GaveVisits visits before after
     pub ends : DoorEndsSo end before after
 
-  -- connections were served over a pass since it was so, one after another; what the pass holds is what it held
-  pub record ServedSince {H : Type 0} (holds : M → H) (old now : M) : Type 0 where
+  -- connections were served over a pass since it was so, one after another, and each of them came back; what the pass holds is what it held
+  pub record ServedSince {H : Type 0} (holds : M → H) (old now : M) (start here : DoorView S T) : Type 0 where
     pub holds_still : holds now ≡ holds old
     pub visits : List (Visit S T)
     pub visited : AreVisited old visits now
+    pub passed : GaveVisits visits start here
+    pub shut : start.over ≡ true → here.over ≡ true
 
   -- one connection was served
   pub record ServesOne (old new : M) (before after : DoorView S T) : Type 0 where

@@ -7,3 +7,4 @@ pub mod Seen
 pub mod Session
 pub mod Telling
 pub mod Turns
+pub mod Works

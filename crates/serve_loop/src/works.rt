@@ -20,16 +20,23 @@ pub struct ServeWork<'a, R: Drop, K: Desk<Pass: Drop>, O: Door + Drop, C: Clock>
     pass: K::Pass,
     door: O,
     clock: &'a C,
-    /// The pass as it was when the work was made.
+    /// The pass and the door as they were when the work was made.
     first: Snapshot<K::Pass>,
+    entrance: Snapshot<O>,
     /// The door's count of faults then.
     before: u64,
+    ghost begun: { before ≡ O.faults entrance.value },
     ghost counted: { before ≤ O.faults door },
-    ghost served: { ∥ ServedSince (K.answers desk.now) (C.moment clock.now) (sight O.In.left O.In.faults O.Out.given O.Out.faults) K.holds first.value pass ∥₁ },
+    ghost served: { ∥ ServedSince (K.answers desk.now) (C.moment clock.now) (sight O.In.left O.In.faults O.Out.given O.Out.faults) K.holds first.value pass
+        (door_view O.over O.gave O.returned O.faults entrance.value) (door_view O.over O.gave O.returned O.faults door) ∥₁ },
     ghost fits: { K.fits desk.now (K.holds pass) } by { K.fits_is_fact desk.now (K.holds pass) },
 }
 
 impl<'a, R: Drop, K: Desk<Pass: Drop>, O: Door + Drop, C: Clock> ServeWork<'a, R, K, O, C> {
+    ghost use Rattle.std.specs.Prelude.{IsTrue};
+    ghost use Rattle.fault_base.specs.Counts.{Rose};
+    ghost use Rattle.serve_loop.specs.Works.{began_of, desk_of, door_of, entrance_of, pass_of};
+
     /// A work that was not begun. It takes no memory.
     pub fn new(
         rt: R,
@@ -40,14 +47,12 @@ impl<'a, R: Drop, K: Desk<Pass: Drop>, O: Door + Drop, C: Clock> ServeWork<'a, R
         clock: &'a C,
     ) -> ServeWork<'a, R, K, O, C>
         requires fits { K.fits desk.now (K.holds pass) }
-        ensures desk { result.desk.now ≡ desk.now }
-        ensures clock { result.clock.now ≡ clock.now }
-        ensures pass { result.pass ≡ pass }
-        ensures door { result.door ≡ door }
-        ensures first { result.first.value ≡ pass }
-        ensures before { result.before ≡ O.faults door }
+        ensures began { began_of result ≡ work_began desk.now clock.now pass door }
+        ensures pass { pass_of result ≡ pass }
+        ensures door { door_of result ≡ door }
     {
         let first = Snapshot::of(&pass);
+        let entrance = Snapshot::of(&door);
         let before = door.faults();
         ServeWork {
             rt,
@@ -57,15 +62,26 @@ impl<'a, R: Drop, K: Desk<Pass: Drop>, O: Door + Drop, C: Clock> ServeWork<'a, R
             door,
             clock,
             first,
+            entrance,
             before,
         }
     }
 
+    /// Whether the door failed since the work was made.
+    pub fn has_failed(&self) -> bool
+        ensures failed { IsTrue result → Rose (O.faults (entrance_of self.now)) (O.faults (door_of self.now)) }
+        ensures held { (IsTrue result → ⊥) → Rose (O.faults (entrance_of self.now)) (O.faults (door_of self.now)) → ⊥ }
+        ensures still { (IsTrue result → ⊥) → O.faults (door_of self.now) ≡ O.faults (entrance_of self.now) }
+    {
+        let now = self.door.faults();
+        self.before < now || now == u64::MAX
+    }
+
     /// The pass and the door.
     pub fn into_parts(self) -> (K::Pass, O)
-        ensures fits { K.fits self.entry.desk.now (K.holds result.0) }
-        ensures pass { result.0 ≡ self.entry.pass }
-        ensures door { result.1 ≡ self.entry.door }
+        ensures fits { K.fits (desk_of self.entry) (K.holds result.0) }
+        ensures pass { result.0 ≡ pass_of self.entry }
+        ensures door { result.1 ≡ door_of self.entry }
     {
         let Self {
             rt: _,
@@ -75,6 +91,7 @@ impl<'a, R: Drop, K: Desk<Pass: Drop>, O: Door + Drop, C: Clock> ServeWork<'a, R
             door,
             clock: _,
             first: _,
+            entrance: _,
             before: _,
         } = self;
         (pass, door)
@@ -87,20 +104,22 @@ impl<
     O: Door + Send + Drop,
     C: Clock + Sync,
 > Work for ServeWork<'_, R, K, O, C> {
-    ghost Kept = { WorkBegan K C K.Pass };
+    ghost Kept = { WorkBegan K C K.Pass O };
 
-    ghost kept = { λ w. work_began w.desk.now w.clock.now w.first.value w.before };
+    ghost kept = { λ w. work_began w.desk.now w.clock.now w.first.value w.entrance.value };
 
-    ghost over = { λ w. IsServedOut (O.over w.door) w.before (O.faults w.door)
-        × ∥ ServedSince (K.answers w.desk.now) (C.moment w.clock.now) (sight O.In.left O.In.faults O.Out.given O.Out.faults) K.holds w.first.value w.pass ∥₁ };
+    ghost over = { λ w. IsServedOut (O.over w.door) (O.faults w.entrance.value) (O.faults w.door)
+        × ∥ ServedSince (K.answers w.desk.now) (C.moment w.clock.now) (sight O.In.left O.In.faults O.Out.given O.Out.faults) K.holds w.first.value w.pass
+        (door_view O.over O.gave O.returned O.faults w.entrance.value) (door_view O.over O.gave O.returned O.faults w.door) ∥₁ };
 
     /// Serves the door, as `serve_door` does; a call that hands on the bound of a door gets no proof in a trait's method.
     fn work(&mut self)
-        ensures over { IsServedOut (O.over self.new.door) self.new.before (O.faults self.new.door)
+        ensures over { IsServedOut (O.over self.new.door) (O.faults self.new.entrance.value) (O.faults self.new.door)
             × ∥ ServedSince (K.answers self.new.desk.now) (C.moment self.new.clock.now) (sight O.In.left O.In.faults O.Out.given O.Out.faults)
-            K.holds self.new.first.value self.new.pass ∥₁ }
-        ensures kept { work_began self.new.desk.now self.new.clock.now self.new.first.value self.new.before
-            ≡ work_began self.old.desk.now self.old.clock.now self.old.first.value self.old.before }
+            K.holds self.new.first.value self.new.pass
+            (door_view O.over O.gave O.returned O.faults self.new.entrance.value) (door_view O.over O.gave O.returned O.faults self.new.door) ∥₁ }
+        ensures kept { work_began self.new.desk.now self.new.clock.now self.new.first.value self.new.entrance.value
+            ≡ work_began self.old.desk.now self.old.clock.now self.old.first.value self.old.entrance.value }
         ensures served { (end : DoorEnd) × DoorServed (K.answers self.old.desk.now) (C.moment self.old.clock.now)
             (sight O.In.left O.In.faults O.Out.given O.Out.faults) end self.old.pass self.new.pass
             (door_view O.over O.gave O.returned O.faults self.old.door) (door_view O.over O.gave O.returned O.faults self.new.door) }
@@ -132,6 +151,7 @@ impl<R: Drop, K: Desk<Pass: Drop>, O: Door + Drop, C: Clock> Drop for ServeWork<
             door: _,
             clock: _,
             first: _,
+            entrance: _,
             before: _,
         } = self;
     }

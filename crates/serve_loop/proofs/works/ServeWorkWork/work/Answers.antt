@@ -49,7 +49,7 @@ invariant_of-self-clause-served g c =
     let view = door_view g.O.Door.over g.O.Door.gave g.O.Door.returned g.O.Door.faults in
     ∥∥₁_map c.args.self.now.served (λ since. since_more (g.K.Desk.answers c.args.self.now.desk.now) (g.C.Clock.moment c.args.self.now.clock.now)
     (sight g.O.In.Source.left g.O.In.Source.faults g.O.Out.Sink.given g.O.Out.Sink.faults)
-    g.K.Desk.holds _ _ _ _ _ _ since c.rounds.invariant.holds (ends_over (g.K.Desk.answers c.args.self.now.desk.now) (g.C.Clock.moment c.args.self.now.clock.now)
+    g.K.Desk.holds _ _ _ _ _ _ _ since c.rounds.invariant.holds (ends_over (g.K.Desk.answers c.args.self.now.desk.now) (g.C.Clock.moment c.args.self.now.clock.now)
     (sight g.O.In.Source.left g.O.In.Source.faults g.O.Out.Sink.given g.O.Out.Sink.faults)
     c.args.self.now.pass c.rounds.pass (view c.args.self.now.door) (view c.rounds.door) (view c.next-in-rounds.new.self) c.rounds.invariant.so_far
     (rw c.in-Ok-None.field-0-is at c.in-Ok-None.ensures.gave) c.in-Ok-None.ensures.returned (rw c.in-Ok-None.field-0-is at c.in-Ok-None.ensures.over) c.in-Ok-None.ensures.counted))
@@ -59,7 +59,7 @@ invariant_of-self-in-Err-clause-served g c =
     let view = door_view g.O.Door.over g.O.Door.gave g.O.Door.returned g.O.Door.faults in
     ∥∥₁_map c.args.self.now.served (λ since. since_more (g.K.Desk.answers c.args.self.now.desk.now) (g.C.Clock.moment c.args.self.now.clock.now)
     (sight g.O.In.Source.left g.O.In.Source.faults g.O.Out.Sink.given g.O.Out.Sink.faults)
-    g.K.Desk.holds _ _ _ _ _ _ since c.rounds.invariant.holds (ends_failed (g.K.Desk.answers c.args.self.now.desk.now) (g.C.Clock.moment c.args.self.now.clock.now)
+    g.K.Desk.holds _ _ _ _ _ _ _ since c.rounds.invariant.holds (ends_failed (g.K.Desk.answers c.args.self.now.desk.now) (g.C.Clock.moment c.args.self.now.clock.now)
     (sight g.O.In.Source.left g.O.In.Source.faults g.O.Out.Sink.given g.O.Out.Sink.faults)
     c.args.self.now.pass c.rounds.pass (view c.args.self.now.door) (view c.rounds.door) (view c.next-in-rounds.new.self) c.rounds.invariant.so_far
     c.in-Err.ensures.gave c.in-Err.ensures.returned c.in-Err.ensures.over c.in-Err.ensures.counted))

@@ -1,0 +1,27 @@
+-- What is seen of the work of serving a door.
+use Rattle.desk_base.specs.declared.desk.Desk.{Ghosts as DeskGhosts}
+use Rattle.io_base.specs.declared.clock.Clock.{Ghosts as ClockGhosts}
+use Rattle.io_base.specs.declared.door.Door.{Ghosts as DoorGhosts}
+use Rattle.io_base.specs.declared.sink.Sink.{Ghosts as SinkGhosts}
+use Rattle.io_base.specs.declared.source.Source.{Ghosts as SourceGhosts}
+use Rattle.serve_loop.specs.Doors.{WorkBegan, work_began}
+use Rattle.serve_loop.specs.declared.works.ServeWork.{ServeWork}
+
+module _ {R K O C P X S T : Type 0} {desk : DeskGhosts K P X} {door : DoorGhosts O S T} {source : SourceGhosts S} {sink : SinkGhosts T} {clock : ClockGhosts C} where
+  -- what it was made with
+  abbrev pub began_of : ServeWork R K O C P X S T desk door source sink clock → WorkBegan K C P O
+  began_of work = work_began work.desk.now work.clock.now work.first.value work.entrance.value
+
+  -- of that its desk and its door
+  abbrev pub desk_of : ServeWork R K O C P X S T desk door source sink clock → K
+  desk_of work = work.desk.now
+
+  abbrev pub entrance_of : ServeWork R K O C P X S T desk door source sink clock → O
+  entrance_of work = work.entrance.value
+
+  -- its pass and its door as they are now
+  abbrev pub pass_of : ServeWork R K O C P X S T desk door source sink clock → P
+  pass_of work = work.pass
+
+  abbrev pub door_of : ServeWork R K O C P X S T desk door source sink clock → O
+  door_of work = work.door
