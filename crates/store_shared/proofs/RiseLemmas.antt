@@ -20,22 +20,22 @@ use Rattle.store_shared.specs.SharedLaws.{HasTurns, SharedAnswersHaveTurns, Turn
 use Rattle.store_shared.specs.SharedPasses.{passes_in, reach_at, set_held, shared_holds}
 use Rattle.store_shared.specs.Turned.{name_of}
 
-module _ {D A : Type 0} (plan : SetPlan) (k : ℕ) where
+module _ {D A : Type 0} (ghosts : Ghosts D) (entries : A → Option (List Entry)) (count : A → ℕ) (plan : SetPlan) (k : ℕ) where
   -- a pass that was only refused has made no turn
-  turns_stay : (why : Barred) (log : Log) (was mid now : PassSeen D A) → PassBarred why was mid → HasTurns plan k log mid now → HasTurns plan k log was now
+  turns_stay : (why : Barred) (log : Log) (was mid now : PassSeen D A) → PassBarred why was mid → HasTurns ghosts entries count plan k log mid now → HasTurns ghosts entries count plan k log was now
   turns_stay barred.Spent log was mid now bars x = record {
     turns = x.turns;
     has = x.has ∙ ap (λ (p : PassSeen D A). p.turns ++ x.turns) bars;
     rise = subst (λ (p : PassSeen D A). TurnsRise p.seen x.turns now.seen) bars x.rise;
     of_log = x.of_log;
   }
-  turns_stay barred.NoMemory log was mid now bars x = subst (λ p. HasTurns plan k log p now) bars x
+  turns_stay barred.NoMemory log was mid now bars x = subst (λ p. HasTurns ghosts entries count plan k log p now) bars x
 
 module _ {D A T : Type 0} (ghosts : Ghosts D) (entries : A → Option (List Entry)) (count : A → ℕ) (takes breaks : Effect T) (plan : SetPlan) (k : ℕ) (d : PassSeen D A) where
   pub turns_rise : (log : Log) (old new : Reach D A T) → RanAmong ghosts entries count takes breaks plan log old new → k < length old.passes
-      → HasTurns plan k log (get_or old.passes k d) (get_or new.passes k d)
+      → HasTurns ghosts entries count plan k log (get_or old.passes k d) (get_or new.passes k d)
   turns_rise [] old new ran inside =
-      subst (λ (r : Reach D A T). HasTurns plan k [] (get_or old.passes k d) (get_or r.passes k d)) (sym ran)
+      subst (λ (r : Reach D A T). HasTurns ghosts entries count plan k [] (get_or old.passes k d) (get_or r.passes k d)) (sym ran)
       (record { turns = []; has = sym (append-nil (get_or old.passes k d).turns); rise = refl; of_log = refl })
   turns_rise (Turned slot made shown ∷ log) old new (mid, step, ran) inside =
       let passes = ap (λ (r : Reach D A T). r.passes) step.leaves in
@@ -47,8 +47,8 @@ module _ {D A T : Type 0} (ghosts : Ghosts D) (entries : A → Option (List Entr
       let was : get_or old.passes k d ≡ step.was = ap (λ n. get_or old.passes n d) (sym same) ∙ step.is.1 d in
       let mid_is : get_or mid.passes k d ≡ now = ap (λ p. get_or p k d) passes
       ∙ (ap (λ n. get_or (set old.passes n now) k d) same ∙ get_or-set_same old.passes k now d inside) in
-      let later = subst (λ p. HasTurns plan k log p (get_or new.passes k d)) mid_is rest in
-      subst (λ p. HasTurns plan k (Turned slot made shown ∷ log) p (get_or new.passes k d)) (sym was)
+      let later = subst (λ p. HasTurns ghosts entries count plan k log p (get_or new.passes k d)) mid_is rest in
+      subst (λ p. HasTurns ghosts entries count plan k (Turned slot made shown ∷ log) p (get_or new.passes k d)) (sym was)
       (record {
         turns = step.turn ∷ later.turns;
         has = later.has ∙ append_assoc step.was.turns (step.turn ∷ []) later.turns;
@@ -62,6 +62,7 @@ module _ {D A T : Type 0} (ghosts : Ghosts D) (entries : A → Option (List Entr
             slot = subst (λ n. name_of step.turn.from ≡ record { set = plan; index = n }) same step.comes.slot;
             ticket = step.comes.ticket;
             noted = step.moves.note_is;
+            did = record { claim = old.claim; later = mid.claim; disks = old.disks; disks_after = step.disks; moves = step.moves };
           },
           later.of_log,
         );
@@ -69,7 +70,7 @@ module _ {D A T : Type 0} (ghosts : Ghosts D) (entries : A → Option (List Entr
       (λ other.
       let mid_is : get_or mid.passes k d ≡ get_or old.passes k d = ap (λ p. get_or p k d) passes
       ∙ get_or-set_other old.passes slot k now d (λ e. other (sym e)) in
-      let later = subst (λ p. HasTurns plan k log p (get_or new.passes k d)) mid_is rest in
+      let later = subst (λ p. HasTurns ghosts entries count plan k log p (get_or new.passes k d)) mid_is rest in
       record { turns = later.turns; has = later.has; rise = later.rise; of_log = inl (other, later.of_log) })
   turns_rise (BarredFrom slot why ∷ log) old new (mid, step, ran) inside =
       let passes = ap (λ (r : Reach D A T). r.passes) step.leaves in
@@ -80,24 +81,24 @@ module _ {D A T : Type 0} (ghosts : Ghosts D) (entries : A → Option (List Entr
       let was : get_or old.passes k d ≡ step.was = ap (λ n. get_or old.passes n d) (sym same) ∙ step.is.1 d in
       let mid_is : get_or mid.passes k d ≡ step.now = ap (λ p. get_or p k d) passes
       ∙ (ap (λ n. get_or (set old.passes n step.now) k d) same ∙ get_or-set_same old.passes k step.now d inside) in
-      subst (λ p. HasTurns plan k log p (get_or new.passes k d)) (sym was)
-      (turns_stay plan k why log step.was step.now (get_or new.passes k d) step.bars
-      (subst (λ p. HasTurns plan k log p (get_or new.passes k d)) mid_is rest)))
+      subst (λ p. HasTurns ghosts entries count plan k log p (get_or new.passes k d)) (sym was)
+      (turns_stay ghosts entries count plan k why log step.was step.now (get_or new.passes k d) step.bars
+      (subst (λ p. HasTurns ghosts entries count plan k log p (get_or new.passes k d)) mid_is rest)))
       (λ other.
       let mid_is : get_or mid.passes k d ≡ get_or old.passes k d = ap (λ p. get_or p k d) passes
       ∙ get_or-set_other old.passes slot k step.now d (λ e. other (sym e)) in
-      subst (λ p. HasTurns plan k log p (get_or new.passes k d)) mid_is rest) in
+      subst (λ p. HasTurns ghosts entries count plan k log p (get_or new.passes k d)) mid_is rest) in
       record { turns = on.turns; has = on.has; rise = on.rise; of_log = on.of_log }
   turns_rise (Called drive seen ∷ log) old new (mid, step, ran) inside =
-      let on = subst (λ p. HasTurns plan k log (get_or p k d) (get_or new.passes k d)) step.0
+      let on = subst (λ p. HasTurns ghosts entries count plan k log (get_or p k d) (get_or new.passes k d)) step.0
       (turns_rise log mid new ran (subst (λ p. k < length p) (sym step.0) inside)) in
       record { turns = on.turns; has = on.has; rise = on.rise; of_log = on.of_log }
   turns_rise (Fed bytes cut ∷ log) old new (mid, step, ran) inside =
-      let on = subst (λ p. HasTurns plan k log (get_or p k d) (get_or new.passes k d)) step.0
+      let on = subst (λ p. HasTurns ghosts entries count plan k log (get_or p k d) (get_or new.passes k d)) step.0
       (turns_rise log mid new ran (subst (λ p. k < length p) (sym step.0) inside)) in
       record { turns = on.turns; has = on.has; rise = on.rise; of_log = on.of_log }
   turns_rise (Told telling cut ∷ log) old new (mid, step, ran) inside =
-      let on = subst (λ p. HasTurns plan k log (get_or p k d) (get_or new.passes k d)) step.0
+      let on = subst (λ p. HasTurns ghosts entries count plan k log (get_or p k d) (get_or new.passes k d)) step.0
       (turns_rise log mid new ran (subst (λ p. k < length p) (sym step.0) inside)) in
       record { turns = on.turns; has = on.has; rise = on.rise; of_log = on.of_log }
 
@@ -110,7 +111,7 @@ module _ {D A : Type 0} (ghosts : Ghosts D) (entries : A → Option (List Entry)
       let count_was = before.count in
       let count_now = after.count in
       let d = seen_in {D = D} {A = A} None in
-      subst₂ (λ p q. HasTurns (set_held (shared_holds before)) k answers.log p q)
+      subst₂ (λ p q. HasTurns ghosts entries count (set_held (shared_holds before)) k answers.log p q)
       (get_or-map seen_in was k None d (omega (arith, count_was, below))) (get_or-map seen_in now k None d (omega (arith, count_now, below)))
       (turns_rise ghosts entries count any_effect any_effect (set_held (shared_holds before)) k d answers.log
       (reach_at ghosts before answers.feed (any_teller answers.faults) (no_claim answers.slot))

@@ -4,18 +4,23 @@ use Rattle.audit_trail.specs.declared.entry.Entry.{Entry}
 use Rattle.call_types.specs.declared.feed.Cut.{Cut}
 use Rattle.desk_base.specs.Answering.{Task}
 use Rattle.desk_base.specs.Telling.{Telling}
+use Rattle.drive_base.specs.View.{DriveView}
 use Rattle.drive_base.specs.declared.drive.Drive.{Ghosts}
 use Rattle.drive_base.specs.declared.plan.SetPlan.{SetPlan}
-use Rattle.receipts.specs.Events.{Log, Note}
+use Rattle.receipts.specs.Events.{Log, Note, Shown}
 use Rattle.receipts.specs.Events.Event.{BarredFrom, Called, Fed, Told, Turned}
 use Rattle.slot_core.specs.Views.{numbers_of}
+use Rattle.op_steps.specs.Claims.{Claim}
+use Rattle.op_steps.specs.Moves.{TurnMoves}
 use Rattle.op_steps.specs.Notes.{IsNoted}
+use Rattle.op_steps.specs.Store.{slot_seen}
 use Rattle.turn_lock.specs.declared.view.Turn.{Turn}
 use Rattle.store_shared.specs.Among.{PassSeen, seen_in}
 use Rattle.store_shared.specs.SharedAnswers.{SharedAnswers}
-use Rattle.store_shared.specs.SharedPasses.{pass_at, set_held, shared_holds}
+use Rattle.store_shared.specs.SharedPasses.{FitsDesk, SharedHolds, pass_at, set_held, shared_holds}
 use Rattle.store_shared.specs.Turned.{name_of, slot_in, turns_in}
 use Rattle.store_shared.specs.declared.receipt.Receipt.{Receipt}
+use Rattle.store_shared.specs.declared.shared.SharedDesk.{SharedDesk}
 use Rattle.store_shared.specs.declared.shared.SharedPass.{SharedPass}
 use Rattle.store_shared.specs.declared.turned.TurnedSlot.{TurnedSlot}
 
@@ -25,17 +30,28 @@ module _ {D A : Type 0} where
   TurnsRise seen [] now = now ≡ seen
   TurnsRise seen (turn ∷ turns) now = (seen ≤ turn.ticket) × TurnsRise (turn.ticket + 1) turns now
 
-  -- a section was done in this turn of the slot of this index, and its note, if it has one, tells the slot and the ticket
-  pub record IsSectionIn (set : SetPlan) (k : ℕ) (note : Option Note) (turn : Turn (TurnedSlot D A)) : Type 0 where
+module _ {D A : Type 0} (ghosts : Ghosts D) (entries : A → Option (List Entry)) (count : A → ℕ) where
+  -- a section led the slot from the one state of a turn to the other, whatever the call held and the data drives had before and after it
+  pub record SectionDid (note : Option Note) (shown : Shown) (turn : Turn (TurnedSlot D A)) : Type 0 where
+    pub claim : Claim
+    pub later : Claim
+    pub disks : List DriveView
+    pub disks_after : List DriveView
+    pub moves : TurnMoves ghosts (slot_seen entries count (slot_in turn.from)) (slot_seen entries count (slot_in turn.to)) note shown claim later disks disks_after
+
+  -- a section was done in this turn of the slot of this index, what it did led from the one state to the other, and its note, if it has one, tells the slot and
+  -- the ticket
+  pub record IsSectionIn (set : SetPlan) (k : ℕ) (note : Option Note) (shown : Shown) (turn : Turn (TurnedSlot D A)) : Type 0 where
     pub slot : name_of turn.from ≡ record { set = set; index = k }
     pub ticket : turns_in turn.from ≡ turn.ticket
     pub noted : IsNoted (numbers_of (slot_in turn.from)) note
+    pub did : SectionDid note shown turn
 
   -- the sections of one slot in a log are those of these turns, one in each, in order
   abbrev pub AreTurnsOf : SetPlan → ℕ → Log → List (Turn (TurnedSlot D A)) → Type 0
   AreTurnsOf set k [] turns = turns ≡ []
   AreTurnsOf set k (Turned slot note shown ∷ log) turns = ((slot ≢ k) × AreTurnsOf set k log turns)
-      ⊎ ((slot ≡ k) × (turn : Turn (TurnedSlot D A)) × (rest : List (Turn (TurnedSlot D A))) × (turns ≡ turn ∷ rest) × IsSectionIn set k note turn
+      ⊎ ((slot ≡ k) × (turn : Turn (TurnedSlot D A)) × (rest : List (Turn (TurnedSlot D A))) × (turns ≡ turn ∷ rest) × IsSectionIn set k note shown turn
       × AreTurnsOf set k log rest)
   AreTurnsOf set k (BarredFrom slot why ∷ log) turns = AreTurnsOf set k log turns
   AreTurnsOf set k (Called drive seen ∷ log) turns = AreTurnsOf set k log turns
@@ -49,9 +65,12 @@ module _ {D A : Type 0} where
     pub rise : TurnsRise was.seen turns now.seen
     pub of_log : AreTurnsOf set k log turns
 
-module _ {D A : Type 0} (ghosts : Ghosts D) (entries : A → Option (List Entry)) (count : A → ℕ) where
   -- whatever a shared desk answers, so it is in each slot
   abbrev pub SharedAnswersHaveTurns : Type 0
   SharedAnswersHaveTurns = (task : Task) (before after : SharedPass D A) (body : List ℕ) (tale : List Telling) (result : Result Receipt Cut)
       (answers : SharedAnswers ghosts entries count task before after body tale result) (k : ℕ) → k < 64
       → HasTurns (set_held (shared_holds before)) k answers.log (seen_in (pass_at before k)) (seen_in (pass_at after k))
+
+-- where it is true that what a pass holds is that of a desk's own passes, it is known
+abbrev pub FitIsFact : (R D A G : Type 0) → Type 0
+FitIsFact R D A G = (desk : SharedDesk R D A G) (held : SharedHolds D A) → ∥ FitsDesk desk held ∥₁ → FitsDesk desk held

@@ -1,7 +1,7 @@
 //! The laws of passes, and of what their desk answers.
 
 ghost use Rattle.store_shared.specs.Laws.{AnswersAreCalls, PassesAreInOrder};
-ghost use Rattle.store_shared.specs.SharedLaws.{SharedAnswersHaveTurns};
+ghost use Rattle.store_shared.specs.SharedLaws.{FitIsFact, SharedAnswersHaveTurns};
 
 use audit_trail::Audit;
 use drive_base::Drive;
@@ -22,4 +22,10 @@ pub fn answers_law<D: Drive, A: Audit>()
 /// seen there before, and the pass has seen each then. The note of each section, and so its stub, tells the ticket of its turn. It does nothing.
 pub fn shared_answers_law<D: Drive, A: Audit>()
     ensures { SharedAnswersHaveTurns D.Drive A.entries A.count }
+{}
+
+/// Where it is true that what a pass holds is that of a desk's own passes, it is known: `Desk::fits` of a shared desk says the first, its calls ask for the
+/// second. It does nothing.
+pub fn fits_law<R, D: Drive, A: Audit, G>()
+    ensures { FitIsFact R D A G }
 {}
