@@ -1,9 +1,12 @@
-//! Tests of what no clause says: calls on a key over drives in memory, step by step, alone, beside one another, and where drives fail.
+//! Tests of what no clause says: calls on a key over drives in memory, step by step, alone, beside one another, and where drives fail; and sections of its slot.
 
 use drive_base::SetPlan;
 
+mod audits;
 mod callers;
+mod entries;
 mod files;
+mod lives;
 mod looks;
 mod opening;
 mod orders;
@@ -11,6 +14,8 @@ mod plans;
 mod puts;
 mod reads;
 mod rows;
+mod sections;
+mod slots;
 mod store;
 mod wires;
 

@@ -5,12 +5,12 @@ ghost use Rattle.slot_core.specs.Views.{numbers_of};
 ghost use Rattle.slot_core.specs.Committing.{IsLawfulDeed, IsNamedDeed, name_of};
 
 use super::store::{INDEX, MemSlot, Store};
-use audit_trail::MemAudit;
+use audit_trail::{Audit, MemAudit};
 use call_types::Mode;
 use drive_base::{SetPlan, Trouble};
-use drive_memory::{Hurt, MemDrive};
+use drive_memory::{Fuse, Hurt, MemDrive};
 use seal_file::Text;
-use slot_core::{Commit, Slot, SlotParts};
+use slot_core::{Commit, Committed, Flight, Slot, SlotParts, Turn};
 use std::alloc::{AllocError, Global};
 use std::process::Abort;
 use std::test::Fail;
@@ -19,7 +19,7 @@ use std::test::Fail;
 pub const NOW: u64 = 784_111_777;
 
 /// So many fresh drives.
-fn drives(alloc: Global, count: u8) -> Result<Vec<MemDrive>, AllocError> {
+pub fn drives(alloc: Global, count: u8) -> Result<Vec<MemDrive>, AllocError> {
     let mut drives = Vec::new(alloc);
     for _ in 0..count {
         drives.push(MemDrive::new(alloc))?;
@@ -85,8 +85,11 @@ fn stop_each(drives: &mut [MemDrive])
     }
 }
 
-/// The store in its second life, after it was stopped.
-pub fn stopped(rt: &impl Abort, alloc: Global, store: Store) -> Result<Store, Fail> {
+/// The store in its next life, of this term, after it was stopped.
+pub fn stopped(rt: &impl Abort, alloc: Global, store: Store, term: u64) -> Result<Store, Fail>
+    requires term { 1 ≤ term }
+    requires term_fits { term < 2 ^ 48 }
+{
     let Store {
         set,
         slot,
@@ -97,11 +100,18 @@ pub fn stopped(rt: &impl Abort, alloc: Global, store: Store) -> Result<Store, Fa
     stop_each(disks.as_mut_slice());
     assert!(rt; lanes.len() == set.drives as usize);
     assert!(rt; disks.len() == set.drives as usize);
-    opened(alloc, set, lanes, disks, 2)
+    opened(alloc, set, lanes, disks, term)
 }
 
-/// Does a deed of the bucket.
-fn commit(rt: &impl Abort, alloc: Global, slot: &mut MemSlot, disks: &mut [MemDrive], deed: &Commit)
+/// Commits a deed.
+pub fn commit<A: Audit>(
+    rt: &impl Abort,
+    alloc: Global,
+    slot: &mut Slot<MemDrive, A>,
+    disks: &mut [MemDrive],
+    deed: &Commit,
+    flight: Option<Flight>,
+) -> Turn<Committed>
     requires disks { length disks.old ≡ (numbers_of slot.old).set.drives }
     requires lawful { IsLawfulDeed deed.now }
     requires named { IsNamedDeed deed.now }
@@ -111,7 +121,17 @@ fn commit(rt: &impl Abort, alloc: Global, slot: &mut MemSlot, disks: &mut [MemDr
     ensures disks { length disks.new ≡ length disks.old }
 {
     assert!(rt; slot.turns() < 1000);
-    let turn = slot.commit(alloc, disks, deed, None, NOW);
+    slot.commit(alloc, disks, deed, flight, NOW)
+}
+
+/// Does a deed of the bucket.
+fn does(rt: &impl Abort, alloc: Global, store: &mut Store, deed: &Commit)
+    requires lawful { IsLawfulDeed deed.now }
+    requires named { IsNamedDeed deed.now }
+    requires short { length (name_of deed.now) ≤ 1129 }
+{
+    let disks = store.disks.as_mut_slice();
+    let turn = commit(rt, alloc, &mut store.slot, disks, deed, None);
     assert!(rt; turn.answer.is_ok());
 }
 
@@ -124,17 +144,11 @@ pub fn make_bucket(
 ) -> Result<(), Fail> {
     let bucket = Text::from_slice(alloc, "pic".as_bytes())?;
     let make = Commit::MakeBucket(bucket);
-    commit(
-        rt,
-        alloc,
-        &mut store.slot,
-        store.disks.as_mut_slice(),
-        &make,
-    );
+    does(rt, alloc, store, &make);
     if mode != Mode::Never {
         let bucket = Text::from_slice(alloc, "pic".as_bytes())?;
         let set = Commit::SetMode(bucket, mode);
-        commit(rt, alloc, &mut store.slot, store.disks.as_mut_slice(), &set);
+        does(rt, alloc, store, &set);
     }
     Ok(())
 }
@@ -172,4 +186,15 @@ pub fn hurts(
     };
     befall(rt, store, drive, &mut hurt);
     Ok(())
+}
+
+/// Has each drive fail after so many calls.
+pub fn blow(rt: &impl Abort, store: &mut Store, calls: [u64; 4]) {
+    for drive in 0..4u8 {
+        let mut fuse = Fuse {
+            calls: calls[drive as usize],
+            late: false,
+        };
+        befalls(rt, store, (drive, drive + 1), &mut fuse);
+    }
 }

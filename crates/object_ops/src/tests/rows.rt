@@ -1,13 +1,13 @@
 //! Worked rows: what calls are told where drives fail in the midst of a change, come back, or are hurt.
 
 use super::callers::{Ask, begun, end, gets, hears, put_to_commit, puts};
-use super::opening::{befalls, fresh, hurts, make_bucket, stopped};
+use super::opening::{befalls, blow, fresh, hurts, make_bucket, stopped};
 use super::store::Store;
 use super::usual;
 use super::wires::{Heard, found, letters};
 use call_types::Mode;
 use drive_base::SetPlan;
-use drive_memory::{Back, Fuse, Lose};
+use drive_memory::{Back, Lose};
 use fault_base::NoMemory;
 use std::alloc::Global;
 use std::process::Abort;
@@ -82,17 +82,6 @@ fn a_body_on_too_few_drives_is_told_with_letters(rt: HostRuntime) -> Result<(), 
     Ok(())
 }
 
-/// Has each drive fail after so many calls.
-fn blow(rt: &impl Abort, store: &mut Store, calls: [u64; 4]) {
-    for drive in 0..4u8 {
-        let mut fuse = Fuse {
-            calls: calls[drive as usize],
-            late: false,
-        };
-        befalls(rt, store, (drive, drive + 1), &mut fuse);
-    }
-}
-
 /// What a PutObject of these bytes is told where each drive fails after so many calls at its commit.
 fn broken_off(
     rt: &impl Abort,
@@ -116,7 +105,7 @@ fn left_behind(
     let mut store = stocked(rt, alloc, usual())?;
     let heard = broken_off(rt, alloc, &mut store, b"hello", calls)?;
     assert!(rt; heard == Heard::WriteQuorum(letters(told)));
-    stopped(rt, alloc, store)
+    stopped(rt, alloc, store, 2)
 }
 
 #[test]

@@ -34,7 +34,7 @@ pub enum Heard {
 }
 
 /// The letters of drives.
-fn letters_of(whys: &Whys) -> [u8; 16] {
+pub fn letters_of(whys: &Whys) -> [u8; 16] {
     let mut place = [0; 16];
     let _ = whys.letters(&mut place);
     place
