@@ -1,5 +1,7 @@
 mod ClosingLemmas
+mod DealingLemmas
 mod DocumentLemmas
+mod DoorsLemmas
 mod FitsLemmas
 mod FreshLemmas
 mod LifeLemmas
@@ -9,6 +11,12 @@ mod ProgramLemmas
 mod RefusalLemmas
 mod RigLemmas
 mod RunLemmas
+mod SendLemmas
+mod ServingLemmas
 mod SessionLemmas
+mod SharingLemmas
 mod ShutLemmas
 mod SurveyLemmas
+mod WayLemmas
+mod WaySendLemmas
+mod WorkerLemmas

@@ -9,5 +9,9 @@ pub mod Opening
 pub mod Program
 pub mod Rigs
 pub mod Running
+pub mod Served
+pub mod Sharing
 pub mod Statuses
 pub mod Surveying
+pub mod Ways
+pub mod Workers

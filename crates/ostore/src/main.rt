@@ -1,101 +1,173 @@
 //! The program `ostore`: a store of versioned objects over the drives of an erasure set, in memory or in folders.
 //!
-//! `main` reads the words, makes the drives, the streams and the clock, and hands them to [`run_alone`](program::run_alone), whose contract is the promise of
-//! the program. `command_line` reads the words. `memory` and `folders` make a `rig`. `opening` opens a store over a rig and hands all back,
-//! `piping` serves a connection over it, and `surveying` tells what its drives have for formats. `statuses` has the exit statuses.
+//! `main` reads the words, makes the drives, the streams, the clock and for `serve` the doors, and hands them to [`run`](running::run), whose contract is the
+//! promise of the program, or to [`run_alone`](program::run_alone), which has the same for the commands without doors. `command_line` reads the words. `memory`
+//! and `folders` make a `rig`. `opening` opens a store over a rig and hands all back, `piping` serves a connection over it, `serving` serves doors over it by
+//! `workers` whose passes `dealing` cuts off one another, and `surveying` tells what its drives have for formats. `statuses` has the exit statuses.
 #![tactic(auto)]
 
+ghost use Rattle.std.specs.Prelude.{◌≡◌, ◌≤◌, IfOk, length};
 ghost use Rattle.ostore.specs.Program.{Fits};
 ghost use Rattle.command_line.specs.Words.{Says};
 
+mod dealing;
 mod document;
 mod folders;
+mod gate;
 mod laws;
 mod memory;
+mod notices;
 mod opening;
 mod piping;
 mod program;
 mod rig;
+mod running;
+mod serving;
+mod sharing;
 mod statuses;
 mod surveying;
 #[cfg(test)]
 mod tests;
+mod ways;
+mod workers;
 
 use audit_trail::Audit;
 use command_line::{Command, Plan, Usage, plan_of};
 use drive_base::Drive;
 use folders::{file_rig, root_lock};
-use io_base::{StdSink, StdSource, SystemClock};
+use io_base::{Sink, Source, Spawner, StdSink, StdSource, SystemClock, TcpDoor, TcpLimits};
 use memory::memory_rig;
+use notices::tell_listening;
 use program::run_alone;
 use rig::Rig;
+use running::run;
 use statuses::{OUT_OF_MEMORY, USAGE, cause_of};
+use std::alloc::{AllocError, Global};
 use std::env;
-use std::io::ErrorKind;
+use std::io::{Eprint, ErrorKind, Stdin};
+use std::net::{Net, TcpListener, TcpStream};
 use std::process::ExitCode;
+use std::rt::Clock;
+use std::sync::Wait;
+use std::thread::Threads;
+use ways::with_ways;
 
 /// Runs over the standard streams. Each exit status but 0 is named on standard error.
 fn main(rt: HostRuntime) -> ExitCode {
-    let status = exit_status(&rt);
+    let status = match begin(&rt) {
+        Ok(
+            Begun {
+                words,
+                plan,
+                source,
+            },
+        ) => {
+            let words = words.as_slice();
+            let mut sink = StdSink::new(rt.stdout());
+            match &plan.root {
+                None => match memory_rig(rt.alloc(), plan.set) {
+                    Ok(rig) => run_over(&rt, words, &plan, source, &mut sink, rig),
+                    Err(_) => OUT_OF_MEMORY,
+                },
+                Some(root) => {
+                    // Held until the run has ended.
+                    let lock = root_lock(&rt, root.as_str());
+                    match file_rig(&rt, plan.set, root.as_str(), lock.is_some()) {
+                        Ok(rig) => run_over(&rt, words, &plan, source, &mut sink, rig),
+                        Err(_) => OUT_OF_MEMORY,
+                    }
+                }
+            }
+        }
+        Err(status) => status,
+    };
     if let Some(cause) = cause_of(status) {
         let _ = eprintln!(rt; "ostore: {cause}");
     }
     ExitCode::from(status)
 }
 
-/// Takes the words and does what they say.
-fn exit_status(rt: &HostRuntime) -> u8 {
-    let words = match words_of(rt) {
-        Ok(words) => words,
-        Err(status) => return status,
-    };
+/// What a run begins with, but for its rig: the words, what they say, and the standard input.
+#[derive(Drop)]
+struct Begun {
+    words: Vec<String>,
+    plan: Plan,
+    source: StdSource<Stdin>,
+}
+
+/// Takes the words and reads them, or answers the exit status.
+fn begin(rt: &HostRuntime) -> Result<Begun, u8>
+    ensures { IfOk result (λ begun. Says begun.words.items begun.plan) }
+{
+    let words = words_of(rt)?;
     match plan_of(rt.alloc(), words.as_slice()) {
-        Ok(plan) => planned(rt, words.as_slice(), &plan),
-        Err(Usage::NotACommand) => USAGE,
-        Err(Usage::NoMemory) => OUT_OF_MEMORY,
+        Ok(plan) => match StdSource::new(rt.alloc(), rt.stdin()) {
+            Ok(source) => Ok(Begun {
+                words,
+                plan,
+                source,
+            }),
+            Err(_) => Err(OUT_OF_MEMORY),
+        },
+        Err(Usage::NotACommand) => Err(USAGE),
+        Err(Usage::NoMemory) => Err(OUT_OF_MEMORY),
     }
 }
 
-/// Makes the rig of a plan, and runs over it. Over folders the lock of their root is held until the run has ended.
-fn planned(rt: &HostRuntime, words: &[String], plan: &Plan) -> u8
-    requires { Says words.now plan.now }
+/// Runs over the system's clock and a rig, and for `serve` over doors.
+fn run_over<
+    R: AllocGlobal
+        + Clock
+        + Eprint
+        + Net<Listener = TcpListener, Stream = TcpStream>
+        + Threads
+        + Wait
+        + Copy
+        + Drop
+        + Send
+        + Sync,
+    S: Source + Drop,
+    K: Sink,
+    D: Drive + Send + Drop,
+    A: Audit + Send + Drop,
+>(rt: &R, words: &[String], plan: &Plan, source: S, sink: &mut K, rig: Rig<D, A>) -> u8
+    requires says { Says words.now plan.now }
+    requires fits { Fits words.now rig }
 {
-    // No door is opened yet.
-    if let Command::Serve = plan.command {
-        return USAGE;
-    }
-    let Some(root) = &plan.root else {
-        return match memory_rig(rt.alloc(), plan.set) {
-            Ok(rig) => run_over(rt, words, rig),
-            Err(_) => OUT_OF_MEMORY,
-        };
+    let clock = SystemClock::new(*rt);
+    let Command::Serve = plan.command else {
+        return run_alone(rt, words, source, sink, rig, &clock).ended.status;
     };
-    let lock = root_lock(rt, root.as_str());
-    match file_rig(rt, plan.set, root.as_str(), lock.is_some()) {
-        Ok(rig) => run_over(rt, words, rig),
-        Err(_) => OUT_OF_MEMORY,
-    }
-}
-
-/// Runs over the standard streams, the system's clock and a rig.
-fn run_over<D: Drive + Drop, A: Audit + Drop>(
-    rt: &HostRuntime,
-    words: &[String],
-    rig: Rig<D, A>,
-) -> u8
-    requires { Fits words.now rig }
-{
-    let Ok(source) = StdSource::new(rt.alloc(), rt.stdin()) else {
+    let Ok(rig) = with_ways(*rt, rt.alloc(), rig) else {
         return OUT_OF_MEMORY;
     };
-    let mut sink = StdSink::new(rt.stdout());
-    let Ok(runtime) = rt.clone() else {
+    let Ok(doors) = doors_of(*rt, rt.alloc(), plan.listen.as_str(), plan.workers) else {
         return OUT_OF_MEMORY;
     };
-    let clock = SystemClock::new(runtime);
-    run_alone(rt, words, source, &mut sink, rig, &clock)
+    tell_listening(rt, &doors[0], plan.listen.as_str());
+    let mut spawner = Spawner::Threads;
+    run(rt, words, source, sink, rig, &clock, doors, &mut spawner)
         .ended
         .status
+}
+
+/// A door for each worker, all at one address. Where it can't be listened at, each of them fails.
+fn doors_of<R: Clock + Net<Listener = TcpListener, Stream = TcpStream> + Copy + Drop + Send>(
+    rt: R,
+    alloc: Global,
+    listen: &str,
+    workers: u8,
+) -> Result<Vec<TcpDoor<R>>, AllocError>
+    requires some { 1 ≤ workers }
+    ensures { IfOk result (λ doors. length doors.items ≡ workers) }
+{
+    let mut doors = Vec::with_capacity(alloc, usize::from(workers))?;
+    doors.push(TcpDoor::open(rt, alloc, listen, TcpLimits::usual()))?;
+    for _ in 1..workers {
+        let door = doors[0].again();
+        doors.push(door)?;
+    }
+    Ok(doors)
 }
 
 /// The words behind the program's name, or the exit status where they aren't to be had.

@@ -48,7 +48,7 @@ pub fn run_alone<R: AllocGlobal, S: Source + Drop, K: Sink, D: Drive, A: Audit, 
 }
 
 /// Does one command. That of `serve` is not done: the exit status is 2.
-fn run_command<S: Source + Drop, K: Sink, D: Drive, A: Audit, C: Clock>(
+pub fn run_command<S: Source + Drop, K: Sink, D: Drive, A: Audit, C: Clock>(
     alloc: Global,
     command: Command,
     source: S,

@@ -1,5 +1,8 @@
 //! The program over streams and drives in memory: what it gives, and how it ends.
 
+mod overlap;
+mod serving;
+
 use crate::memory::memory_rig;
 use crate::program::run_alone;
 use command_line::plan_of;
