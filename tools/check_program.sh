@@ -105,6 +105,7 @@ empty="${empty%hello}"
 no_range="$(refusal '416 Range Not Satisfiable' InvalidRange 'The range is not satisfiable.' /pic/a 'Content-Range: bytes */0\r\n')"
 of_hello='Content-MD5: XUFAKrxLKna5cZ2REBfFkg==\r\n'
 differs="$(refusal '400 Bad Request' BadDigest 'The Content-MD5 differs from the body.' /pic/a '')"
+opened='ostore: opened set 00000000-0000-0000-0000-000000000000, 4 drives, parity 2\n'
 no_bucket="$(refusal '404 Not Found' NoSuchBucket 'The specified bucket does not exist.' /none/a '')"
 
 "$ostore" pipe </dev/null || {
@@ -129,7 +130,7 @@ check 'six drives' 0 "$made$stored$found" '' --drives 6 --parity=2 pipe < <(ask 
 check 'no input' 0 '' '' pipe </dev/null
 check 'the client closes' 0 "${made/Date/Date\\r\\nConnection: close}" '' pipe < <(ask 'PUT /pic HTTP/1.1\r\nConnection: close\r\n\r\n')
 check 'no words' 2 '' 'ostore: usage\n' </dev/null
-check 'a command that is not there yet' 2 '' 'ostore: usage\n' serve </dev/null
+check 'an address that is none' 4 '' "ostore: can't listen on nowhere\n${opened}ostore: read fault\n" --listen nowhere serve </dev/null
 check 'a word too many' 2 '' 'ostore: usage\n' pipe pipe </dev/null
 check 'an option twice' 2 '' 'ostore: usage\n' --drives 4 --drives 4 pipe </dev/null
 check 'too many drives' 2 '' 'ostore: usage\n' --drives 17 pipe </dev/null

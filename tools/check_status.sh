@@ -33,7 +33,8 @@ check 'a word too many' 2 '' 'ostore: usage\n' pipe now </dev/null
 check 'an option twice' 2 '' 'ostore: usage\n' --drives 4 --drives 4 status </dev/null
 check 'too many parity drives' 2 '' 'ostore: usage\n' --drives 4 --parity 3 status </dev/null
 check 'a word that is not UTF-8' 2 '' 'ostore: usage\n' $'pipe\xff' </dev/null
-check 'no door is opened yet' 2 '' 'ostore: usage\n' serve </dev/null
+check 'a word behind serve' 2 '' 'ostore: usage\n' serve now </dev/null
+check 'too many workers' 2 '' 'ostore: usage\n' --workers 65 serve </dev/null
 
 # 4, 8 and 9: the source, and a refusal that closes
 check 'an input that fails' 4 '' 'ostore: read fault\n' pipe <"$work"

@@ -1,4 +1,4 @@
-"""A `pipe` process as its client sees it: a request is written, and its reply read before the next one."""
+"""What a client sees of the program: a request is written, and its reply read before the next one. Pipe is a `pipe` process."""
 
 import pathlib
 import subprocess
@@ -8,7 +8,7 @@ PROGRAM = pathlib.Path(__file__).resolve().parent.parent / "ostore"
 
 
 class Cut(Exception):
-    """The process ended before it gave a whole reply."""
+    """The process, or the connection, ended before it gave a whole reply."""
 
 
 class Reply:
@@ -41,23 +41,17 @@ def request_of(method, target, body=None, headers=()):
     return "\r\n".join([*lines, "", ""]).encode() + (body or b"")
 
 
-class Pipe:
-    """The program with these words before `pipe`."""
+class Talk:
+    """Two streams: one that takes requests, and one that gives their replies."""
 
-    def __init__(self, words, program=PROGRAM):
-        self.process = subprocess.Popen(
-            [str(program), *words, "pipe"],
-            stdin=subprocess.PIPE,
-            stdout=subprocess.PIPE,
-            stderr=subprocess.PIPE,
-        )
-        self.began = time.monotonic()
+    def __init__(self, given, told):
+        self.given, self.told = given, told
 
     def ask(self, method, target, body=None, headers=()):
-        """The reply to a request. Cut where the process ends before."""
+        """The reply to a request. Cut where no whole one comes."""
         try:
-            self.process.stdin.write(request_of(method, target, body, headers))
-            self.process.stdin.flush()
+            self.given.write(request_of(method, target, body, headers))
+            self.given.flush()
         except (BrokenPipeError, ConnectionResetError):
             raise Cut from None
         return self.reply(method)
@@ -69,7 +63,7 @@ class Pipe:
             head = self.head()
         status, headers = head
         length = 0 if method == "HEAD" or status == 204 else int(headers["content-length"])
-        body = self.process.stdout.read(length)
+        body = self.told.read(length)
         if len(body) < length:
             raise Cut
         return Reply(status, headers, body)
@@ -78,7 +72,7 @@ class Pipe:
         """The next head, as its status and its headers."""
         lines = []
         while not lines or lines[-1] != b"\r\n":
-            line = self.process.stdout.readline()
+            line = self.told.readline()
             if not line.endswith(b"\n"):
                 raise Cut
             lines.append(line)
@@ -87,6 +81,20 @@ class Pipe:
             name, _, value = line.decode("latin-1").rstrip("\r\n").partition(": ")
             headers[name.lower()] = value
         return int(lines[0].split()[1]), headers
+
+
+class Pipe(Talk):
+    """The program with these words before `pipe`."""
+
+    def __init__(self, words, program=PROGRAM):
+        self.process = subprocess.Popen(
+            [str(program), *words, "pipe"],
+            stdin=subprocess.PIPE,
+            stdout=subprocess.PIPE,
+            stderr=subprocess.PIPE,
+        )
+        super().__init__(self.process.stdin, self.process.stdout)
+        self.began = time.monotonic()
 
     def kill(self):
         """Ends the process by SIGKILL."""
