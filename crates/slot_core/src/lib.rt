@@ -59,4 +59,6 @@ pub use trash::Ids;
 #[cfg(test)]
 mod look_tests;
 #[cfg(test)]
+mod spent_tests;
+#[cfg(test)]
 mod tests;

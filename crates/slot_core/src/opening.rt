@@ -74,6 +74,13 @@ impl<D: Drive, A: Audit> Slot<D, A> {
         trouble.strike(&mut self.lanes[index as usize])
     }
 
+    /// The term that the slot was opened in.
+    pub fn term(&self) -> u64
+        ensures { result ≡ (numbers_of self.now).term }
+    {
+        self.term
+    }
+
     /// How many sections the slot did, the opening among them.
     pub fn turns(&self) -> u64
         ensures { result ≡ (numbers_of self.now).turns }
