@@ -40,7 +40,7 @@ by_entry (Some entry) shown old new more = more
 
 module _ {D T : Type 0} (ghosts : Ghosts D) (takes breaks : Effect T) where
   -- a slot that nothing was done to
-  went_none : (slot : ℕ) (was : SlotSeen D) → WentOn ghosts.tells ghosts.files slot was was []
+  pub went_none : (slot : ℕ) (was : SlotSeen D) → WentOn ghosts.tells ghosts.files slot was was []
   went_none slot was = record {
     set = refl;
     term = refl;
@@ -72,7 +72,7 @@ module _ {D T : Type 0} (ghosts : Ghosts D) (takes breaks : Effect T) where
   }
 
   -- a section
-  went_turn : (was now : SlotSeen D) (note : Option Note) (shown : Shown) (claim later : Claim) (disks_old disks_new : List DriveView)
+  pub went_turn : (was now : SlotSeen D) (note : Option Note) (shown : Shown) (claim later : Claim) (disks_old disks_new : List DriveView)
       → TurnMoves ghosts was now note shown claim later disks_old disks_new
       → WentOn ghosts.tells ghosts.files was.numbers.index was now (entered_by (entry_in note) shown)
   went_turn was now note shown claim later disks_old disks_new x = record {
