@@ -25,7 +25,7 @@ pub(crate) fn push_error(out: &mut Vec<u8>, why: &Refusal, path: &[u8]) -> Resul
 }
 
 /// The code of a refusal.
-fn code(why: &Refusal) -> &'static [u8]
+pub fn code(why: &Refusal) -> &'static [u8]
     ensures { result.now ≡ (words_of why.now).code }
 {
     match why {
@@ -74,8 +74,8 @@ fn push_message_leaf(out: &mut Vec<u8>, why: &Refusal) -> Result<(), NoMemory>
     push_close(out, b"Message")
 }
 
-/// Appends the message of a refusal.
-fn push_message(out: &mut Vec<u8>, why: &Refusal) -> Result<(), NoMemory>
+/// Appends the message of a refusal, as a document has it.
+pub fn push_message(out: &mut Vec<u8>, why: &Refusal) -> Result<(), NoMemory>
     ensures { OnOk result (out.new.items ≡ out.old.items ++ escaped (words_of why.now).message) }
 {
     match why {

@@ -75,7 +75,7 @@ pub(crate) fn body_length(what: &What) -> u64
 }
 
 /// The status of a refusal.
-fn refusal_status(why: &Refusal) -> StatusCode
+pub fn refusal_status(why: &Refusal) -> StatusCode
     ensures { result ≡ (words_of why.now).status }
 {
     match why {
