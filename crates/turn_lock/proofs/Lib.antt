@@ -1,4 +1,5 @@
 mod Counts
 mod Keeps
 mod Moves
+pub mod OrderLemmas
 mod Told

@@ -1,5 +1,5 @@
 -- What turns come to: the history of a value.
-use Rattle.std.specs.Prelude.{◌≡◌, ℕ, ◌+◌, ◌<◌, ◌≤◌, List, map, All, Contains}
+use Rattle.std.specs.Prelude.{◌≡◌, ℕ, ◌+◌, ◌<◌, ◌≤◌, List, [], ◌∷◌, map, All, Contains, IsPermutation}
 use Rattle.turn_lock.specs.Tickets.{times, between}
 use Rattle.turn_lock.specs.declared.view.Turn.{Turn}
 
@@ -15,6 +15,18 @@ module _ {T : Type 0} where
   -- the turn that leads from the value at this count to the next
   abbrev pub turn_at : (ℕ → T) → ℕ → Turn T
   turn_at at n = record { ticket = n; from = at n; to = at (n + 1) }
+
+module _ {T X : Type 0} (turn_of : X → Turn T) where
+  -- each of these turns was made over what the one before it left: the first one over this value, and the last one left that
+  abbrev pub Follow : T → List X → T → Type 0
+  Follow first [] last = first ≡ last
+  Follow first (x ∷ xs) last = ((turn_of x).from ≡ first) × Follow (turn_of x).to xs last
+
+  -- turns in an order in which they follow one another from the one value to the other
+  pub record InOrder (made : List X) (first last : T) : Type 0 where
+    pub ordered : List X
+    pub same : IsPermutation made ordered
+    pub follow : Follow first ordered last
 
 module _ {T N : Type 0} (turn : T → ℕ) (name : T → N) where
   -- the turns are those that led from the first value to the last: there is one value at each count of turns, and from each count below the
