@@ -5,8 +5,8 @@ that ends with `&` on standard error too. A command below which nothing stands h
 of which only the status counts. Each page has a shell and a fresh folder of its own, with `./ostore` and the README in it.
 
 In place of `/tmp/` comes a fresh folder, and in place of `127.0.0.1:9000` an address with a free port, which a `serve` without `--listen` gets too. Ids,
-terms and times are masked before they are compared. Behind a `kill` it waits until that process has ended. A block is left out, with a word on standard
-error, where it needs a client that isn't installed.
+terms and times are masked before they are compared. Behind a `kill` it waits until that process has ended. A block that needs another client than curl is
+left out; with the word `clients` it is so, with a word on standard error, where that client isn't installed.
 """
 
 import os
@@ -160,25 +160,27 @@ class Reader:
         self.shell.wait()
 
 
-def lacking(lines):
-    """The client that these lines call and this machine lacks, if there is one."""
-    for client, call in CLIENTS.items():
-        if any(re.match(rf"(\$ )?{client} ", line) for line in lines):
-            try:
-                if subprocess.run(call, capture_output=True).returncode != 0:
-                    return client
-            except FileNotFoundError:
-                return client
-    return None
+def client_of(lines):
+    """The client that these lines call beside curl, if there is one."""
+    return next((it for it in CLIENTS if any(re.match(rf"(\$ )?{it} ", line) for line in lines)), None)
 
 
-def check(page, work):
+def is_installed(client):
+    try:
+        return subprocess.run(CLIENTS[client], capture_output=True).returncode == 0
+    except FileNotFoundError:
+        return False
+
+
+def check(page, work, with_clients):
     """How many commands of a page passed, and how many failed. Behind one that failed none is run."""
     reader, passed = Reader(page, work), 0
     try:
         for kind, start, lines in blocks_of(page):
-            client = lacking(lines)
-            if client:
+            client = client_of(lines)
+            if client and not with_clients:
+                continue
+            if client and not is_installed(client):
                 print(f"check_readme: {page}, line {start}: {client} isn't installed, and its block was left out", file=sys.stderr)
                 continue
             for number, command, shown in commands_of(kind, start, lines):
@@ -195,9 +197,11 @@ def check(page, work):
 
 def main():
     passed = failed = 0
-    for page in sys.argv[1:] or PAGES:
+    if sys.argv[1:] not in ([], ["clients"]):
+        sys.exit("usage: tools/check_readme.sh [clients]")
+    for page in PAGES:
         with tempfile.TemporaryDirectory() as work:
-            good, bad = check(page, pathlib.Path(work).resolve())
+            good, bad = check(page, pathlib.Path(work).resolve(), bool(sys.argv[1:]))
         passed, failed = passed + good, failed + bad
     print(f"{passed} passed, {failed} failed")
     return 1 if failed else 0
