@@ -1,0 +1,145 @@
+#!/usr/bin/env python3
+"""Looks at the pages for engineers: README.md, CONTRIBUTING.md, docs/*.md and crates/*/README.md.
+
+    tools/check_pages.py [PAGE..]
+
+It fails on each of these, and says where it stands:
+  - a link to a file or to a title that isn't there; links to other sites aren't looked at
+  - a path between backticks that isn't there: one that begins with a folder of the repository, or on the page of a crate with one of that crate.
+    NAME in a path and a `*` stand for anything
+  - a line of more than 120 columns, but in a table or a block of code. docs/CRATES.md is made of other pages, so they are looked at in its place
+  - a figure of the README that isn't what the repository has: definitions and lines of the theorem, crates, must-fail edits; and a number under "Speed"
+    that docs/PERFORMANCE.md hasn't
+The last line is 'N passed, M failed', of pages; it ends with 1 where one failed.
+"""
+
+import pathlib
+import re
+import sys
+
+TOP = pathlib.Path(__file__).resolve().parent.parent
+sys.path.insert(0, str(TOP / "tools"))
+
+import theorem_size
+
+COLUMNS = 120
+MADE = "docs/CRATES.md"
+FOLDERS = ("docs", "tools", "crates", "bench", ".ci")
+FOLDERS_OF_CRATE = ("src", "specs", "proofs", "must-fail")
+# Files that a build makes, which are named before they are there.
+BUILT = re.compile(r"crates/\w+/out(/|$)")
+
+
+def pages():
+    found = [TOP / "README.md", TOP / "CONTRIBUTING.md", *sorted((TOP / "docs").glob("*.md")), *sorted((TOP / "crates").glob("*/README.md"))]
+    return [str(it.relative_to(TOP)) for it in found]
+
+
+def lines_of(page):
+    """The lines of a page, each with its number and whether it is of a block of code."""
+    fenced, code, before = False, False, ""
+    for number, line in enumerate((TOP / page).read_text().splitlines(), 1):
+        if line.startswith("```"):
+            fenced = not fenced
+            code = True
+        elif not fenced:
+            code = line.startswith("    ") and (code or not before.strip())
+        yield number, line, fenced or code
+        before = line
+
+
+def titles_of(path):
+    """The anchors of the titles of a page."""
+    for line in path.read_text().splitlines():
+        if re.match(r"#+ ", line):
+            title = line.lstrip("#").strip().lower()
+            yield re.sub(r"[^\w\- ]", "", title).replace(" ", "-")
+
+
+def is_there(base, path):
+    """Whether there is such a file or folder; NAME and a star stand for anything."""
+    return bool(BUILT.match(path)) or any(True for _ in base.glob(path.replace("NAME", "*").rstrip("/")))
+
+
+def wrong_links(page, line):
+    for target in re.findall(r"\]\(([^)\s]+)\)", line):
+        if re.match(r"[a-z]+:", target):
+            continue
+        path, _, anchor = target.partition("#")
+        there = (TOP / page).parent / path if path else TOP / page
+        if not there.exists():
+            yield f"a dead link: {target}"
+        elif anchor and anchor not in titles_of(there):
+            yield f"a link to no title: {target}"
+
+
+def wrong_paths(page, line):
+    crate = (TOP / page).parent if page.startswith("crates/") else None
+    for quoted in re.findall(r"`([^`]+)`", line):
+        for word in quoted.split():
+            if not re.fullmatch(r"[\w.*-]+(/[\w.*-]+)+/?", word):
+                continue
+            first = word.split("/")[0]
+            if first in FOLDERS and not is_there(TOP, word) or crate and first in FOLDERS_OF_CRATE and not is_there(crate, word):
+                yield f"a path that isn't there: {word}"
+
+
+def wrong_lines(page):
+    """What is wrong with the lines of a page, each with its number."""
+    for number, line, is_code in lines_of(page):
+        if is_code:
+            continue
+        if len(line) > COLUMNS and not line.lstrip().startswith("|") and page != MADE:
+            yield number, f"{len(line)} columns"
+        for it in (*wrong_links(page, line), *wrong_paths(page, line)):
+            yield number, it
+
+
+def number_of(text):
+    return int(text.replace(",", ""))
+
+
+def figures():
+    """The figures that the README has to say: each a form with its numbers, and what these are."""
+    found = theorem_size.count()["found"]
+    edits = sum(1 for _ in (TOP / "crates").glob("*/must-fail/*.edit"))
+    crates = sum(1 for line in (TOP / "crates.txt").read_text().splitlines() if line and not line.startswith("#"))
+    return [
+        (r"([\d,]+) definitions in ([\d,]+) lines", (len(found), theorem_size.lines_of(found))),
+        (r"all ([\d,]+) crates", (crates,)),
+        (r"changed in ([\d,]+) ways", (edits,)),
+    ]
+
+
+def wrong_figures():
+    """What is wrong with the numbers of the README, each with the number of its line."""
+    text = (TOP / "README.md").read_text()
+    for form, wanted in figures():
+        found = list(re.finditer(form, text))
+        if len(found) != 1:
+            yield 0, f"it says '{form}' {len(found)} times, and once is wanted"
+        for it in found:
+            said = tuple(number_of(number) for number in it.groups())
+            if said != wanted:
+                yield text[: it.start()].count("\n") + 1, f"'{it.group()}', and it is {' and '.join(f'{number:,}' for number in wanted)}"
+    measured = set(re.findall(r"\d[\d,.]*\d", (TOP / "docs/PERFORMANCE.md").read_text()))
+    before, _, behind = text.partition("\n## Speed\n")
+    for number, line in enumerate(behind.partition("\n## ")[0].splitlines(), before.count("\n") + 3):
+        for it in set(re.findall(r"\d[\d,.]*\d", line)) - measured:
+            yield number, f"{it} isn't in docs/PERFORMANCE.md"
+
+
+def main():
+    failed = 0
+    wanted = sys.argv[1:] or pages()
+    for page in wanted:
+        wrong = [*wrong_lines(page), *(wrong_figures() if page == "README.md" else ())]
+        failed += bool(wrong)
+        for number, text in wrong:
+            print(f"check_pages: {page}:{number}: {text}", file=sys.stderr)
+    print(f"{len(wanted) - failed} passed, {failed} failed")
+    return 1 if failed else 0
+
+
+if __name__ == "__main__":
+    sys.exit(main())
