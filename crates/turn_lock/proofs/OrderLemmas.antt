@@ -4,7 +4,7 @@ use Rattle.std.proofs.Math.Decide.{ℕ_discrete, dec_le}
 use Rattle.std.proofs.Math.Logic.{dite}
 use Rattle.std.proofs.lemmas.List.Elements.{All-cons, All-head, All-nil, All-tail}
 use Rattle.std.proofs.lemmas.List.Sorted.{All-permutation, IsPermutation-cons, IsPermutation-middle, IsPermutation-refl, IsPermutation-trans}
-use Rattle.turn_lock.specs.History.{Follow, InOrder, IsHistory, Leads, tickets}
+use Rattle.turn_lock.specs.History.{Arranged, Follow, IsHistory, Leads, tickets}
 use Rattle.turn_lock.specs.Tickets.{between, same, times}
 use Rattle.turn_lock.specs.declared.view.Turn.{Turn}
 use Rattle.turn_lock.proofs.Counts.{between_above, between_below, between_in, same_else, same_eq}
@@ -57,7 +57,7 @@ module _ {T X : Type 0} (turn_of : X → Turn T) where
       (led_each P xs (All-tail P (turn_of x) (map turn_of xs) all))
 
   in_order : (at : ℕ → T) (d n : ℕ) (made : List X) → ((y : ℕ) → times y (tickets (map turn_of made)) ≡ between n (n + d) y)
-      → All (λ x. Leads at (turn_of x)) made → InOrder turn_of made (at n) (at (n + d))
+      → All (λ x. Leads at (turn_of x)) made → Arranged turn_of made (at n) (at (n + d))
   in_order at zero n [] once led = record { ordered = []; same = IsPermutation-refl []; follow = ap at (omega arith) }
   in_order at zero n (x ∷ xs) once led =
       let t = (turn_of x).ticket in
@@ -83,10 +83,10 @@ module _ {T X : Type 0} (turn_of : X → Turn T) where
 
   module _ {N : Type 0} (turn : T → ℕ) (name : T → N) where
     -- the turns of a history
-    pub history_in_order : (first last : T) (made : List X) → IsHistory turn name first last (map turn_of made) → InOrder turn_of made first last
+    pub history_in_order : (first last : T) (made : List X) → IsHistory turn name first last (map turn_of made) → Arranged turn_of made first last
     history_in_order first last made h =
         let d = turn last - turn first in
         let rises = h.rises in
         let far : turn first + d ≡ turn last = omega (arith, rises) in
-        subst (λ b. InOrder turn_of made first b) (ap h.at far ∙ h.ends) (subst (λ a. InOrder turn_of made a (h.at (turn first + d))) h.begins
+        subst (λ b. Arranged turn_of made first b) (ap h.at far ∙ h.ends) (subst (λ a. Arranged turn_of made a (h.at (turn first + d))) h.begins
         (in_order h.at d (turn first) made (λ y. h.once y ∙ ap (λ (b : ℕ). between (turn first) b y) (sym far)) (led_each (Leads h.at) made h.led)))

@@ -23,7 +23,7 @@ module _ {T X : Type 0} (turn_of : X → Turn T) where
   Follow first (x ∷ xs) last = ((turn_of x).from ≡ first) × Follow (turn_of x).to xs last
 
   -- turns in an order in which they follow one another from the one value to the other
-  pub record InOrder (made : List X) (first last : T) : Type 0 where
+  pub record Arranged (made : List X) (first last : T) : Type 0 where
     pub ordered : List X
     pub same : IsPermutation made ordered
     pub follow : Follow first ordered last
