@@ -1,6 +1,6 @@
 #!/usr/bin/env bash
 # Has common S3 clients work over a served folder: curl, and of the AWS CLI, boto3, rclone and s3cmd those that are installed. What is left out is said
-# on standard error. Each client makes a bucket, sets versioning, puts, gets whole and by a range, heads and deletes a key, meets the delete marker and
+# on standard error; without curl it is all of them. Each client makes a bucket, sets versioning, puts, gets whole and by a range, heads and deletes a key, meets the delete marker and
 # a range behind the end, gets the old version by its id, and puts and gets 100 MB, as far as its commands go. The settings that a client needs while
 # listings, multipart uploads and chunked bodies aren't served stand beside its calls. AWS and PYTHON may name another `aws` and another `python3` that
 # has boto3. With a number the large body has as many bytes: tools/check_clients.sh [BYTES]
@@ -25,7 +25,7 @@ until grep -q '^ostore: listening on ' "$work/said" || ! kill -0 "$server" 2>/de
 host="$(sed -n 's/^ostore: listening on \([^, ]*\).*/\1/p' "$work/said")"
 at="http://$host"
 command -v curl >/dev/null || {
-    fails 'curl is not installed'
+    echo 'check_clients: curl is not installed, and all clients were left out' >&2
     finish
 }
 if [[ -z "$host" ]] || ! curl -sf --max-time 60 "$at/" >"$work/buckets"; then
