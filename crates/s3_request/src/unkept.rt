@@ -1,6 +1,8 @@
 //! The headers that ask for a promise or a condition which no call keeps.
 
-ghost use Rattle.std.specs.Prelude.{◌≡◌, ℕ};
+ghost use Rattle.std.specs.Prelude.{◌≡◌, ℕ, is_some};
+ghost use Rattle.std.specs.List.{list_any};
+ghost use Rattle.http_wire.specs.Names.{value_of};
 ghost use Rattle.s3_request.specs.Query.{Pairs};
 ghost use Rattle.s3_request.specs.Reads.{asks_unkept, asked_of};
 
@@ -33,7 +35,14 @@ const UNKEPT_NAMES: [&str; 12] = [
 pub fn asks_unkept(head: &Head) -> bool
     ensures { (pairs : Pairs) (limit : ℕ) → result ≡ asks_unkept (asked_of head.now pairs limit) }
 {
-    for name in UNKEPT_NAMES.iter() {
+    has_any(head, &UNKEPT_NAMES)
+}
+
+/// Whether a head has a header of one of these names.
+fn has_any(head: &Head, names: &[&str]) -> bool
+    ensures { result ≡ list_any (λ name. is_some (value_of head.now.lines name.now)) names.now }
+{
+    for name in names {
         if head.value_of(name.as_bytes()).is_some() {
             return true;
         }
