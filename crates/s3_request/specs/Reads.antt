@@ -1,5 +1,6 @@
 -- The call of a request head, or why it is refused, in the order of refusals.
-use Rattle.std.specs.Prelude.{◌||◌, ◌&&◌, false, true, nat_le, not, ℕ, List, Bool, codes, length, Option, is_some, Result, Ok, Err}
+use Rattle.std.specs.Prelude.{◌||◌, ◌&&◌, false, true, nat_le, not, ℕ, List, [], ◌∷◌, Bool, codes, length, Option, is_some, Result, Ok, Err}
+use Rattle.std.specs.List.{list_any}
 use Rattle.http_wire.specs.Names as lines
 use Rattle.http_wire.specs.Parts.{HeadParts}
 use Rattle.stamp_id.specs.declared.version.VersionId.{VersionId}
@@ -72,9 +73,25 @@ abbrev pub is_conditional : Asked → Bool
 is_conditional asked = is_some (header asked (codes "if-match")) || is_some (header asked (codes "if-unmodified-since"))
     || (is_changing asked.method && is_some (header asked (codes "if-none-match")))
 
--- Whether a call isn't served, whatever its path: a name of its query says so, it has the header of CopyObject, or it is conditional.
+-- The headers that ask for a promise or a condition which no call keeps (S3 API): an append, a deletion under a condition, an owner, a lock, encryption.
+abbrev pub unkept_names : List (List ℕ)
+unkept_names =
+    codes "x-amz-write-offset-bytes"
+    ∷ codes "x-amz-if-match-size" ∷ codes "x-amz-if-match-last-modified-time" ∷ codes "x-amz-if-match-initiated-time"
+    ∷ codes "x-amz-expected-bucket-owner" ∷ codes "x-amz-source-expected-bucket-owner"
+    ∷ codes "x-amz-object-lock-mode" ∷ codes "x-amz-object-lock-retain-until-date" ∷ codes "x-amz-object-lock-legal-hold"
+    ∷ codes "x-amz-bucket-object-lock-enabled"
+    ∷ codes "x-amz-server-side-encryption" ∷ codes "x-amz-server-side-encryption-customer-algorithm" ∷ []
+
+-- whether a call has one of these headers, whatever its value
+unfoldable pub asks_unkept : Asked → Bool
+asks_unkept asked = list_any (λ name. is_some (header asked name)) unkept_names
+
+-- Whether a call isn't served, whatever its path: a name of its query says so, it has the header of CopyObject, it is conditional, or it asks for what no
+-- call keeps.
 abbrev pub is_unserved : Asked → Bool
-is_unserved asked = asks_unserved asked.pairs || is_some (header asked (codes "x-amz-copy-source")) || is_conditional asked
+is_unserved asked =
+    asks_unserved asked.pairs || is_some (header asked (codes "x-amz-copy-source")) || is_conditional asked || asks_unkept asked
 
 -- a call of the service: ListBuckets
 abbrev pub service_call : Method → Result Call Refusal

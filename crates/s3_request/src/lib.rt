@@ -18,6 +18,7 @@ mod range;
 mod reading;
 mod routes;
 mod target;
+mod unkept;
 
 pub use fault::CallFault;
 pub use laws::name_laws;

@@ -18,6 +18,7 @@ use crate::query::Query;
 use crate::range::range_of;
 use crate::routes::{BucketRow, KeyRow, Method, bucket_row, key_row, method_of};
 use crate::target::{Place, place_of, query_of};
+use crate::unkept::asks_unkept;
 use call_types::{Key, Pick, Refusal};
 use desk_base::Call;
 use http_wire::Head;
@@ -58,7 +59,7 @@ fn is_unserved(head: &Head, query: &Query) -> bool
     if query.asks_unserved() {
         return true;
     }
-    is_copy(head) || is_conditional(head)
+    is_copy(head) || is_conditional(head) || asks_unkept(head)
 }
 
 /// Whether a head has the header of CopyObject.

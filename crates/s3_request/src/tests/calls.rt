@@ -155,6 +155,80 @@ const UNSERVED: &[Row] = &[
     ),
 ];
 
+/// Headers that ask for what no call keeps, and ones that are passed over.
+const UNKEPT: &[Row] = &[
+    (
+        "PUT /pic/a",
+        "Content-Length: 0\r\nx-amz-write-offset-bytes: 0\r\n",
+        "NotImplemented",
+    ),
+    (
+        "PUT /pic/a",
+        "Content-Length: 0\r\nx-amz-if-match-size: 7\r\n",
+        "NotImplemented",
+    ),
+    (
+        "PUT /pic/a",
+        "Content-Length: 0\r\nx-amz-if-match-last-modified-time: 2026-11-27T16:07:00Z\r\n",
+        "NotImplemented",
+    ),
+    (
+        "PUT /pic/a",
+        "Content-Length: 0\r\nx-amz-if-match-initiated-time: 2026-11-27T16:07:00Z\r\n",
+        "NotImplemented",
+    ),
+    (
+        "PUT /pic/a",
+        "Content-Length: 0\r\nx-amz-expected-bucket-owner: 111122223333\r\n",
+        "NotImplemented",
+    ),
+    (
+        "PUT /pic/a",
+        "Content-Length: 0\r\nx-amz-source-expected-bucket-owner: 111122223333\r\n",
+        "NotImplemented",
+    ),
+    (
+        "PUT /pic/a",
+        "Content-Length: 0\r\nx-amz-object-lock-mode: COMPLIANCE\r\n",
+        "NotImplemented",
+    ),
+    (
+        "PUT /pic/a",
+        "Content-Length: 0\r\nx-amz-object-lock-retain-until-date: 2027-11-27T16:07:00Z\r\n",
+        "NotImplemented",
+    ),
+    (
+        "PUT /pic/a",
+        "Content-Length: 0\r\nx-amz-object-lock-legal-hold: ON\r\n",
+        "NotImplemented",
+    ),
+    (
+        "PUT /pic/a",
+        "Content-Length: 0\r\nx-amz-bucket-object-lock-enabled: false\r\n",
+        "NotImplemented",
+    ),
+    (
+        "PUT /pic/a",
+        "Content-Length: 0\r\nX-Amz-Server-Side-Encryption: AES256\r\n",
+        "NotImplemented",
+    ),
+    (
+        "PUT /pic/a",
+        "Content-Length: 0\r\nx-amz-server-side-encryption-customer-algorithm: AES256\r\n",
+        "NotImplemented",
+    ),
+    (
+        "GET /pic/a",
+        "x-amz-expected-bucket-owner: 111122223333\r\n",
+        "NotImplemented",
+    ),
+    (
+        "PUT /pic/a",
+        "Content-Length: 0\r\nx-amz-checksum-crc32: AAAAAA==\r\nx-amz-meta-a: b\r\nx-amz-acl: private\r\n",
+        "Put pic/a binary/octet-stream no-md5 0",
+    ),
+];
+
 /// The names of a query that aren't served, whatever the method and the path.
 const NAMES: &[&str] = &[
     "accelerate",
@@ -200,7 +274,7 @@ fn calls_are_routed(rt: HostRuntime) -> Result<(), Fail> {
 #[test]
 fn targets_are_read(rt: HostRuntime) -> Result<(), Fail> {
     let alloc = rt.alloc();
-    for rows in [TARGETS, UNSERVED] {
+    for rows in [TARGETS, UNSERVED, UNKEPT] {
         for (start, lines, expected) in rows {
             let seen = read(alloc, *start, *lines)?;
             assert_eq!(rt; seen.as_str(), *expected, "{start}");
