@@ -1,5 +1,5 @@
 -- Whether a pass is one of a desk's is a fact.
-use Rattle.std.proofs.Common.{ℕ, ◌<◌, Option, Some, None}
+use Rattle.std.proofs.Common.{Option, Some, None}
 use Rattle.std.proofs.Props.{props}
 use Rattle.turn_lock.specs.declared.lock.TurnLock.{TurnLock}
 use Rattle.store_shared.specs.SharedPasses.{FitsDesk, IsOfLock, PassHolds, SharedHolds}

@@ -21,6 +21,7 @@ pub mod PartingLemmas
 pub mod PlaceLemmas
 pub mod PlainLemmas
 pub mod RiseLemmas
+pub mod SectionLemmas
 pub mod ServeLemmas
 pub mod SharedLemmas
 pub mod TermLemmas

@@ -11,6 +11,7 @@ pub mod OpeningAll
 pub mod Paging
 pub mod Parting
 pub mod Passes
+pub mod Sections
 pub mod Serving
 pub mod SharedAnswers
 pub mod SharedLaws

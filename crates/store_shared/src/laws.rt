@@ -1,6 +1,7 @@
 //! The laws of passes, and of what their desk answers.
 
 ghost use Rattle.store_shared.specs.Laws.{AnswersAreCalls, PassesAreInOrder};
+ghost use Rattle.store_shared.specs.Sections.{AnswersHaveSections, SectionsLead};
 ghost use Rattle.store_shared.specs.SharedLaws.{FitIsFact, SharedAnswersHaveTurns};
 
 use audit_trail::Audit;
@@ -23,6 +24,16 @@ pub fn answers_law<D: Drive, A: Audit>()
 pub fn shared_answers_law<D: Drive, A: Audit>()
     ensures { SharedAnswersHaveTurns D.Drive A.entries A.count }
 {}
+
+/// Whatever a call of a shared desk answers, it has its sections in each slot, one in each turn that its pass has more there. And where the turns of the history
+/// of a slot are those of sections, of whatever calls, they lead the slot, in the order of their turns: its audit has got their entries and no others, and where
+/// its lanes stood for something they stand for what these entries lead to, each section over what the one before it left. It does nothing.
+pub fn sections_law<D: Drive, A: Audit>()
+    ensures have { AnswersHaveSections D.Drive A.entries A.count }
+    ensures lead { SectionsLead D.Drive A.entries A.count }
+{
+    shared_answers_law::<D, A>();
+}
 
 /// Where it is true that what a pass holds is that of a desk's own passes, it is known: `Desk::fits` of a shared desk says the first, its calls ask for the
 /// second. It does nothing.
