@@ -373,14 +373,14 @@ class Letters:
         for drive in drives[2:]:
             drive.hide_slot(self.register())
         self.refused(pipe, "Write quorum: ggff", "PUT", b"z")
-        pipe.close()
+        self.ends(pipe, "Write quorum: ggff", "PUT")
         drives[2].show_slot(self.register())
         drives[3].block_data()
         for drive in drives[:2]:
             drive.flip_all("m/")
         pipe = Pipe(words, PROGRAM)
         self.refused(pipe, "Undecided 2 1: ddgf")
-        pipe.close()
+        self.ends(pipe, "Undecided 2 1: ddgf")
         shutil.rmtree(root)
 
     def cut_reply(self):
@@ -416,7 +416,7 @@ class Letters:
         except Cut:
             raise Wrong(f"{wanted}: the program ended with {pipe.wait()}") from None
         self.refused(pipe, wanted, method, body)
-        pipe.close()
+        self.ends(pipe, wanted, method)
         shutil.rmtree(root)
 
     def refused(self, pipe, wanted, method="GET", body=None):
@@ -426,6 +426,11 @@ class Letters:
         except Cut:
             raise Wrong(f"{wanted}: the program ended with {pipe.wait()}") from None
         must(reply.status == 503 and f"<Message>{wanted}</Message>".encode() in reply.body, f"{wanted} was wanted: {reply}")
+
+    def ends(self, pipe, wanted, method="GET"):
+        """The process ends well, and has said the one refusal in one line."""
+        ended, call = pipe.close(), {"GET": "GetObject", "PUT": "PutObject"}[method]
+        must(ended == (0, f"ostore: 503 SlowDown for {call}: {wanted}"), f"{wanted}: the program ended with {ended}")
 
 
 def main():

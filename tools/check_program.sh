@@ -1,7 +1,7 @@
 #!/usr/bin/env bash
 # Runs the built program as a user does, and compares its replies, its exit status and what it says on standard error. Each refusal that a
-# client can bring about is asked for once; those of drives stand in tools/check_kill.sh. With the word `slow` a key gets its 10,000
-# versions too, which takes minutes. Its last line is 'N passed, M failed'; it ends with 1 where a case failed.
+# client can bring about is asked for once, and one of drives; the others of drives stand in tools/check_kill.sh. With the word `slow` a key gets
+# its 10,000 versions too, which takes minutes. Its last line is 'N passed, M failed'; it ends with 1 where a case failed.
 set -uo pipefail
 
 top="$(cd "$(dirname "$(readlink -f "${BASH_SOURCE[0]}")")/.." && pwd)"
@@ -22,12 +22,18 @@ timeless() {
     LC_ALL=C sed -E 's/^(Date|Last-Modified): [^\r]*\r$/\1\r/' "$1"
 }
 
-# check NAME STATUS REPLIES ERRORS WORD..: standard input is the request
+# unopened FILE: what was said on standard error but for an opening
+unopened() {
+    sed -E '/^ostore: (opened set .*|drive [0-9]+ is out)$/d' "$1"
+}
+
+# check NAME STATUS REPLIES ERRORS WORD..: standard input is the request. What `pipe` says of its opening is looked at by `says`
 check() {
     local name="$1" status="$2" replies="$3" errors="$4" got
     shift 4
-    (cd / && "$ostore" "$@") >"$work/replies" 2>"$work/errors"
+    (cd / && "$ostore" "$@") >"$work/replies" 2>"$work/said"
     got=$?
+    if [[ "$*" == *pipe ]]; then unopened "$work/said" >"$work/errors"; else cp "$work/said" "$work/errors"; fi
     if [[ $got != "$status" ]]; then
         fails "$name: status $got, wanted $status"
     elif ! cmp -s <(timeless "$work/replies") <(printf '%b' "$replies"); then
@@ -39,7 +45,16 @@ check() {
     fi
 }
 
-# refuses STATUS CODE MESSAGE: the last reply to standard input, in memory, is this refusal, and closes where it has to
+# says NAME WORDS: the program of the last check said these words on standard error, those of its opening too
+says() {
+    if cmp -s "$work/said" <(printf '%b' "$2"); then
+        passed=$((passed + 1))
+    else
+        fails "$1: it said: $(cat "$work/said")"
+    fi
+}
+
+# refuses STATUS CODE MESSAGE: the last reply to standard input, in memory, is this refusal, and closes where it has to; it isn't said on standard error
 refuses() {
     local status="$1" code="$2" message="$3" got wanted=0
     "$ostore" pipe >"$work/replies" 2>"$work/errors"
@@ -55,6 +70,8 @@ refuses() {
         fails "$code: another document: $(tail -1 "$work/last")"
     elif [[ $wanted == 9 ]] && ! grep -aq $'^Connection: close\r$' "$work/last"; then
         fails "$code: it doesn't say that it closes"
+    elif grep -q "$code" "$work/errors"; then
+        fails "$code: it is said on standard error: $(cat "$work/errors")"
     else
         passed=$((passed + 1))
     fi
@@ -105,11 +122,11 @@ empty="${empty%hello}"
 no_range="$(refusal '416 Range Not Satisfiable' InvalidRange 'The range is not satisfiable.' /pic/a 'Content-Range: bytes */0\r\n')"
 of_hello='Content-MD5: XUFAKrxLKna5cZ2REBfFkg==\r\n'
 differs="$(refusal '400 Bad Request' BadDigest 'The Content-MD5 differs from the body.' /pic/a '')"
-opened='ostore: opened set 00000000-0000-0000-0000-000000000000, 4 drives, parity 2\n'
+opened() { echo "ostore: opened set 00000000-0000-0000-0000-000000000000, term $1, 4 drives, parity 2\n"; }
 no_bucket="$(refusal '404 Not Found' NoSuchBucket 'The specified bucket does not exist.' /none/a '')"
 
-"$ostore" pipe </dev/null || {
-    fails 'the program does not run'
+"$ostore" pipe </dev/null 2>"$work/said" || {
+    fails "the program does not run: $(cat "$work/said")"
     echo "$passed passed, $failed failed"
     exit 1
 }
@@ -130,7 +147,7 @@ check 'six drives' 0 "$made$stored$found" '' --drives 6 --parity=2 pipe < <(ask 
 check 'no input' 0 '' '' pipe </dev/null
 check 'the client closes' 0 "${made/Date/Date\\r\\nConnection: close}" '' pipe < <(ask 'PUT /pic HTTP/1.1\r\nConnection: close\r\n\r\n')
 check 'no words' 2 '' 'ostore: usage\n' </dev/null
-check 'an address that is none' 4 '' "ostore: can't listen on nowhere\n${opened}ostore: read fault\n" --listen nowhere serve </dev/null
+check 'an address that is none' 4 '' "ostore: can't listen on nowhere\n$(opened 1)ostore: read fault\n" --listen nowhere serve </dev/null
 check 'a word too many' 2 '' 'ostore: usage\n' pipe pipe </dev/null
 check 'an option twice' 2 '' 'ostore: usage\n' --drives 4 --drives 4 pipe </dev/null
 check 'too many drives' 2 '' 'ostore: usage\n' --drives 17 pipe </dev/null
@@ -142,7 +159,7 @@ check 'an input that is cut' 8 '' 'ostore: input cut\n' pipe < <(ask 'GET /pic')
 check 'a body that is cut' 8 "$made" 'ostore: input cut\n' pipe < <(ask "${make}PUT /pic/a HTTP/1.1\r\nContent-Length: 9\r\n\r\nhello")
 
 (ask "$make" | "$ostore" pipe >/dev/full) 2>"$work/errors"
-if [[ $? == 5 && "$(cat "$work/errors")" == 'ostore: write fault' ]]; then
+if [[ $? == 5 && "$(unopened "$work/errors")" == 'ostore: write fault' ]]; then
     passed=$((passed + 1))
 else
     fails 'an output that is full'
@@ -156,14 +173,25 @@ fresh='"absent","absent","absent","absent"'
 good='"good","good","good","good"'
 check 'fresh drives' 0 "$(line "$fresh" 0)\n" '' "${root[@]}" status </dev/null
 check 'a body is stored on folders' 0 "$made$stored" '' "${root[@]}" pipe < <(ask "$make$put")
+says 'an opening' "$(opened 1)"
 check 'the next process finds it' 0 "$found" '' "${root[@]}" pipe < <(ask "$get")
 check 'drives that were opened twice' 0 "$(line "$good" 2)\n" '' "${root[@]}" status </dev/null
 mv "$work/store/1" "$work/away"
 check 'it is found without a drive' 0 "$found" '' "${root[@]}" pipe < <(ask "$get")
+says 'an opening without a drive' "$(opened 3)ostore: drive 1 is out\n"
 check 'a drive that is away' 0 "$(line '"good","absent","good","good"' 3)\n" '' "${root[@]}" status </dev/null
 rm -rf "$work/store/1"
 mv "$work/away" "$work/store/1"
 check 'it is back' 0 "$found$stored" '' "${root[@]}" pipe < <(ask "$get$put")
+
+# A refusal for which the drives are the cause is a line on standard error, also where the key has a line break.
+cp -a "$work/store" "$work/hurt"
+check 'a key with a line break' 0 "$stored" '' --root "$work/hurt" pipe < <(ask "${put/a HTTP/a%0Ab HTTP}")
+rm -r "$work/hurt"/[012]/data/732f*
+lost="$(refusal '503 Service Unavailable' SlowDown 'Shard quorum: lllg' /pic/a%0Ab '')"
+check 'too few drives have it' 0 "$lost" 'ostore: 503 SlowDown for GetObject: Shard quorum: lllg\n' \
+    --root "$work/hurt" pipe < <(ask "${get/a HTTP/a%0Ab HTTP}")
+
 check 'another set' 3 '' 'ostore: opening refused\n' "${root[@]}" --set 00000000-0000-0000-0000-000000000001 pipe </dev/null
 check 'other numbers' 3 '' 'ostore: opening refused\n' "${root[@]}" --parity 1 pipe </dev/null
 check 'a root that is not there' 3 '' 'ostore: opening refused\n' --root "$work/none" pipe </dev/null

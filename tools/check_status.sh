@@ -44,9 +44,9 @@ check 'a head of no request' 9 "$closing" 'ostore: closed\n' pipe < <(printf 'no
 
 # 5: the sink
 for command in pipe status; do
-    printf '%b' "$bucket" | "$program" "$command" >/dev/full 2>"$work/errors"
+    printf '%b' "$bucket" | "$program" "$command" >/dev/full 2>"$work/said"
     status=$?
-    holds "$command into an output that is full: status $status" test "$status $(cat "$work/errors")" == '5 ostore: write fault'
+    holds "$command into an output that is full: status $status" test "$status $(unopened "$work/said")" == '5 ostore: write fault'
 done
 
 # 3 and the survey, over folders

@@ -1,6 +1,7 @@
 """What a client sees of the program: a request is written, and its reply read before the next one. Pipe is a `pipe` process."""
 
 import pathlib
+import re
 import subprocess
 import time
 
@@ -83,6 +84,10 @@ class Talk:
         return int(lines[0].split()[1]), headers
 
 
+# What the program says of its opening.
+OPENING = re.compile(r"^ostore: (?:opened set .*|drive \d+ is out)\n", re.M)
+
+
 class Pipe(Talk):
     """The program with these words before `pipe`."""
 
@@ -101,8 +106,8 @@ class Pipe(Talk):
         self.process.kill()
 
     def wait(self):
-        """The exit status of a process that ends or was killed, and what it said on standard error."""
-        said = self.process.stderr.read().decode(errors="replace").strip()
+        """The exit status of a process that ends or was killed, and what it said on standard error but for its opening."""
+        said = OPENING.sub("", self.process.stderr.read().decode(errors="replace")).strip()
         status = self.process.wait()
         for stream in (self.process.stdin, self.process.stdout, self.process.stderr):
             try:

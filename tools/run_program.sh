@@ -19,10 +19,17 @@ without_moments() {
     LC_ALL=C sed -E 's/^(Date|Last-Modified): [A-Z][a-z]{2}, .* GMT/\1: -/; s/<(CreationDate|LastModified)>[^<]*</<\1>-</g'
 }
 
-# Runs the program, and leaves what it gave in "$work/replies", its words in "$work/errors" and its status in "$status": run WORD..
+# Prints a file of words on standard error without those of an opening: unopened FILE
+unopened() {
+    sed -E '/^ostore: (opened set .*|drive [0-9]+ is out)$/d' "$1"
+}
+
+# Runs the program, and leaves what it gave in "$work/replies", its words in "$work/said", these without its opening's in "$work/errors", and its status in
+# "$status": run WORD..
 run() {
-    (cd / && "$program" "$@") >"$work/replies" 2>"$work/errors"
+    (cd / && "$program" "$@") >"$work/replies" 2>"$work/said"
     status=$?
+    unopened "$work/said" >"$work/errors"
 }
 
 # Standard input is that of the program: check NAME STATUS REPLIES ERRORS WORD..
@@ -90,6 +97,6 @@ finish() {
 
 run pipe </dev/null
 if [[ $status != 0 ]]; then
-    fails "the program does not run: $(head -c 400 "$work/errors")"
+    fails "the program does not run: $(head -c 400 "$work/said")"
     finish
 fi

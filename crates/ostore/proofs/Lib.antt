@@ -5,6 +5,7 @@ mod DoorsLemmas
 mod FitsLemmas
 mod FreshLemmas
 mod LifeLemmas
+mod OpenLemmas
 mod PipeLemmas
 mod PlaceLemmas
 mod ProgramLemmas

@@ -1,16 +1,24 @@
-//! What the program says on standard error while it serves.
+//! What the program says on standard error of its store and its address; what it says of refusals is in `serve_loop`.
 
-use drive_base::SetPlan;
+ghost use Rattle.std.specs.Prelude.{◌≡◌, length};
+
+use audit_trail::Audit;
+use drive_base::Drive;
 use io_base::TcpDoor;
 use std::io::Eprint;
 use std::rt::Clock;
+use store_shared::PassParts;
 use uuid::Uuid;
 
-/// Says that a store was opened, and which of its drives are out.
-pub fn tell_opened<R: Eprint>(rt: &R, set: &SetPlan) {
+/// Says that a store was opened, under which term, and which of its drives are out.
+pub fn tell_opened<R: Eprint, D: Drive, A: Audit>(rt: &R, parts: &PassParts<D, A>)
+    requires slots { length parts.now.slots.items ≡ 64 }
+{
+    let set = &parts.set;
     let id = Uuid::from_bytes(set.id);
+    let term = parts.slots[0].term();
     let _ = eprintln!(rt;
-        "ostore: opened set {id}, {} drives, parity {}",
+        "ostore: opened set {id}, term {term}, {} drives, parity {}",
         set.drives, set.parity
     );
     for index in 0..set.drives {

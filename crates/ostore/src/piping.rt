@@ -7,8 +7,10 @@ ghost use Rattle.ostore.specs.Running.{Pipes};
 ghost use Rattle.ostore.specs.Statuses.{refusal_status};
 ghost use Rattle.serve_loop.specs.Deeds.{wires};
 ghost use Rattle.serve_loop.specs.Session.{Session};
+ghost use Rattle.store_shared.specs.Passes.{disks_of, set_of, slots_of};
 
 use crate::laws::connection_law;
+use crate::notices::tell_opened;
 use crate::opening::{Shop, Shut, close, open};
 use crate::rig::{Ended, Rig};
 use crate::statuses::{status_of, status_of_refusal};
@@ -17,6 +19,7 @@ use drive_base::Drive;
 use io_base::{Clock, Sink, Source};
 use serve_loop::{Served, serve_connection};
 use std::alloc::Global;
+use std::io::Eprint;
 use store_shared::{PlainDesk, PlainPass};
 
 /// A run that has ended, with its source.
@@ -28,8 +31,9 @@ pub struct Finished<D, A, S> {
     pub source: S,
 }
 
-/// Serves one connection over the store of a rig, from the source to the sink.
-pub fn pipe<S: Source + Drop, K: Sink, D: Drive, A: Audit, C: Clock>(
+/// Serves one connection over the store of a rig, from the source to the sink. The opening is said on standard error.
+pub fn pipe<R: Eprint, S: Source + Drop, K: Sink, D: Drive, A: Audit, C: Clock>(
+    rt: &R,
     alloc: Global,
     source: S,
     sink: &mut K,
@@ -44,8 +48,9 @@ pub fn pipe<S: Source + Drop, K: Sink, D: Drive, A: Audit, C: Clock>(
     connection_law::<D, A>();
     match open(alloc, rig) {
         Ok(shop) => {
-            let Shop { mut pass, away } = shop;
-            let served = connection(alloc, &mut pass, source, sink, clock);
+            let Shop { pass, away } = shop;
+            let mut pass = announce(rt, pass);
+            let served = connection(rt, alloc, &mut pass, source, sink, clock);
             Finished {
                 ended: Ended::with(status_of(&served.end), close(pass, away)),
                 source: served.source,
@@ -56,6 +61,17 @@ pub fn pipe<S: Source + Drop, K: Sink, D: Drive, A: Audit, C: Clock>(
             source,
         },
     }
+}
+
+/// Says that a store was opened, and hands it on.
+fn announce<R: Eprint, D: Drive, A: Audit>(rt: &R, pass: PlainPass<D, A>) -> PlainPass<D, A>
+    ensures set { set_of result ≡ set_of pass }
+    ensures slots { slots_of result ≡ slots_of pass }
+    ensures disks { disks_of result ≡ disks_of pass }
+{
+    let parts = pass.into_parts();
+    tell_opened(rt, &parts);
+    PlainPass::new(parts)
 }
 
 /// The end of a run for which the store was not opened.
@@ -75,7 +91,8 @@ fn shut<D: Drive, A: Audit>(back: Shut<D, A>) -> Ended<D, A, ()>
 }
 
 /// Serves one connection over an open store.
-fn connection<S: Source + Drop, K: Sink, D: Drive, A: Audit, C: Clock>(
+fn connection<R: Eprint, S: Source + Drop, K: Sink, D: Drive, A: Audit, C: Clock>(
+    rt: &R,
     alloc: Global,
     pass: &mut PlainPass<D, A>,
     source: S,
@@ -87,5 +104,5 @@ fn connection<S: Source + Drop, K: Sink, D: Drive, A: Audit, C: Clock>(
         (wires (S.left result.source) (K.given sink.new) (S.faults result.source) (K.faults sink.new)) }
 {
     let desk: PlainDesk<D, A> = PlainDesk::new();
-    serve_connection(alloc, &desk, pass, source, sink, clock)
+    serve_connection(rt, alloc, &desk, pass, source, sink, clock)
 }

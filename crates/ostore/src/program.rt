@@ -15,9 +15,10 @@ use command_line::{Command, Usage, plan_of};
 use drive_base::Drive;
 use io_base::{Clock, Sink, Source};
 use std::alloc::Global;
+use std::io::Eprint;
 
 /// Does the command that the words say, on one thread. The words of `serve` are none of these commands.
-pub fn run_alone<R: AllocGlobal, S: Source + Drop, K: Sink, D: Drive, A: Audit, C: Clock>(
+pub fn run_alone<R: AllocGlobal + Eprint, S: Source + Drop, K: Sink, D: Drive, A: Audit, C: Clock>(
     rt: &R,
     words: &[String],
     source: S,
@@ -35,7 +36,7 @@ pub fn run_alone<R: AllocGlobal, S: Source + Drop, K: Sink, D: Drive, A: Audit, 
 {
     let alloc = rt.alloc();
     match plan_of(alloc, words) {
-        Ok(plan) => run_command(alloc, plan.command, source, sink, rig, clock),
+        Ok(plan) => run_command(rt, alloc, plan.command, source, sink, rig, clock),
         Err(Usage::NotACommand) => Finished {
             ended: Ended::with(USAGE, rig),
             source,
@@ -48,7 +49,8 @@ pub fn run_alone<R: AllocGlobal, S: Source + Drop, K: Sink, D: Drive, A: Audit, 
 }
 
 /// Does one command. That of `serve` is not done: the exit status is 2.
-pub fn run_command<S: Source + Drop, K: Sink, D: Drive, A: Audit, C: Clock>(
+pub fn run_command<R: Eprint, S: Source + Drop, K: Sink, D: Drive, A: Audit, C: Clock>(
+    rt: &R,
     alloc: Global,
     command: Command,
     source: S,
@@ -62,7 +64,7 @@ pub fn run_command<S: Source + Drop, K: Sink, D: Drive, A: Audit, C: Clock>(
         (wires (S.left result.source) (K.given sink.new) (S.faults result.source) (K.faults sink.new)) }
 {
     match command {
-        Command::Pipe => pipe(alloc, source, sink, rig, clock),
+        Command::Pipe => pipe(rt, alloc, source, sink, rig, clock),
         Command::Status => Finished {
             ended: status(alloc, sink, rig),
             source,

@@ -67,7 +67,10 @@ pub fn run<
                 ended: serve(rt, alloc, rig, clock, doors, spawner, NoGate),
                 source,
             },
-            command => with_doors(run_command(alloc, command, source, sink, rig, clock), doors),
+            command => with_doors(
+                run_command(rt, alloc, command, source, sink, rig, clock),
+                doors,
+            ),
         },
         Err(Usage::NotACommand) => undone(USAGE, rig, source, doors),
         Err(Usage::NoMemory) => undone(OUT_OF_MEMORY, rig, source, doors),

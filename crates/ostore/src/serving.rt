@@ -53,7 +53,7 @@ pub fn serve<
     match open(alloc, rig) {
         Ok(Shop { pass, away }) => {
             let parts = pass.into_parts();
-            tell_opened(rt, &parts.set);
+            tell_opened(rt, &parts);
             let end = serve_store(rt, alloc, parts, clock, doors, spawner, gate);
             ended(end, away)
         }
@@ -127,7 +127,7 @@ fn shut<D: Drive, A: Audit, O>(back: Shut<D, A>, doors: Vec<O>) -> Ended<D, A, V
 
 /// Serves doors over the parts of a store, whose data drives are shared from then on.
 fn serve_store<
-    R: Threads + Wait + Copy + Drop + Send + Sync,
+    R: Eprint + Threads + Wait + Copy + Drop + Send + Sync,
     D: Share + Send + Drop,
     A: Audit + Send + Drop,
     C: Clock + Sync,
@@ -218,7 +218,7 @@ fn close_desk<R: Drop, D: Drive + Drop, A: Audit + Drop, O: Drop, G: Drop>(
 
 /// Serves doors over a desk, each by a worker with a pass of its own, and joins all passes then.
 fn serve_doors<
-    R: Threads + Wait + Copy + Drop + Send + Sync,
+    R: Eprint + Threads + Wait + Copy + Drop + Send + Sync,
     D: Share + Send + Drop,
     A: Audit + Send + Drop,
     C: Clock + Sync,

@@ -13,6 +13,7 @@ use drive_file::Share;
 use io_base::{Clock, Door, Spawned, Spawner};
 use serve_loop::ServeWork;
 use std::alloc::Global;
+use std::io::Eprint;
 use std::sync::Wait;
 use std::thread::Threads;
 use store_shared::{SharedDesk, SharedPass, fits_law};
@@ -58,7 +59,7 @@ pub fn employ<
 /// Does works of this desk and clock beside one another.
 pub fn run_each<
     'a,
-    R: Threads + Wait + Copy + Drop + Send + Sync,
+    R: Eprint + Threads + Wait + Copy + Drop + Send + Sync,
     D: Share + Send + Drop,
     A: Audit + Send + Drop,
     O: Door + Send + Drop,

@@ -10,7 +10,6 @@ use Rattle.call_types.specs.declared.feed.Cut.TheVariants.{ReadFault, BodyCut, W
 use Rattle.call_types.specs.declared.reply.Reply.{Reply}
 use Rattle.desk_base.specs.Answering.{CallTells, CutCause, Serves, TellsPart, bytes_after, tale_of}
 use Rattle.desk_base.specs.Telling.{Effect, Telling, Tells, TellsAll, TellsCause}
-use Rattle.call_types.specs.declared.reply.Reply.TheVariants.{Plain}
 use Rattle.desk_base.specs.Telling.Telling.{Head}
 use Rattle.desk_base.specs.declared.call.Call.{Call}
 use Rattle.serve_loop.proofs.CutLemmas.{failed}
@@ -154,8 +153,10 @@ none_cause WriteFault feed feed_after reads reads_after writes same cause = absu
 none_cause (ShardCut whys) feed feed_after reads reads_after writes same cause = absurd cause
 none_cause NoMemory feed feed_after reads reads_after writes same cause = absurd cause
 
--- that a call is done is a whole reply
-pub plain_serves : {T : Type 0} (takes breaks : Effect T) (call : Call) (result : Result (Unit {0}) Cut) (old new : T) (a b : ℕ)
-    → Tells takes breaks result (Head Plain) old new → TellsCause result a b → ServesTelling takes breaks call result old new
-plain_serves takes breaks call (Ok _) old new a b told cause = last_serves takes breaks call (Ok tt) [] (Head Plain) Plain [] old old new a b refl told cause refl (omega arith) (inl refl) refl
-plain_serves takes breaks call (Err why) old new a b told cause = last_serves takes breaks call (failed (Unit {0}) why) [] (Head Plain) Plain [] old old new a b refl told cause refl (omega arith) (inl refl) tt
+-- a reply without a body is a whole one
+pub head_serves : {T : Type 0} (takes breaks : Effect T) (call : Call) (reply : Reply) (result : Result (Unit {0}) Cut) (old new : T) (a b : ℕ)
+    → bytes_after reply call ≡ 0 → Tells takes breaks result (Head reply) old new → TellsCause result a b → ServesTelling takes breaks call result old new
+head_serves takes breaks call reply (Ok _) old new a b none told cause =
+    last_serves takes breaks call (Ok tt) [] (Head reply) reply [] old old new a b refl told cause refl (omega arith) (inl refl) (sym none)
+head_serves takes breaks call reply (Err why) old new a b none told cause =
+    last_serves takes breaks call (failed (Unit {0}) why) [] (Head reply) reply [] old old new a b refl told cause refl (omega arith) (inl refl) tt

@@ -17,7 +17,7 @@ abbrev pub unread : {S : Type 0} → (S → Option (List ℕ)) → Intake S → 
 unread left intake = unread_of (wire_of intake) (left intake.wire.source)
 
 -- what is seen of a teller
-abbrev pub told_of : {T : Type 0} → (T → Option (List ℕ)) → ReplyTeller T → Told
+abbrev pub told_of : {R T : Type 0} → (T → Option (List ℕ)) → ReplyTeller R T → Told
 told_of given t = record {
   reply = record { head = t.head.now; call = t.call.now; now = t.now; close = t.close; waits = t.waits };
   given = given t.sink.now;

@@ -20,6 +20,7 @@ use desk_base::Desk;
 use http_wire::{Wire, WireFault};
 use io_base::{Clock, Sink, Source};
 use std::alloc::Global;
+use std::io::Eprint;
 
 /// The most requests that are served on one connection.
 pub const MOST_REQUESTS: u64 = 1_000_000;
@@ -34,17 +35,24 @@ pub struct Served<S> {
 }
 
 /// Refuses a head and closes.
-fn refuse_head<T: Sink>(alloc: Global, now: u64, sink: &mut T, why: Refusal) -> Turn
+fn refuse_head<R: Eprint, T: Sink>(
+    rt: &R,
+    alloc: Global,
+    now: u64,
+    sink: &mut T,
+    why: Refusal,
+) -> Turn
     ensures { RefusesHead result why now (T.given sink.old) (T.given sink.new) (T.faults sink.old) (T.faults sink.new) }
 {
     turn_of(
-        give_refusal(alloc, sink, None, why, now, true),
+        give_refusal(rt, alloc, sink, None, why, now, true),
         Manner::ServerCloses,
     )
 }
 
 /// Reads one request and answers it.
-fn serve_one<K: Desk, S: Source + Drop, T: Sink, C: Clock>(
+fn serve_one<R: Eprint, K: Desk, S: Source + Drop, T: Sink, C: Clock>(
+    rt: &R,
     alloc: Global,
     desk: &K,
     pass: &mut K::Pass,
@@ -64,12 +72,24 @@ fn serve_one<K: Desk, S: Source + Drop, T: Sink, C: Clock>(
     match intake.next_head(alloc) {
         Ok(Some(head)) => {
             let now = clock.now();
-            serve_head(alloc, desk, pass, now, &head, is_last, intake, sink)
+            serve_head(rt, alloc, desk, pass, now, &head, is_last, intake, sink)
         }
         Ok(None) => Turn::Ended(ConnectionEnd::Over),
-        Err(WireFault::BadHead) => refuse_head(alloc, clock.now(), sink, Refusal::BadHead),
-        Err(WireFault::HeadTooLong) => refuse_head(alloc, clock.now(), sink, Refusal::HeadTooLong),
-        Err(WireFault::ChunkedBody) => refuse_head(alloc, clock.now(), sink, Refusal::ChunkedBody),
+        Err(WireFault::BadHead) => refuse_head(rt, alloc, clock.now(), sink, Refusal::BadHead),
+        Err(WireFault::HeadTooLong) => refuse_head(
+            rt,
+            alloc,
+            clock.now(),
+            sink,
+            Refusal::HeadTooLong,
+        ),
+        Err(WireFault::ChunkedBody) => refuse_head(
+            rt,
+            alloc,
+            clock.now(),
+            sink,
+            Refusal::ChunkedBody,
+        ),
         Err(WireFault::BodyCut { .. }) => Turn::Ended(ConnectionEnd::InputCut),
         Err(WireFault::ReadFault) => Turn::Ended(ConnectionEnd::ReadFault),
         Err(WireFault::NoMemory) => Turn::Ended(ConnectionEnd::NoMemory),
@@ -84,7 +104,8 @@ fn is_last(number: u64) -> bool
 }
 
 /// Serves requests until the connection ends.
-fn serve_all<K: Desk, S: Source + Drop, T: Sink, C: Clock>(
+fn serve_all<R: Eprint, K: Desk, S: Source + Drop, T: Sink, C: Clock>(
+    rt: &R,
     alloc: Global,
     desk: &K,
     pass: &mut K::Pass,
@@ -99,7 +120,7 @@ fn serve_all<K: Desk, S: Source + Drop, T: Sink, C: Clock>(
     ensures holds { K.holds pass.new ≡ K.holds pass.old }
 {
     for number in 0..MOST_REQUESTS {
-        match serve_one(alloc, desk, pass, clock, is_last(number), intake, sink) {
+        match serve_one(rt, alloc, desk, pass, clock, is_last(number), intake, sink) {
             Turn::Answered => {}
             Turn::Ended(end) => return end,
         }
@@ -107,8 +128,10 @@ fn serve_all<K: Desk, S: Source + Drop, T: Sink, C: Clock>(
     ConnectionEnd::Closed
 }
 
-/// Serves the requests of a connection, one after another, and gives the reply of each before the next is read.
-pub fn serve_connection<K: Desk, S: Source + Drop, T: Sink, C: Clock>(
+/// Serves the requests of a connection, one after another, and gives the reply of each before the next is read. A reply that is a 5xx refusal, but for 501, is said
+/// on standard error too.
+pub fn serve_connection<R: Eprint, K: Desk, S: Source + Drop, T: Sink, C: Clock>(
+    rt: &R,
     alloc: Global,
     desk: &K,
     pass: &mut K::Pass,
@@ -125,7 +148,7 @@ pub fn serve_connection<K: Desk, S: Source + Drop, T: Sink, C: Clock>(
     match Wire::new(alloc, source) {
         Ok(wire) => {
             let mut intake = Intake::new(wire);
-            let end = serve_all(alloc, desk, pass, clock, &mut intake, sink);
+            let end = serve_all(rt, alloc, desk, pass, clock, &mut intake, sink);
             Served {
                 end,
                 source: intake.into_source(),

@@ -7,6 +7,7 @@ use crate::connection::serve_connection;
 use desk_base::Desk;
 use io_base::{Clock, Door};
 use std::alloc::Global;
+use std::io::Eprint;
 use std::sync::Wait;
 
 /// How the serving of a door ended.
@@ -30,7 +31,8 @@ enum Round {
 }
 
 /// Serves the next connection of a door, and hands it back.
-fn serve_next<K: Desk, O: Door, C: Clock>(
+fn serve_next<R: Eprint, K: Desk, O: Door, C: Clock>(
+    rt: &R,
     alloc: Global,
     desk: &K,
     pass: &mut K::Pass,
@@ -44,7 +46,7 @@ fn serve_next<K: Desk, O: Door, C: Clock>(
 {
     match door.next() {
         Ok(Some((source, mut sink))) => {
-            let served = serve_connection(alloc, desk, pass, source, &mut sink, clock);
+            let served = serve_connection(rt, alloc, desk, pass, source, &mut sink, clock);
             door.back(served.source, sink);
             Round::Served
         }
@@ -55,7 +57,7 @@ fn serve_next<K: Desk, O: Door, C: Clock>(
 
 /// Serves the connections of a door one after another, and hands each of them back, however it ended, until no more will come
 /// or the door fails. It may wait for connections without an end.
-pub fn serve_door<R: Wait, K: Desk, O: Door, C: Clock>(
+pub fn serve_door<R: Wait + Eprint, K: Desk, O: Door, C: Clock>(
     rt: &R,
     alloc: Global,
     desk: &K,
@@ -70,7 +72,7 @@ pub fn serve_door<R: Wait, K: Desk, O: Door, C: Clock>(
 {
     let before = door.faults();
     'rounds: for _ in rt.forever() {
-        match serve_next(alloc, desk, pass, door, clock) {
+        match serve_next(rt, alloc, desk, pass, door, clock) {
             Round::Served => {}
             Round::Over => return DoorEnd::Over,
             Round::Failed => {

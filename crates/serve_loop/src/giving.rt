@@ -9,11 +9,13 @@ ghost use Rattle.serve_loop.specs.Exchanges.{greeting};
 ghost use Rattle.serve_loop.specs.Telling.{GivesText, MakesText};
 
 use crate::asks::expects_continue;
+use crate::notices::tell_refused;
 use call_types::{Cut, Refusal, Reply};
 use http_wire::Head;
 use io_base::Sink;
 use s3_reply::reply_text;
 use std::alloc::Global;
+use std::io::Eprint;
 
 /// Gives a text.
 pub(crate) fn give<T: Sink>(sink: &mut T, text: &[u8]) -> Result<(), Cut>
@@ -37,7 +39,8 @@ pub(crate) fn greet<T: Sink>(sink: &mut T, head: &Head, size: u64) -> Result<(),
 }
 
 /// Gives a refusal of the server's own; `head` is none where the request's head was refused.
-pub(crate) fn give_refusal<T: Sink>(
+pub(crate) fn give_refusal<R: Eprint, T: Sink>(
+    rt: &R,
     alloc: Global,
     sink: &mut T,
     head: Option<&Head>,
@@ -48,6 +51,7 @@ pub(crate) fn give_refusal<T: Sink>(
     ensures { MakesText result (reply_bytes (asked_of head.entry None (Refused why)) now close) (T.given sink.old) (T.given sink.new)
         (T.faults sink.old) (T.faults sink.new) }
 {
+    tell_refused(rt, alloc, None, &why);
     let Ok(text) = reply_text(alloc, head, None, &Reply::Refused(why), now, close) else {
         return Err(Cut::NoMemory);
     };

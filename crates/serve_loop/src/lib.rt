@@ -9,6 +9,8 @@
 //!
 //! [`serve_door`] serves the connections of a door so, one after another, and hands each back. A [`ServeWork`] is that as a work for a thread: workers
 //! share one desk, each with a pass and a door of its own. It stands on `io_base` for doors and works.
+//!
+//! Where the store itself is the trouble, with a 5xx refusal but for 501, a line on standard error says so too, of which nothing is promised.
 #![tactic(auto)]
 
 mod asks;
@@ -18,6 +20,7 @@ mod ends;
 mod giving;
 mod intake;
 mod manner;
+mod notices;
 mod serving;
 mod telling;
 mod works;

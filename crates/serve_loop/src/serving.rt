@@ -22,12 +22,14 @@ use http_wire::Head;
 use io_base::{Sink, Source};
 use s3_request::{CallFault, read_call};
 use std::alloc::Global;
+use std::io::Eprint;
 
 /// The most bytes of a body: 5 GiB.
 pub const MOST_BODY: u64 = 5_368_709_120;
 
 /// Has the desk serve a call, whose body was read but for what the call takes, and gives the reply once the body is read to its end.
-fn ask<K: Desk, S: Source + Drop, T: Sink>(
+fn ask<R: Eprint, K: Desk, S: Source + Drop, T: Sink>(
+    rt: &R,
     alloc: Global,
     desk: &K,
     pass: &mut K::Pass,
@@ -51,6 +53,7 @@ fn ask<K: Desk, S: Source + Drop, T: Sink>(
 {
     let mut held = Vec::new(alloc);
     let mut teller = ReplyTeller {
+        rt,
         alloc,
         sink,
         head,
@@ -67,9 +70,9 @@ fn ask<K: Desk, S: Source + Drop, T: Sink>(
 }
 
 /// Reads the rest of the body, and then gives what is left of a reply.
-fn finish<S: Source + Drop, T: Sink>(
+fn finish<R, S: Source + Drop, T: Sink>(
     intake: &mut Intake<S>,
-    teller: &mut ReplyTeller<'_, T>,
+    teller: &mut ReplyTeller<'_, R, T>,
 ) -> Result<(), Cut>
     ensures name { teller.new.sink.ghost_name ≡ teller.old.sink.ghost_name }
     ensures finishes { Finishes result (wire_of intake.old) (wire_of intake.new) (S.left intake.old.wire.source) (S.left intake.new.wire.source)
@@ -81,7 +84,7 @@ fn finish<S: Source + Drop, T: Sink>(
 }
 
 /// Gives what was told of a reply whose body was cut, and nothing where the call was cut otherwise.
-fn break_off<T: Sink>(cut: Cut, teller: &mut ReplyTeller<'_, T>) -> Result<(), Cut>
+fn break_off<R, T: Sink>(cut: Cut, teller: &mut ReplyTeller<'_, R, T>) -> Result<(), Cut>
     ensures name { teller.new.sink.ghost_name ≡ teller.old.sink.ghost_name }
     ensures breaks { BreaksOff cut result (told_of T.given teller.old) (told_of T.given teller.new)
         (T.faults teller.old.sink.now) (T.faults teller.new.sink.now) }
@@ -107,7 +110,8 @@ fn ready<S: Source + Drop>(call: &Call, intake: &mut Intake<S>) -> Result<(), Cu
 }
 
 /// Serves a call, or is cut.
-fn serve_call<K: Desk, S: Source + Drop, T: Sink>(
+fn serve_call<R: Eprint, K: Desk, S: Source + Drop, T: Sink>(
+    rt: &R,
     alloc: Global,
     desk: &K,
     pass: &mut K::Pass,
@@ -131,11 +135,12 @@ fn serve_call<K: Desk, S: Source + Drop, T: Sink>(
 {
     greet(sink, head, intake.body_left())?;
     ready(call, intake)?;
-    ask(alloc, desk, pass, now, head, call, close, intake, sink)
+    ask(rt, alloc, desk, pass, now, head, call, close, intake, sink)
 }
 
 /// Refuses a call behind its body, or is cut.
-fn refuse_call<S: Source + Drop, T: Sink>(
+fn refuse_call<R: Eprint, S: Source + Drop, T: Sink>(
+    rt: &R,
     alloc: Global,
     now: u64,
     head: &Head,
@@ -152,11 +157,12 @@ fn refuse_call<S: Source + Drop, T: Sink>(
 {
     greet(sink, head, intake.body_left())?;
     intake.pass_over()?;
-    give_refusal(alloc, sink, Some(head), why, now, close)
+    give_refusal(rt, alloc, sink, Some(head), why, now, close)
 }
 
 /// Refuses the call of a head: behind its body, or where that is left unread at once.
-fn refuse<S: Source + Drop, T: Sink>(
+fn refuse<R: Eprint, S: Source + Drop, T: Sink>(
+    rt: &R,
     alloc: Global,
     now: u64,
     head: &Head,
@@ -171,13 +177,14 @@ fn refuse<S: Source + Drop, T: Sink>(
     ensures rests { leaves_body why ≡ false → OnOk result (IsAtRest (wire_of intake.new)) }
 {
     if leaves_body(&why) {
-        return give_refusal(alloc, sink, Some(head), why, now, close);
+        return give_refusal(rt, alloc, sink, Some(head), why, now, close);
     }
-    refuse_call(alloc, now, head, why, close, intake, sink)
+    refuse_call(rt, alloc, now, head, why, close, intake, sink)
 }
 
 /// Serves the request of a head.
-pub(crate) fn serve_head<K: Desk, S: Source + Drop, T: Sink>(
+pub(crate) fn serve_head<R: Eprint, K: Desk, S: Source + Drop, T: Sink>(
+    rt: &R,
     alloc: Global,
     desk: &K,
     pass: &mut K::Pass,
@@ -202,13 +209,13 @@ pub(crate) fn serve_head<K: Desk, S: Source + Drop, T: Sink>(
         Ok(call) => {
             let manner = manner_of(head, is_last, false);
             let close = manner.closes();
-            let answer = serve_call(alloc, desk, pass, now, head, &call, close, intake, sink);
+            let answer = serve_call(rt, alloc, desk, pass, now, head, &call, close, intake, sink);
             turn_of(answer, manner)
         }
         Err(CallFault::Refused(why)) => {
             let manner = manner_of(head, is_last, leaves_body(&why));
             let close = manner.closes();
-            let answer = refuse(alloc, now, head, why, close, intake, sink);
+            let answer = refuse(rt, alloc, now, head, why, close, intake, sink);
             turn_of(answer, manner)
         }
         Err(CallFault::NoMemory) => Turn::Ended(ConnectionEnd::NoMemory),

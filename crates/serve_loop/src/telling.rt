@@ -7,6 +7,7 @@ ghost use Rattle.serve_loop.specs.Seen.{told_of};
 ghost use Rattle.serve_loop.specs.Telling.{BreaksText, FlushesText, TakesText, text_in};
 
 use crate::giving::give;
+use crate::notices::tell_reply;
 use call_types::{Cut, Reply};
 use desk_base::{Call, Teller};
 use fault_base::NoMemory;
@@ -14,14 +15,16 @@ use http_wire::Head;
 use io_base::Sink;
 use s3_reply::reply_text;
 use std::alloc::Global;
+use std::io::Eprint;
 
 /// The most bytes of a piece that goes out in one write with the head before it.
 const SMALL: usize = 65_536;
 
 /// Makes the text of a reply of what it is told, and gives it to a sink. A head waits for the first piece of its body, and all waits where the
-/// request's body isn't read yet.
+/// request's body isn't read yet. A refusal that is the store's trouble is said on standard error too.
 #[derive(Drop)]
-pub(crate) struct ReplyTeller<'a, T> {
+pub(crate) struct ReplyTeller<'a, R, T> {
+    pub(crate) rt: &'a R,
     pub(crate) alloc: Global,
     pub(crate) sink: &'a mut T,
     pub(crate) head: &'a Head,
@@ -34,7 +37,7 @@ pub(crate) struct ReplyTeller<'a, T> {
     pub(crate) held: &'a mut Vec<u8>,
 }
 
-impl<T: Sink> ReplyTeller<'_, T> {
+impl<R, T: Sink> ReplyTeller<'_, R, T> {
     /// Gives what is held.
     pub(crate) fn flush(&mut self) -> Result<(), Cut>
         ensures name { self.new.sink.ghost_name ≡ self.old.sink.ghost_name }
@@ -55,7 +58,7 @@ impl<T: Sink> ReplyTeller<'_, T> {
     }
 }
 
-impl<T: Sink> Teller for ReplyTeller<'_, T> {
+impl<R: Eprint, T: Sink> Teller for ReplyTeller<'_, R, T> {
     ghost takes = { λ old telling new. (new.sink.ghost_name ≡ old.sink.ghost_name)
         × TakesText (text_in (told_of T.given old).reply telling) (told_of T.given old) (told_of T.given new) };
 
@@ -65,6 +68,7 @@ impl<T: Sink> Teller for ReplyTeller<'_, T> {
     ghost faults = { λ t. T.faults t.sink.now };
 
     fn head(&mut self, reply: &Reply) -> Result<(), Cut> {
+        tell_reply(self.rt, self.alloc, self.call, reply);
         let made = reply_text(
             self.alloc,
             Some(self.head),

@@ -1,6 +1,7 @@
-//! Tests of what no clause says: whole connections as bytes, the order of reads and writes, and doors.
+//! Tests of what no clause says: whole connections as bytes, the order of reads and writes, doors, and what the operator is told.
 
 mod doors;
+mod notices;
 mod order;
 mod scripted;
 
@@ -9,6 +10,7 @@ use call_types::Whys;
 use io_base::{MemClock, MemSink, MemSource};
 use scripted::{ScriptedDesk, Way};
 use std::alloc::Global;
+use std::io::Eprint;
 use std::test::Fail;
 
 /// Two requests at once.
@@ -54,12 +56,18 @@ struct Talk {
 }
 
 /// A connection of these bytes, over a sink that fails at this write.
-fn hold_talk(alloc: Global, desk: &ScriptedDesk, input: &[u8], fails: u64) -> Result<Talk, Fail> {
+fn hold_talk<R: Eprint>(
+    rt: &R,
+    alloc: Global,
+    desk: &ScriptedDesk,
+    input: &[u8],
+    fails: u64,
+) -> Result<Talk, Fail> {
     let source = MemSource::new(Vec::from_slice(alloc, input)?, Vec::new(alloc));
     let mut sink = MemSink::new(vec![in alloc; fails]?);
     let mut served = 0;
     let clock = MemClock::new(784_111_777);
-    let talked = serve_connection(alloc, desk, &mut served, source, &mut sink, &clock);
+    let talked = serve_connection(rt, alloc, desk, &mut served, source, &mut sink, &clock);
     Ok(Talk {
         end: talked.end,
         served,
@@ -84,12 +92,12 @@ fn connections_are_answered_in_order(rt: HostRuntime) -> Result<(), Fail> {
         (CUT_BODY, ConnectionEnd::InputCut, 1, CONTINUE),
     ];
     for (input, end, served, given) in table {
-        let talk = hold_talk(alloc, &desk, input, NO_WRITE)?;
+        let talk = hold_talk(&rt, alloc, &desk, input, NO_WRITE)?;
         assert_eq!(rt; talk.end, end);
         assert_eq!(rt; talk.served, served);
         assert_eq!(rt; talk.sink.given(), given);
     }
-    let refused = hold_talk(alloc, &desk, REFUSED_CALL, NO_WRITE)?;
+    let refused = hold_talk(&rt, alloc, &desk, REFUSED_CALL, NO_WRITE)?;
     assert_eq!(rt; (refused.end, refused.served), (ConnectionEnd::Over, 1));
     Ok(())
 }
@@ -121,7 +129,7 @@ fn a_connection_is_cut_at_each_place(rt: HostRuntime) -> Result<(), Fail> {
     ];
     for (way, fails, end, served, length) in table {
         let desk = ScriptedDesk::new(alloc, way)?;
-        let talk = hold_talk(alloc, &desk, AWAITED_BODY, fails)?;
+        let talk = hold_talk(&rt, alloc, &desk, AWAITED_BODY, fails)?;
         assert_eq!(rt; talk.end, end);
         assert_eq!(rt; talk.served, served);
         assert_eq!(rt; talk.sink.given().len(), length);

@@ -8,6 +8,7 @@ use crate::connection::serve_connection;
 use desk_base::Desk;
 use io_base::{Clock, Door, Work};
 use std::alloc::Global;
+use std::io::Eprint;
 use std::snapshot::Snapshot;
 use std::sync::Wait;
 
@@ -99,7 +100,7 @@ impl<'a, R: Drop, K: Desk<Pass: Drop>, O: Door + Drop, C: Clock> ServeWork<'a, R
 }
 
 impl<
-    R: Wait + Send + Drop,
+    R: Wait + Eprint + Send + Drop,
     K: Desk<Pass: Send + Drop> + Sync,
     O: Door + Send + Drop,
     C: Clock + Sync,
@@ -130,7 +131,9 @@ impl<
         'rounds: for _ in self.rt.forever() {
             match door.next() {
                 Ok(Some((source, mut sink))) => {
-                    let served = serve_connection(alloc, desk, pass, source, &mut sink, clock);
+                    let served = serve_connection(
+                        &self.rt, alloc, desk, pass, source, &mut sink, clock,
+                    );
                     door.back(served.source, sink);
                 }
                 Ok(None) => return,

@@ -97,7 +97,7 @@ fn a_reply_is_given_before_the_next_read(rt: HostRuntime) -> Result<(), Fail> {
             gives: &gives,
             log: 1,
         };
-        let talked = serve_connection(rt.alloc(), &desk, &mut 0, source, &mut sink, &clock);
+        let talked = serve_connection(&rt, rt.alloc(), &desk, &mut 0, source, &mut sink, &clock);
         assert_eq!(rt; talked.end, end);
         assert_eq!(rt; talked.source.log, log);
     }

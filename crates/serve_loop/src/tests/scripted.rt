@@ -3,7 +3,7 @@
 ghost use Rattle.std.specs.Prelude.{◌≡◌, IsTrue, None};
 ghost use Rattle.desk_base.specs.Answering.{CallTells, CutCause, Serves, bytes_after};
 
-use call_types::{Cut, Feed, Reply, Span, Version, VersionName, What, Whys};
+use call_types::{Cut, Feed, Refusal, Reply, Span, Version, VersionName, What, Whys};
 use desk_base::{Call, Desk, Teller};
 use seal_file::Text;
 use stamp_id::VersionId;
@@ -15,6 +15,8 @@ use std::test::Fail;
 pub(crate) enum Way {
     /// It is cut before it tells anything.
     Starved,
+    /// It is refused, with four letters.
+    Refused,
     /// It is cut behind the head and a piece.
     Cut,
     /// It tells the head and `hello` in two pieces.
@@ -104,6 +106,7 @@ impl ScriptedDesk {
         }
         match self.way {
             Way::Starved => Err(Cut::NoMemory),
+            Way::Refused => teller.head(&Reply::Refused(Refusal::ReadQuorum(Whys::all_good(4)))),
             Way::Cut => tell_hello(call, &self.found, true, teller),
             Way::Whole => tell_hello(call, &self.found, false, teller),
         }
