@@ -147,7 +147,7 @@ check 'six drives' 0 "$made$stored$found" '' --drives 6 --parity=2 pipe < <(ask 
 check 'no input' 0 '' '' pipe </dev/null
 check 'the client closes' 0 "${made/Date/Date\\r\\nConnection: close}" '' pipe < <(ask 'PUT /pic HTTP/1.1\r\nConnection: close\r\n\r\n')
 check 'no words' 2 '' 'ostore: usage\n' </dev/null
-check 'an address that is none' 4 '' "ostore: can't listen on nowhere\n$(opened 1)ostore: read fault\n" --listen nowhere serve </dev/null
+check 'an address that is none' 4 '' "ostore: can't listen on nowhere\nostore: read fault\n" --listen nowhere serve </dev/null
 check 'a word too many' 2 '' 'ostore: usage\n' pipe pipe </dev/null
 check 'an option twice' 2 '' 'ostore: usage\n' --drives 4 --drives 4 pipe </dev/null
 check 'too many drives' 2 '' 'ostore: usage\n' --drives 17 pipe </dev/null

@@ -49,7 +49,7 @@ module _ {O S T K C P : Type 0} (door : DoorGhosts O S T) where
   -- a worker whose door didn't fail and was served out has a door that is over
   over_one : (worker : Worker K C P O) → IsStill door worker → IsServedOut (door.over worker.door) (door.faults worker.began.door) (door.faults worker.door)
       → IsOver door worker
-  over_one worker still (inl over) = record { over = over; faults = still.faults }
+  over_one worker still (inl over) = record { over = over; held = still.held; faults = still.faults }
   over_one worker still (inr rose) = absurd (still.held rose)
 
   -- the status tells how it ended

@@ -5,7 +5,10 @@ mod DoorsLemmas
 mod FitsLemmas
 mod FreshLemmas
 mod LifeLemmas
+mod MadeLemmas
 mod OpenLemmas
+mod PassPartLemmas
+mod PassTurnLemmas
 mod PipeLemmas
 mod PlaceLemmas
 mod ProgramLemmas
@@ -13,6 +16,7 @@ mod RefusalLemmas
 mod RigLemmas
 mod RunLemmas
 mod SendLemmas
+mod ServedLifeLemmas
 mod ServingLemmas
 mod SessionLemmas
 mod SharingLemmas

@@ -10,6 +10,7 @@ pub mod Program
 pub mod Rigs
 pub mod Running
 pub mod Served
+pub mod ServedLife
 pub mod Sharing
 pub mod Statuses
 pub mod Surveying

@@ -100,6 +100,7 @@ module _ {O S T : Type 0} (door : DoorGhosts O S T) where
     -- and it is over
     pub record IsOver (worker : Worker K C P O) : Type 0 where
       pub over : door.over worker.door ≡ true
+      pub held : DoorRose worker → ⊥
       pub faults : door.faults worker.door ≡ door.faults worker.began.door
 
     -- how the serving of doors ended, from the workers that were done and those that were left: a door failed; or a work was left; or all doors are over

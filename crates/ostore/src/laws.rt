@@ -1,14 +1,18 @@
-//! The laws of a run: of a slot from its opening to its close, of a connection over a whole store, and of the rig that it leaves.
+//! The laws of a run: of a slot from its opening to its close, of a connection over a whole store and of a life of `serve`, and of the rig that it leaves.
 
 ghost use Rattle.ostore.specs.History.{ClosedSlotRan};
 ghost use Rattle.ostore.specs.Laws.{ConnectionsPipe};
 ghost use Rattle.ostore.specs.Lives.{LivesAreComplete, LivesGoOn, RefusalsLeave};
+ghost use Rattle.ostore.specs.ServedLife.{ServesLives};
 
 use audit_trail::Audit;
+use desk_base::Gate;
 use drive_base::Drive;
+use drive_file::Share;
+use io_base::{Clock, Door};
 use op_steps::{calls_law, requests_law};
 use slot_core::open_law;
-use store_shared::{answers_law, opened_law, pass_law};
+use store_shared::{answers_law, opened_law, pass_law, sections_law};
 
 /// A slot that was opened, went on by a log and was closed went through that run. It does nothing.
 pub fn slot_law<D: Drive, A: Audit>()
@@ -38,4 +42,14 @@ pub fn life_law<D: Drive, A: Audit>()
     requests_law::<D>();
     pass_law::<D, A>();
     opened_law::<D, A>();
+}
+
+/// Each run of `serve` over an open store hands its rig back, and was a life of each slot: the sections of the calls of all workers, in the order of their turns, follow one another
+/// from the slot as it was opened to the slot as it was closed. Its audit has got the entry of the opening and theirs and no others, and where its lanes stood for
+/// something they stand for what these entries lead to. It does nothing.
+pub fn served_law<R, D: Share, A: Audit, C: Clock, O: Door, G: Gate>()
+    ensures { ServesLives R G C D.Drive D.root A.entries A.count O.Door O.In.Source O.Out.Sink }
+{
+    sections_law::<D, A>();
+    slot_law::<D, A>();
 }

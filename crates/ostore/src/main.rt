@@ -41,7 +41,7 @@ use notices::tell_listening;
 use program::run_alone;
 use rig::Rig;
 use running::run;
-use statuses::{OUT_OF_MEMORY, USAGE, cause_of};
+use statuses::{OUT_OF_MEMORY, READ_FAULT, USAGE, cause_of};
 use std::alloc::{AllocError, Global};
 use std::env;
 use std::io::{Eprint, ErrorKind, Stdin};
@@ -114,7 +114,7 @@ fn begin(rt: &HostRuntime) -> Result<Begun, u8>
     }
 }
 
-/// Runs over the system's clock and a rig, and for `serve` over doors.
+/// Runs over the system's clock and a rig, and for `serve` over doors. Where the address can't be listened at, nothing is done.
 fn run_over<
     R: AllocGlobal
         + Clock
@@ -145,6 +145,10 @@ fn run_over<
         return OUT_OF_MEMORY;
     };
     tell_listening(rt, &doors[0], plan.listen.as_str());
+    if doors[0].local_addr().is_none() {
+        // No store is opened for nobody, so that no term is taken.
+        return READ_FAULT;
+    }
     let mut spawner = Spawner::Threads;
     run(rt, words, source, sink, rig, &clock, doors, &mut spawner)
         .ended

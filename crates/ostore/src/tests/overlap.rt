@@ -2,7 +2,7 @@
 
 ghost use Rattle.std.specs.Prelude.{◌≡◌, IfOk, length};
 
-use super::serving::{door_of, given};
+use super::serving::{door_of, entries_at, given};
 use super::words_of;
 use crate::memory::memory_rig;
 use crate::serving::serve;
@@ -83,6 +83,9 @@ fn calls_on_two_slots_overlap(rt: HostRuntime) -> Result<(), Fail> {
     };
     let ended = serve(&rt, alloc, rig, &clock, doors, &mut Spawner::Threads, gate);
     assert_eq!(rt; (ended.status, alone.load(Ordering::SeqCst)), (0, 0));
+    for slot in SLOTS {
+        assert_eq!(rt; entries_at(&ended.rig, usize::from(slot)), 2);
+    }
     let replies = given(alloc, ended.door)?;
     assert_eq!(rt; replies.len(), 2);
     for reply in &replies {

@@ -51,8 +51,8 @@ pub(super) fn given(alloc: Global, doors: Vec<MemDoor>) -> Result<Vec<Vec<u8>>, 
     Ok(all)
 }
 
-/// How many entries the audit of a slot of a rig has: of the key's slot, that of the opening, and those of the PUT and of the GET.
-fn entries_at<D>(rig: &Option<Rig<D, MemAudit>>, slot: usize) -> usize {
+/// How many entries the audit of a slot of a rig has: of a key's slot, that of the opening, and one for each PUT and GET.
+pub(super) fn entries_at<D>(rig: &Option<Rig<D, MemAudit>>, slot: usize) -> usize {
     let Some(rig) = rig else {
         return 0;
     };

@@ -1,0 +1,362 @@
+-- A life of `serve`: in each slot the sections of all workers lead from the slot as it was opened to the slot as it was closed.
+use Rattle.std.proofs.Common.{◌≡◌, ◌∙◌, ◌<◌, ◌++◌, ◌+◌, ℕ, Bool, List, [], ◌∷◌, Option, Some, None, Result, All, Contains, map, length, slice_index_or, refl, sym, ap, subst, inl, inr, arith}
+use Rattle.std.proofs.Math.Logic.{∥∥₁_elim, ∥∥₁_map, ∥∥₁_prop}
+use Rattle.std.specs.Global.{Global}
+use Rattle.std.specs.List.{AllZip, flat_map}
+use Rattle.std.specs.Prelude.{Vec, IsPermutation, reverse}
+use Rattle.std.proofs.lemmas.List.{append-nil, append_assoc, get_or-map, length-map, map-append}
+use Rattle.std.proofs.lemmas.List.Elements.{All-append, All-head, All-map, All-nil, All-tail}
+use Rattle.std.proofs.lemmas.List.Sorted.{All-permutation, IsPermutation-append_comm, IsPermutation-append_right, IsPermutation-refl, IsPermutation-reverse, IsPermutation-sym, IsPermutation-trans}
+use Rattle.std.proofs.lemmas.Option.{none-some, same_Some}
+use Rattle.audit_trail.specs.declared.entry.Entry.{Entry}
+use Rattle.call_types.specs.declared.feed.Cut.{Cut}
+use Rattle.desk_base.specs.Answering.{Task}
+use Rattle.desk_base.specs.Telling.{Telling}
+use Rattle.drive_base.specs.declared.drive.Drive.{Ghosts}
+use Rattle.drive_base.specs.declared.plan.SetPlan.{SetPlan}
+use Rattle.io_base.specs.Works.{picked}
+use Rattle.io_base.specs.declared.door.Door.{Ghosts as DoorGhosts}
+use Rattle.io_base.specs.declared.sink.Sink.{Ghosts as SinkGhosts}
+use Rattle.io_base.specs.declared.source.Source.{Ghosts as SourceGhosts}
+use Rattle.serve_loop.specs.Doors.{ServedSince, WorkBegan}
+use Rattle.slot_core.specs.Opening.{IsOpened}
+use Rattle.slot_core.specs.Views.{SlotNumbers, numbers_of}
+use Rattle.slot_core.specs.declared.slot.Slot.{Slot}
+use Rattle.slot_core.specs.declared.slot.SlotParts.{SlotParts}
+use Rattle.op_steps.specs.Store.{any_effect, slot_seen}
+use Rattle.op_steps.proofs.StepLemmas.{same_went}
+use Rattle.turn_lock.specs.History.{IsHistory}
+use Rattle.turn_lock.specs.Passes.{made_with}
+use Rattle.turn_lock.specs.declared.lock.TurnLock.{TurnLock}
+use Rattle.turn_lock.specs.declared.pass.Pass.{Pass}
+use Rattle.store_shared.specs.Among.{seen_in}
+use Rattle.store_shared.specs.Opening.{AreOpened}
+use Rattle.store_shared.specs.Parting.{HasAllParts, IsApart, IsClosedAt, IsMade}
+use Rattle.store_shared.specs.Passes.{set_of, slots_of}
+use Rattle.store_shared.specs.Sections.{AnswersAmong, AnswersHaveSections, IsSection, SectionsLead, SlotLed, TurnedSection, turn_by, turns_by}
+use Rattle.store_shared.specs.SharedAnswers.{SharedAnswers}
+use Rattle.store_shared.specs.SharedPasses.{locks_of, pass_at, shared_holds}
+use Rattle.store_shared.specs.Turned.{made_slot, name_of, slot_in, turns_in}
+use Rattle.store_shared.specs.declared.parts.PassParts.{PassParts}
+use Rattle.store_shared.specs.declared.pass.PlainPass.{PlainPass}
+use Rattle.store_shared.specs.declared.receipt.Receipt.{Receipt}
+use Rattle.store_shared.specs.declared.shared.SharedDesk.{SharedDesk}
+use Rattle.store_shared.specs.declared.shared.SharedPass.{SharedPass}
+use Rattle.store_shared.specs.declared.turned.TurnedSlot.{TurnedSlot}
+use Rattle.ostore.specs.History.{ClosedSlotRan}
+use Rattle.ostore.specs.Rigs.{IsClosed, StoreIsClosed}
+use Rattle.ostore.specs.Served.{IsDeskEnd, IsHanded, IsStoreEnd, Served}
+use Rattle.ostore.specs.ServedLife.{LifeServed, Made, ServesLives, WorkerDid, workers_by, workers_in}
+use Rattle.ostore.specs.Workers.{DoorsServed, HasServed, IsPost, Worker, begun_by, pass_by}
+use Rattle.ostore.specs.declared.rig.Ended.{Ended}
+use Rattle.ostore.specs.declared.rig.Rig.{Rig}
+use Rattle.ostore.specs.declared.serving.StoreEnd.{StoreEnd}
+use Rattle.store_shared.proofs.OpeningLemmas.{opened_count}
+use Rattle.ostore.proofs.MadeLemmas.{Makes, made_visits}
+use Rattle.ostore.proofs.PassPartLemmas.{all_parts, none_lacks}
+use Rattle.ostore.proofs.PassTurnLemmas.{HasMade, HasNone, all_made, dealt_none, first_none, turns_at, united_made, united_none}
+use Rattle.ostore.proofs.PlaceLemmas.{closed_at, opened_at, some_of}
+use Rattle.ostore.proofs.WorkerLemmas.{all_of_map, picked_some}
+
+module _ {D A : Type 0} (ghosts : Ghosts D) (entries : A → Option (List Entry)) (count : A → ℕ) where
+  -- from one moment of a pass to another these sections were done, and no others
+  abbrev Did : Made D A → SharedPass D A → SharedPass D A → Type 0
+  Did made old new = (k : ℕ) → k < 64 → (turns_at new k ≡ turns_at old k ++ turns_by (made k)) × All (IsSection ghosts entries count k) (made k)
+
+  did_none : (pass : SharedPass D A) → Did (λ k. []) pass pass
+  did_none pass k inside = (sym (append-nil (turns_at pass k)), All-nil (IsSection ghosts entries count k))
+
+  did_both : (a b : Made D A) (old mid new : SharedPass D A) → Did a old mid → Did b mid new → Did (λ k. a k ++ b k) old new
+  did_both a b old mid new first second k inside =
+      let x = first k inside in
+      let y = second k inside in (
+        y.0 ∙ (ap (λ l. l ++ turns_by (b k)) x.0 ∙ (append_assoc (turns_at old k) (turns_by (a k)) (turns_by (b k))
+            ∙ ap (λ l. turns_at old k ++ l) (sym (map-append turn_by (a k) (b k))))),
+        All-append (IsSection ghosts entries count k) (a k) (b k) x.1 y.1,
+      )
+
+  -- those of one call
+  did_one : AnswersHaveSections ghosts entries count → (task : Task) (old new : SharedPass D A) (body : List ℕ) (tale : List Telling) (result : Result Receipt Cut)
+      → SharedAnswers ghosts entries count task old new body tale result
+      → Makes (SharedAnswers ghosts entries count) (AnswersAmong ghosts entries count) Did (λ all. AnswersAmong ghosts entries count all task old new body tale result) old new
+  did_one have task old new body tale result answers =
+      let x = have task old new body tale result answers in
+      record {
+        made = x.0;
+        did = λ k inside. ((x.1.has k inside).turns, (x.1.has k inside).are);
+        shows = λ all within. (x.0, within, x.1);
+      }
+
+module _ {D A O S T : Type 0} (ghosts : Ghosts D) (entries : A → Option (List Entry)) (count : A → ℕ) (door : DoorGhosts O S T) (source : SourceGhosts S) (sink : SinkGhosts T)
+    (moment : Option ℕ) {K C : Type 0} where
+  -- what workers did, with the sections of each
+  record Worked (workers : List (Worker K C (SharedPass D A) O)) : Type 0 where
+    made : List (Made D A)
+    did : AllZip (WorkerDid ghosts entries count door source sink moment) made workers
+    has : AllZip HasMade made (map pass_by workers)
+    are : (k : ℕ) → k < 64 → All (IsSection ghosts entries count k) (all_made made k)
+
+module _ {D A O S T Root : Type 0} (ghosts : Ghosts D) (root : D → Root) (entries : A → Option (List Entry)) (count : A → ℕ) (door : DoorGhosts O S T) (source : SourceGhosts S)
+    (sink : SinkGhosts T) (moment : Option ℕ) {K C : Type 0} (have : AnswersHaveSections ghosts entries count) where
+  -- a pass that a worker began with has no turns
+  abbrev BeganWithNone : Worker K C (SharedPass D A) O → Type 0
+  BeganWithNone worker = HasNone worker.began.pass
+
+  worked : (workers : List (Worker K C (SharedPass D A) O)) → All (HasServed ghosts root entries count door source sink moment) workers → All BeganWithNone workers
+      → ∥ Worked ghosts entries count door source sink moment workers ∥₁
+  worked [] served none = ∣ record { made = []; did = _; has = _; are = λ k inside. All-nil (IsSection ghosts entries count k) } ∣₁
+  worked (worker ∷ workers) served none =
+      let rest = worked workers (All-tail (HasServed ghosts root entries count door source sink moment) worker workers served) (All-tail BeganWithNone worker workers none) in
+      let first = (All-head (HasServed ghosts root entries count door source sink moment) worker workers served).served in
+      let empty = All-head BeganWithNone worker workers none in
+      ∥∥₁_elim rest ∥∥₁_prop (λ more. ∥∥₁_map first (λ since.
+      let x = made_visits (SharedAnswers ghosts entries count) (AnswersAmong ghosts entries count) (Did ghosts entries count) (did_none ghosts entries count)
+      (did_both ghosts entries count) (did_one ghosts entries count have) moment _ worker.began.pass since.visits worker.pass since.visited in
+      record {
+        made = x.made ∷ more.made;
+        did = (
+          record {
+            served = record {
+              holds_still = since.holds_still;
+              visits = since.visits;
+              visited = x.shows x.made (λ k inside s here. here);
+              passed = since.passed;
+              shut = since.shut;
+            };
+            turns = λ k inside. (x.did k inside).0;
+          },
+          more.did,
+        );
+        has = (λ k inside. (x.did k inside).0 ∙ ap (λ l. l ++ turns_by (x.made k)) (empty k inside), more.has);
+        are = λ k inside. All-append (IsSection ghosts entries count k) (all_made more.made k) (x.made k) (more.are k inside) (x.did k inside).1;
+      }))
+
+-- the sections of all, in whichever order
+all_same : {D A : Type 0} (made : List (Made D A)) (k : ℕ) → IsPermutation (flat_map (λ (m : Made D A). m k) made) (all_made made k)
+all_same [] k = IsPermutation-refl []
+all_same (m ∷ made) k = IsPermutation-trans (m k ++ flat_map (λ n. n k) made) (m k ++ all_made made k) (all_made made k ++ m k)
+    (IsPermutation-append_right (m k) (flat_map (λ n. n k) made) (all_made made k) (all_same made k)) (IsPermutation-append_comm (m k) (all_made made k))
+
+module _ {D A O S T : Type 0} (ghosts : Ghosts D) (entries : A → Option (List Entry)) (count : A → ℕ) (door : DoorGhosts O S T) (source : SourceGhosts S) (sink : SinkGhosts T)
+    (moment : Option ℕ) {K C : Type 0} (law : ClosedSlotRan entries count ghosts.tells ghosts.files) where
+  -- slots that were opened, led by the sections of workers, and closed
+  life : (set : SetPlan) (term : ℕ) (old new : List (SlotParts D A)) (workers : List (Worker K C (SharedPass D A) O)) (made : List (Made D A))
+      → AllZip (WorkerDid ghosts entries count door source sink moment) made workers → (opened closed : ℕ → TurnedSlot D A)
+      → ((k : ℕ) → k < 64 → SlotLed ghosts entries count k (opened k) (closed k) (all_made made k))
+      → ((k : ℕ) (d : SlotParts D A) → k < 64 → IsOpened entries count set k term (slice_index_or old k d) (slot_in (opened k)))
+      → ((k : ℕ) → k < 64 → (numbers_of (slot_in (closed k))).index ≡ k)
+      → ((k : ℕ) (d : SlotParts D A) → k < 64 → IsClosed (slot_in (closed k)) (slice_index_or new k d))
+      → LifeServed ghosts entries count door source sink moment set term old new workers
+  life set term old new workers made did opened closed led at_first own at_last = record {
+    made = made;
+    did = did;
+    opened = opened;
+    begins = at_first;
+    closed = closed;
+    ends = at_last;
+    in_order = λ k inside.
+        let l = (led k inside).in_order in
+        record {
+          ordered = l.ordered;
+          same = IsPermutation-trans (flat_map (λ m. m k) made) (all_made made k) l.ordered (all_same made k) l.same;
+          follow = l.follow;
+        };
+    ran = λ k inside d.
+        law set term k _ (slice_index_or old k d) (slice_index_or new k d) (slot_in (opened k)) (slot_in (closed k)) (at_first k d inside) (led k inside).went
+        (own k inside) (at_last k d inside).lanes (at_last k d inside).audit;
+  }
+
+module _ {D A : Type 0} (ghosts : Ghosts D) (entries : A → Option (List Entry)) (count : A → ℕ) where
+  -- those that nobody led
+  still_led : (k : ℕ) (turned : TurnedSlot D A) → SlotLed ghosts entries count k turned turned []
+  still_led k turned = record {
+    in_order = record { ordered = []; same = IsPermutation-refl []; follow = refl };
+    went = same_went ghosts any_effect any_effect k (slot_seen entries count (slot_in turned)) (slot_seen entries count (slot_in turned)) refl;
+  }
+
+-- a lock that is closed has the history of its slot
+closed_history : {D A : Type 0} (lock : TurnLock (TurnedSlot D A)) (place : Option (Pass (TurnedSlot D A))) (slot : Slot D A) → IsClosedAt lock place slot
+    → IsHistory turns_in name_of (made_with lock) (record { slot = slot }) (seen_in place).turns
+closed_history lock None slot closed = absurd closed
+closed_history lock (Some pass) slot closed = closed.history
+
+-- what was handed back of a run that left a rig
+record Left {D A : Type 0} (set : SetPlan) (parts : Option (PassParts D A)) (after : Rig D A) : Type 0 where
+  handed : PassParts D A
+  is : parts ≡ Some handed
+  stop : PlainPass D A
+  slots : slots_of stop ≡ handed.slots.items
+  closed : StoreIsClosed set stop after
+
+left : {D A : Type 0} (set : SetPlan) (parts : Option (PassParts D A)) (rig : Option (Rig D A)) (after : Rig D A) → IsHanded set parts rig → rig ≡ Some after
+    → Left set parts after
+left set None rig after is some = absurd (none-some after (sym is ∙ some))
+left set (Some handed) rig after (stop, rig_after, slots, disks, is, closed) some = record {
+  handed = handed;
+  is = refl;
+  stop = stop;
+  slots = slots;
+  closed = subst (λ r. StoreIsClosed set stop r) (same_Some rig_after after (sym is ∙ some)) closed;
+}
+
+-- a desk that was closed is apart
+apart : {R G D A : Type 0} (desk : SharedDesk R D A G) (whole : SharedPass D A) (status end : ℕ) (parts : Option (PassParts D A)) (handed : PassParts D A)
+    → IsDeskEnd desk whole status parts end → parts ≡ Some handed → IsApart desk whole handed
+apart desk whole status end None handed is some = absurd (none-some handed some)
+apart desk whole status end (Some parts) handed is some = subst (λ p. IsApart desk whole p) (same_Some parts handed some) is.0
+
+-- a desk whose parts are all together is closed
+closed_whole : {R G D A : Type 0} (desk : SharedDesk R D A G) (whole : SharedPass D A) (status end : ℕ) (parts : Option (PassParts D A))
+    → HasAllParts (shared_holds whole) → IsDeskEnd desk whole status parts end → (handed : PassParts D A) × (parts ≡ Some handed)
+closed_whole desk whole status end None all is = absurd (none_lacks (shared_holds whole) all is.0)
+closed_whole desk whole status end (Some handed) all is = (handed, refl)
+
+-- and its rig is handed back
+rig_back : {D A : Type 0} (set : SetPlan) (parts : Option (PassParts D A)) (rig : Option (Rig D A)) (handed : PassParts D A) → parts ≡ Some handed
+    → IsHanded set parts rig → (after : Rig D A) × (rig ≡ Some after)
+rig_back set None rig handed some is = absurd (none-some handed some)
+rig_back set (Some parts) rig handed some (stop, after, slots, disks, is, closed) = (after, is)
+
+module _ (R G : Type 0) {D A O S T C Root : Type 0} (ghosts : Ghosts D) (root : D → Root) (entries : A → Option (List Entry)) (count : A → ℕ) (door : DoorGhosts O S T) (source : SourceGhosts S)
+    (sink : SinkGhosts T) (have : AnswersHaveSections ghosts entries count) (lead : SectionsLead ghosts entries count)
+    (law : ClosedSlotRan entries count ghosts.tells ghosts.files) (moment : Option ℕ) (clock : C) where
+  -- the passes with which workers began have no turns
+  begun_none : {K : Type 0} (desk : K) (test : ℕ → Bool) (posts dones : List (Worker K C (SharedPass D A) O)) → All (IsPost desk clock) posts
+      → map begun_by dones ≡ picked test 0 (map begun_by posts) → All HasNone (map pass_by posts) → All (λ w. HasNone w.began.pass) dones
+  begun_none desk test posts dones are same none =
+      let Empty = λ (b : WorkBegan _ C (SharedPass D A) O). HasNone b.pass in
+      let each = all_of_map HasNone pass_by posts none in
+      let at_posts : All (λ w. Empty w.began) posts = λ k d inside. subst Empty (sym (are k d inside)) (each k d inside) in
+      all_of_map Empty begun_by dones (subst (All Empty) (sym same) (picked_some Empty test 0 (map begun_by posts) (All-map Empty begun_by posts at_posts)))
+
+  -- the turns of all passes once the doors are served, with what the workers did
+  record DoorsDid {K : Type 0} (workers : List (Worker K C (SharedPass D A) O)) (whole : SharedPass D A) : Type 0 where
+    worked : Worked ghosts entries count door source sink moment workers
+    has : HasMade (all_made worked.made) whole
+
+  doors_did : {K : Type 0} (desk : K) (first whole : SharedPass D A) (doors doors_after : List O) (status faults faults_after : ℕ)
+      (served : DoorsServed ghosts root entries count door source sink moment desk clock first whole doors doors_after status faults faults_after)
+      → HasNone first → ∥ DoorsDid (workers_by served) whole ∥₁
+  doors_did desk first whole doors doors_after status faults faults_after (inl w) none =
+      let dealt = dealt_none first (reverse (map pass_by w.posts)) w.rest w.dealt none in
+      let posts_none = All-permutation HasNone (reverse (map pass_by w.posts)) (map pass_by w.posts)
+      (IsPermutation-sym (map pass_by w.posts) (reverse (map pass_by w.posts)) (IsPermutation-reverse (map pass_by w.posts))) dealt.1 in
+      let lefts_none = All-map HasNone pass_by w.lefts (subst (All (λ l. HasNone l.pass)) (sym w.ran.lefts_are)
+      (picked_some (λ l. HasNone l.pass) _ 0 w.posts (all_of_map HasNone pass_by w.posts posts_none))) in
+      ∥∥₁_map (worked ghosts root entries count door source sink moment have w.dones w.ran.served (begun_none desk w.ran.ran w.posts w.dones w.are_posts w.ran.dones_are posts_none))
+      (λ x. record {
+        worked = x;
+        has = λ k inside. united_none w.mid (map pass_by w.lefts) whole w.united_too lefts_none k inside
+            ∙ united_made w.rest x.made (map pass_by w.dones) w.mid x.has w.united dealt.0 k inside;
+      })
+  doors_did desk first whole doors doors_after status faults faults_after (inr n) none =
+      let dealt = dealt_none first n.passes n.rest n.dealt none in
+      ∣ record {
+        worked = record { made = []; did = _; has = _; are = λ k inside. All-nil (IsSection ghosts entries count k) };
+        has = λ k inside. united_none n.rest n.passes whole n.united dealt.1 k inside ∙ dealt.0 k inside;
+      } ∣₁
+
+  -- the slots of a desk as they were put behind its locks, and as they were closed
+  module _ (set : SetPlan) (term : ℕ) (old new : List (SlotParts D A)) (slots : List (Slot D A)) (stop : List (Slot D A)) (olds : length old ≡ 64) (lasts : length stop ≡ 64)
+      (at_first : (k : ℕ) (d : SlotParts D A) (e : Slot D A) → k < 64 → IsOpened entries count set k term (slice_index_or old k d) (slice_index_or slots k e))
+      (at_last : (k : ℕ) (e : Slot D A) (d : SlotParts D A) → k < 64 → IsClosed (slice_index_or stop k e) (slice_index_or new k d)) where
+    desk_life : (desk : SharedDesk R D A G) (parts handed : PassParts D A) (first whole : SharedPass D A)
+        (workers : List (Worker (SharedDesk R D A G) C (SharedPass D A) O)) → IsMade parts desk first → parts.slots.items ≡ slots → IsApart desk whole handed
+        → handed.slots.items ≡ stop → DoorsDid workers whole
+        → LifeServed ghosts entries count door source sink moment set term old new workers
+    desk_life desk parts handed first whole workers made of_parts is_apart of_stop did =
+        let n = desk.count in
+        let locks = locks_of desk in
+        let free = some_of locks 0 (omega (arith, n)) in
+        let e = some_of stop 0 (omega (arith, lasts)) in
+        let opened : ℕ → TurnedSlot D A = λ k. made_with (slice_index_or locks k free) in
+        let closed : ℕ → TurnedSlot D A = λ k. record { slot = slice_index_or stop k e } in
+        let worked = did.worked in
+        life ghosts entries count door source sink moment law set term old new workers worked.made worked.did opened closed
+        (λ k inside. lead k (opened k) (closed k) (all_made worked.made k)
+        (subst (λ t. IsHistory turns_in name_of (opened k) (closed k) t) (did.has k inside)
+        (closed_history (slice_index_or locks k free) (pass_at whole k) (slice_index_or stop k e)
+        (subst (λ l. IsClosedAt (slice_index_or locks k free) (pass_at whole k) (slice_index_or l k e)) of_stop
+        (is_apart.closed.each k free e inside)))) (worked.are k inside))
+        (λ k d inside. subst (λ s. IsOpened entries count set k term (slice_index_or old k d) s)
+        (ap (λ l. slice_index_or l k (made_slot free)) (sym (made.slots ∙ of_parts)) ∙ get_or-map made_slot locks k free (made_slot free) (omega (arith, n, inside)))
+        (at_first k d (made_slot free) inside))
+        (λ k inside. subst (λ l. (numbers_of (slice_index_or l k e)).index ≡ k) of_stop (is_apart.index k e inside))
+        (λ k d inside. at_last k e d inside)
+
+    -- and those that nobody touched
+    still_life : {K : Type 0} → slots ≡ stop → LifeServed ghosts entries count door source sink moment {K = K} {C = C} set term old new []
+    still_life same =
+        let e = some_of stop 0 (omega (arith, lasts)) in
+        let turned : ℕ → TurnedSlot D A = λ k. record { slot = slice_index_or stop k e } in
+        let at_open : (k : ℕ) (d : SlotParts D A) → k < 64 → IsOpened entries count set k term (slice_index_or old k d) (slice_index_or stop k e) =
+        λ k d inside. subst (λ l. IsOpened entries count set k term (slice_index_or old k d) (slice_index_or l k e)) same (at_first k d e inside) in
+        life ghosts entries count door source sink moment law set term old new [] [] _ turned turned
+        (λ k inside. still_led ghosts entries count k (turned k)) at_open
+        (λ k inside. ap (λ (n : SlotNumbers). n.index) (at_open k (some_of old 0 (omega (arith, olds))) inside).numbers)
+        (λ k d inside. at_last k e d inside)
+
+    -- whichever of both it was
+    ended_life : (begun handed : PassParts D A) (doors : List O) (faults faults_after : ℕ) (end : StoreEnd D A O) → begun.slots.items ≡ slots
+        → (served : IsStoreEnd R G ghosts root entries count door source sink moment clock begun doors faults faults_after end) → end.parts ≡ Some handed
+        → handed.slots.items ≡ stop → ∥ LifeServed ghosts entries count door source sink moment set term old new (workers_in served) ∥₁
+    ended_life begun handed doors faults faults_after end begun_is (inl x) is of_stop =
+        let s = x.served in
+        let n = s.desk.count in
+        let free = some_of (locks_of s.desk) 0 (omega (arith, n)) in
+        let none : HasNone s.first =
+        λ k inside. first_none (slice_index_or (locks_of s.desk) k free) (pass_at s.first k) (s.made.each k free inside) in
+        ∥∥₁_map (doors_did s.desk s.first s.whole doors end.doors.items s.status faults faults_after s.served none)
+        (λ did. desk_life s.desk x.shared handed s.first s.whole (workers_by s.served) s.made (x.shares.slots ∙ begun_is)
+        (apart s.desk s.whole s.status end.status end.parts handed s.closed is) of_stop did)
+    ended_life begun handed doors faults faults_after end begun_is (inr x) is of_stop =
+        ∣ still_life (sym begun_is ∙ (sym x.shares.slots ∙ (ap (λ (p : PassParts D A). p.slots.items) (same_Some x.after handed (sym x.parts_are ∙ is)) ∙ of_stop))) ∣₁
+
+  life_left : (rig after : Rig D A) (doors : List O) (faults faults_after : ℕ) (ended : Ended D A (Vec O Global))
+      (served : Served R G ghosts root entries count door source sink moment clock rig doors faults faults_after ended) → ended.rig ≡ Some after
+      → ∥ LifeServed ghosts entries count door source sink moment (set_of served.opened) served.opens.opened.term rig.slots.items after.slots.items
+      (workers_in served.served) ∥₁
+  life_left rig after doors faults faults_after ended x some =
+      let l = left rig.set x.end.parts ended.rig after x.closed some in
+      let set = set_of x.opened in
+      let term = x.opens.opened.term in
+      let slots = slots_of x.opened in
+      let stop = slots_of l.stop in
+      let opens = x.opens.slots in
+      let counted = opened_count entries count set term 0 x.parts.slots.items slots opens in
+      let of_rig = ap length x.are.slots in
+      let many = x.opened.count in
+      let lasts = l.stop.count in
+      let olds : length rig.slots.items ≡ 64 = omega (arith, counted, of_rig, many) in
+      let at_first : (k : ℕ) (d : SlotParts D A) (e : Slot D A) → k < 64
+      → IsOpened entries count set k term (slice_index_or rig.slots.items k d) (slice_index_or slots k e) =
+      λ k d e inside.
+      let same : 0 + k ≡ k = omega arith in
+      subst (λ n. IsOpened entries count set n term (slice_index_or rig.slots.items k d) (slice_index_or slots k e)) same
+      (opened_at entries count set term 0 rig.slots.items slots (subst (λ l. AreOpened entries count set term 0 l slots) x.are.slots opens) k d e
+      (omega (arith, olds, inside))) in
+      let at_last : (k : ℕ) (e : Slot D A) (d : SlotParts D A) → k < 64 → IsClosed (slice_index_or stop k e) (slice_index_or after.slots.items k d) =
+      λ k e d inside. closed_at stop after.slots.items l.closed.slots k e d (omega (arith, lasts, inside)) in
+      ended_life set term rig.slots.items after.slots.items slots stop olds lasts at_first at_last x.begun l.handed doors faults faults_after x.end x.slots_are x.served
+      l.is (sym l.slots)
+
+  -- the parts of a store that was served are handed back
+  parts_back : (parts : PassParts D A) (doors : List O) (faults faults_after : ℕ) (end : StoreEnd D A O)
+      → IsStoreEnd R G ghosts root entries count door source sink moment clock parts doors faults faults_after end
+      → (handed : PassParts D A) × (end.parts ≡ Some handed)
+  parts_back parts doors faults faults_after end (inl x) =
+      let s = x.served in
+      closed_whole s.desk s.whole s.status end.status end.parts
+      (all_parts ghosts root entries count door source sink moment s.desk clock s.first s.whole doors end.doors.items s.status faults faults_after s.served s.made.parts_are)
+      s.closed
+  parts_back parts doors faults faults_after end (inr x) = (x.after, x.parts_are)
+
+  pub serves_life : (rig : Rig D A) (doors : List O) (faults faults_after : ℕ) (ended : Ended D A (Vec O Global))
+      (served : Served R G ghosts root entries count door source sink moment clock rig doors faults faults_after ended)
+      → (after : Rig D A) × (ended.rig ≡ Some after)
+      × ∥ LifeServed ghosts entries count door source sink moment (set_of served.opened) served.opens.opened.term rig.slots.items after.slots.items
+      (workers_in served.served) ∥₁
+  serves_life rig doors faults faults_after ended x =
+      let parts = parts_back x.begun doors faults faults_after x.end x.served in
+      let back = rig_back rig.set x.end.parts ended.rig parts.0 parts.1 x.closed in
+      (back.0, back.1, life_left rig back.0 doors faults faults_after ended x back.1)
