@@ -16,6 +16,7 @@ mod RefusalLemmas
 mod RigLemmas
 mod RunLemmas
 mod SendLemmas
+mod ServedBeginLemmas
 mod ServedLifeLemmas
 mod ServingLemmas
 mod SessionLemmas

@@ -1,8 +1,9 @@
 -- The turns of the passes of workers: none at first, and joined those of all.
-use Rattle.std.proofs.Common.{◌≡◌, ◌∙◌, ◌<◌, ◌++◌, ℕ, List, [], ◌∷◌, Option, Some, None, All, map, refl, sym, ap, subst}
+use Rattle.std.proofs.Common.{◌≡◌, ◌∙◌, ◌<◌, ◌++◌, ℕ, Bool, true, false, ◌||◌, List, [], ◌∷◌, Option, Some, None, All, map, refl, sym, ap, subst}
 use Rattle.std.specs.List.{AllZip}
 use Rattle.std.proofs.lemmas.List.{append-nil, map-append}
 use Rattle.std.proofs.lemmas.List.Elements.{All-cons, All-head, All-nil, All-tail}
+use Rattle.turn_lock.specs.Passes.{is_spent}
 use Rattle.turn_lock.specs.declared.lock.TurnLock.{TurnLock}
 use Rattle.turn_lock.specs.declared.pass.Pass.{Pass}
 use Rattle.turn_lock.specs.declared.view.Turn.{Turn}
@@ -14,6 +15,10 @@ use Rattle.store_shared.specs.declared.shared.SharedPass.{SharedPass}
 use Rattle.store_shared.specs.declared.turned.TurnedSlot.{TurnedSlot}
 use Rattle.ostore.specs.ServedLife.{Made}
 use Rattle.ostore.specs.Workers.{AreDealt, AreUnited}
+
+or_last : (b : Bool) → (b || true) ≡ true
+or_last true = refl
+or_last false = refl
 
 module _ {D A : Type 0} where
   -- the turns of a pass in the slot of an index
@@ -67,6 +72,32 @@ module _ {D A : Type 0} where
       joined_turns (pass_at mid k) (pass_at pass k) (pass_at whole k) (joined.each k inside)
       ∙ (ap (λ l. turns_at mid k ++ l) (All-head HasNone pass passes none k inside)
       ∙ (append-nil (turns_at mid k) ∙ united_none first passes mid united (All-tail HasNone pass passes none) k inside))
+
+  -- a pass is spent in the slot of an index
+  abbrev pub SpentAt : ℕ → SharedPass D A → Type 0
+  SpentAt k pass = (seen_in (pass_at pass k)).spent ≡ true
+
+  -- a pass that two are joined to is spent where one of them is
+  joined_spent : (one other now : Option (Pass (TurnedSlot D A))) → IsJoinedAt one other now
+      → ((seen_in one).spent ≡ true → (seen_in now).spent ≡ true) × ((seen_in other).spent ≡ true → (seen_in now).spent ≡ true)
+  joined_spent None other now is = absurd is
+  joined_spent (Some one) None now is = absurd is
+  joined_spent (Some one) (Some other) None is = absurd is
+  joined_spent (Some one) (Some other) (Some now) is = (
+    (λ spent. is.spent ∙ ap (λ b. b || is_spent other) spent),
+    (λ spent. is.spent ∙ (ap (λ b. is_spent one || b) spent ∙ or_last (is_spent one))),
+  )
+
+  -- so is the one that all come to
+  pub united_spent : (k : ℕ) → k < 64 → (first : SharedPass D A) (passes : List (SharedPass D A)) (whole : SharedPass D A) → AreUnited first passes whole
+      → (SpentAt k first → SpentAt k whole) × All (λ p. SpentAt k p → SpentAt k whole) passes
+  united_spent k inside first [] whole same = (subst (SpentAt k) (sym same), All-nil (λ p. SpentAt k p → SpentAt k whole))
+  united_spent k inside first (pass ∷ passes) whole (mid, ways, united, joined) =
+      let more = united_spent k inside first passes mid united in
+      let both = joined_spent (pass_at mid k) (pass_at pass k) (pass_at whole k) (joined.each k inside) in (
+        (λ s. both.0 (more.0 s)),
+        All-cons (λ p. SpentAt k p → SpentAt k whole) pass passes both.1 (λ i d low s. both.0 (more.1 i d low s)),
+      )
 
   -- the sections of several, the last ones first
   abbrev pub all_made : List (Made D A) → ℕ → List (TurnedSection D A)

@@ -1,10 +1,10 @@
 -- A life of `serve`: in each slot the sections of all workers lead from the slot as it was opened to the slot as it was closed.
-use Rattle.std.proofs.Common.{◌≡◌, ◌∙◌, ◌<◌, ◌++◌, ◌+◌, ℕ, Bool, List, [], ◌∷◌, Option, Some, None, Result, All, Contains, map, length, slice_index_or, refl, sym, ap, subst, inl, inr, arith}
+use Rattle.std.proofs.Common.{◌≡◌, ◌∙◌, ◌<◌, ◌≤◌, ◌++◌, ◌+◌, ℕ, Bool, true, List, [], ◌∷◌, Option, Some, None, Result, All, Contains, map, length, slice_index_or, refl, sym, ap, subst, inl, inr, arith}
 use Rattle.std.proofs.Math.Logic.{∥∥₁_elim, ∥∥₁_map, ∥∥₁_prop}
 use Rattle.std.specs.Global.{Global}
 use Rattle.std.specs.List.{AllZip, flat_map}
 use Rattle.std.specs.Prelude.{Vec, IsPermutation, reverse}
-use Rattle.std.proofs.lemmas.List.{append-nil, append_assoc, get_or-map, length-map, map-append}
+use Rattle.std.proofs.lemmas.List.{append-nil, append_assoc, get_or-map, get_or_default, length-map, map-append}
 use Rattle.std.proofs.lemmas.List.Elements.{All-append, All-head, All-map, All-nil, All-tail}
 use Rattle.std.proofs.lemmas.List.Sorted.{All-permutation, IsPermutation-append_comm, IsPermutation-append_right, IsPermutation-refl, IsPermutation-reverse, IsPermutation-sym, IsPermutation-trans}
 use Rattle.std.proofs.lemmas.Option.{none-some, same_Some}
@@ -27,14 +27,17 @@ use Rattle.op_steps.specs.Store.{any_effect, slot_seen}
 use Rattle.op_steps.proofs.StepLemmas.{same_went}
 use Rattle.turn_lock.specs.History.{IsHistory}
 use Rattle.turn_lock.specs.Passes.{made_with}
+use Rattle.turn_lock.specs.Tickets.{last_ticket}
 use Rattle.turn_lock.specs.declared.lock.TurnLock.{TurnLock}
 use Rattle.turn_lock.specs.declared.pass.Pass.{Pass}
+use Rattle.turn_lock.specs.declared.view.Turn.{Turn}
 use Rattle.store_shared.specs.Among.{seen_in}
 use Rattle.store_shared.specs.Opening.{AreOpened}
 use Rattle.store_shared.specs.Parting.{HasAllParts, IsApart, IsClosedAt, IsMade}
 use Rattle.store_shared.specs.Passes.{set_of, slots_of}
 use Rattle.store_shared.specs.Sections.{AnswersAmong, AnswersHaveSections, IsSection, SectionsLead, SlotLed, TurnedSection, turn_by, turns_by}
 use Rattle.store_shared.specs.SharedAnswers.{SharedAnswers}
+use Rattle.store_shared.specs.SharedLaws.{TurnsRise}
 use Rattle.store_shared.specs.SharedPasses.{locks_of, pass_at, shared_holds}
 use Rattle.store_shared.specs.Turned.{made_slot, name_of, slot_in, turns_in}
 use Rattle.store_shared.specs.declared.parts.PassParts.{PassParts}
@@ -46,7 +49,7 @@ use Rattle.store_shared.specs.declared.turned.TurnedSlot.{TurnedSlot}
 use Rattle.ostore.specs.History.{ClosedSlotRan}
 use Rattle.ostore.specs.Rigs.{IsClosed, StoreIsClosed}
 use Rattle.ostore.specs.Served.{IsDeskEnd, IsHanded, IsStoreEnd, Served}
-use Rattle.ostore.specs.ServedLife.{LifeServed, Made, ServesLives, WorkerDid, workers_by, workers_in}
+use Rattle.ostore.specs.ServedLife.{HadAllTurns, LifeServed, Made, ServesLives, WorkerDid, workers_by, workers_in}
 use Rattle.ostore.specs.Workers.{DoorsServed, HasServed, IsPost, Worker, begun_by, pass_by}
 use Rattle.ostore.specs.declared.rig.Ended.{Ended}
 use Rattle.ostore.specs.declared.rig.Rig.{Rig}
@@ -54,17 +57,27 @@ use Rattle.ostore.specs.declared.serving.StoreEnd.{StoreEnd}
 use Rattle.store_shared.proofs.OpeningLemmas.{opened_count}
 use Rattle.ostore.proofs.MadeLemmas.{Makes, made_visits}
 use Rattle.ostore.proofs.PassPartLemmas.{all_parts, none_lacks}
-use Rattle.ostore.proofs.PassTurnLemmas.{HasMade, HasNone, all_made, dealt_none, first_none, turns_at, united_made, united_none}
+use Rattle.ostore.proofs.PassTurnLemmas.{HasMade, HasNone, SpentAt, all_made, dealt_none, first_none, turns_at, united_made, united_none, united_spent}
 use Rattle.ostore.proofs.PlaceLemmas.{closed_at, opened_at, some_of}
 use Rattle.ostore.proofs.WorkerLemmas.{all_of_map, picked_some}
 
+-- tickets that rise to a count, and on from there
+rises_on : {D A : Type 0} (seen mid now : ℕ) (xs ys : List (Turn (TurnedSlot D A))) → TurnsRise seen xs mid → TurnsRise mid ys now → TurnsRise seen (xs ++ ys) now
+rises_on seen mid now [] ys first second = subst (λ n. TurnsRise n ys now) first second
+rises_on seen mid now (x ∷ xs) ys (low, more) second = (low, rises_on (x.ticket + 1) mid now xs ys more second)
+
 module _ {D A : Type 0} (ghosts : Ghosts D) (entries : A → Option (List Entry)) (count : A → ℕ) where
+  -- how many turns of the slot of an index a pass has seen
+  abbrev seen_at : SharedPass D A → ℕ → ℕ
+  seen_at pass k = (seen_in (pass_at pass k)).seen
+
   -- from one moment of a pass to another these sections were done, and no others
   abbrev Did : Made D A → SharedPass D A → SharedPass D A → Type 0
   Did made old new = (k : ℕ) → k < 64 → (turns_at new k ≡ turns_at old k ++ turns_by (made k)) × All (IsSection ghosts entries count k) (made k)
+      × TurnsRise (seen_at old k) (turns_by (made k)) (seen_at new k)
 
   did_none : (pass : SharedPass D A) → Did (λ k. []) pass pass
-  did_none pass k inside = (sym (append-nil (turns_at pass k)), All-nil (IsSection ghosts entries count k))
+  did_none pass k inside = (sym (append-nil (turns_at pass k)), All-nil (IsSection ghosts entries count k), refl)
 
   did_both : (a b : Made D A) (old mid new : SharedPass D A) → Did a old mid → Did b mid new → Did (λ k. a k ++ b k) old new
   did_both a b old mid new first second k inside =
@@ -73,6 +86,8 @@ module _ {D A : Type 0} (ghosts : Ghosts D) (entries : A → Option (List Entry)
         y.0 ∙ (ap (λ l. l ++ turns_by (b k)) x.0 ∙ (append_assoc (turns_at old k) (turns_by (a k)) (turns_by (b k))
             ∙ ap (λ l. turns_at old k ++ l) (sym (map-append turn_by (a k) (b k))))),
         All-append (IsSection ghosts entries count k) (a k) (b k) x.1 y.1,
+        subst (λ l. TurnsRise (seen_at old k) l (seen_at new k)) (sym (map-append turn_by (a k) (b k)))
+            (rises_on (seen_at old k) (seen_at mid k) (seen_at new k) (turns_by (a k)) (turns_by (b k)) x.2 y.2),
       )
 
   -- those of one call
@@ -83,7 +98,7 @@ module _ {D A : Type 0} (ghosts : Ghosts D) (entries : A → Option (List Entry)
       let x = have task old new body tale result answers in
       record {
         made = x.0;
-        did = λ k inside. ((x.1.has k inside).turns, (x.1.has k inside).are);
+        did = λ k inside. ((x.1.has k inside).turns, (x.1.has k inside).are, (x.1.has k inside).rise);
         shows = λ all within. (x.0, within, x.1);
       }
 
@@ -124,6 +139,8 @@ module _ {D A O S T Root : Type 0} (ghosts : Ghosts D) (root : D → Root) (entr
               shut = since.shut;
             };
             turns = λ k inside. (x.did k inside).0;
+            are = λ k inside. (x.did k inside).1;
+            rise = λ k inside. (x.did k inside).2;
           },
           more.did,
         );
@@ -140,29 +157,39 @@ all_same (m ∷ made) k = IsPermutation-trans (m k ++ flat_map (λ n. n k) made)
 module _ {D A O S T : Type 0} (ghosts : Ghosts D) (entries : A → Option (List Entry)) (count : A → ℕ) (door : DoorGhosts O S T) (source : SourceGhosts S) (sink : SinkGhosts T)
     (moment : Option ℕ) {K C : Type 0} (law : ClosedSlotRan entries count ghosts.tells ghosts.files) where
   -- slots that were opened, led by the sections of workers, and closed
-  life : (set : SetPlan) (term : ℕ) (old new : List (SlotParts D A)) (workers : List (Worker K C (SharedPass D A) O)) (made : List (Made D A))
+  life : (set : SetPlan) (term : ℕ) (slots : List (Slot D A)) (old new : List (SlotParts D A)) (workers : List (Worker K C (SharedPass D A) O)) (made : List (Made D A))
       → AllZip (WorkerDid ghosts entries count door source sink moment) made workers → (opened closed : ℕ → TurnedSlot D A)
+      → ((k : ℕ) (d : Slot D A) → k < 64 → slot_in (opened k) ≡ slice_index_or slots k d)
+      → ((k : ℕ) → k < 64 → All (HadAllTurns ghosts entries count door source sink moment k (closed k)) workers)
       → ((k : ℕ) → k < 64 → SlotLed ghosts entries count k (opened k) (closed k) (all_made made k))
       → ((k : ℕ) (d : SlotParts D A) → k < 64 → IsOpened entries count set k term (slice_index_or old k d) (slot_in (opened k)))
       → ((k : ℕ) → k < 64 → (numbers_of (slot_in (closed k))).index ≡ k)
       → ((k : ℕ) (d : SlotParts D A) → k < 64 → IsClosed (slot_in (closed k)) (slice_index_or new k d))
-      → LifeServed ghosts entries count door source sink moment set term old new workers
-  life set term old new workers made did opened closed led at_first own at_last = record {
+      → LifeServed ghosts entries count door source sink moment set term slots old new workers
+  life set term slots old new workers made did opened closed is_of all_had found at_first own at_last = record {
     made = made;
     did = did;
     opened = opened;
+    opened_is = is_of;
     begins = at_first;
     closed = closed;
     ends = at_last;
-    in_order = λ k inside.
-        let l = (led k inside).in_order in
+    led = λ k inside.
+        let all = found k inside in
+        let l = all.in_order in
         record {
-          ordered = l.ordered;
-          same = IsPermutation-trans (flat_map (λ m. m k) made) (all_made made k) l.ordered (all_same made k) l.same;
-          follow = l.follow;
+          in_order = record {
+            ordered = l.ordered;
+            same = IsPermutation-trans (flat_map (λ m. m k) made) (all_made made k) l.ordered (all_same made k) l.same;
+            follow = l.follow;
+          };
+          are = all.are;
+          counted = all.counted;
+          went = all.went;
         };
+    spent = all_had;
     ran = λ k inside d.
-        law set term k _ (slice_index_or old k d) (slice_index_or new k d) (slot_in (opened k)) (slot_in (closed k)) (at_first k d inside) (led k inside).went
+        law set term k _ (slice_index_or old k d) (slice_index_or new k d) (slot_in (opened k)) (slot_in (closed k)) (at_first k d inside) (found k inside).went
         (own k inside) (at_last k d inside).lanes (at_last k d inside).audit;
   }
 
@@ -171,6 +198,8 @@ module _ {D A : Type 0} (ghosts : Ghosts D) (entries : A → Option (List Entry)
   still_led : (k : ℕ) (turned : TurnedSlot D A) → SlotLed ghosts entries count k turned turned []
   still_led k turned = record {
     in_order = record { ordered = []; same = IsPermutation-refl []; follow = refl };
+    are = All-nil (IsSection ghosts entries count k);
+    counted = refl;
     went = same_went ghosts any_effect any_effect k (slot_seen entries count (slot_in turned)) (slot_seen entries count (slot_in turned)) refl;
   }
 
@@ -179,6 +208,12 @@ closed_history : {D A : Type 0} (lock : TurnLock (TurnedSlot D A)) (place : Opti
     → IsHistory turns_in name_of (made_with lock) (record { slot = slot }) (seen_in place).turns
 closed_history lock None slot closed = absurd closed
 closed_history lock (Some pass) slot closed = closed.history
+
+-- where its pass is spent, the slot had all its turns
+closed_spent : {D A : Type 0} (lock : TurnLock (TurnedSlot D A)) (place : Option (Pass (TurnedSlot D A))) (slot : Slot D A) → IsClosedAt lock place slot
+    → (seen_in place).spent ≡ true → last_ticket ≤ turns_in {D = D} {A = A} (record { slot = slot })
+closed_spent lock None slot closed = absurd closed
+closed_spent lock (Some pass) slot closed = closed.spent
 
 -- what was handed back of a run that left a rig
 record Left {D A : Type 0} (set : SetPlan) (parts : Option (PassParts D A)) (after : Rig D A) : Type 0 where
@@ -233,6 +268,7 @@ module _ (R G : Type 0) {D A O S T C Root : Type 0} (ghosts : Ghosts D) (root : 
   record DoorsDid {K : Type 0} (workers : List (Worker K C (SharedPass D A) O)) (whole : SharedPass D A) : Type 0 where
     worked : Worked ghosts entries count door source sink moment workers
     has : HasMade (all_made worked.made) whole
+    spent : (k : ℕ) → k < 64 → All (λ (w : Worker K C (SharedPass D A) O). SpentAt k w.pass → SpentAt k whole) workers
 
   doors_did : {K : Type 0} (desk : K) (first whole : SharedPass D A) (doors doors_after : List O) (status faults faults_after : ℕ)
       (served : DoorsServed ghosts root entries count door source sink moment desk clock first whole doors doors_after status faults faults_after)
@@ -248,12 +284,15 @@ module _ (R G : Type 0) {D A O S T C Root : Type 0} (ghosts : Ghosts D) (root : 
         worked = x;
         has = λ k inside. united_none w.mid (map pass_by w.lefts) whole w.united_too lefts_none k inside
             ∙ united_made w.rest x.made (map pass_by w.dones) w.mid x.has w.united dealt.0 k inside;
+        spent = λ k inside i d low s. (united_spent k inside w.mid (map pass_by w.lefts) whole w.united_too).0
+            (all_of_map (λ p. SpentAt k p → SpentAt k w.mid) pass_by w.dones (united_spent k inside w.rest (map pass_by w.dones) w.mid w.united).1 i d low s);
       })
   doors_did desk first whole doors doors_after status faults faults_after (inr n) none =
       let dealt = dealt_none first n.passes n.rest n.dealt none in
       ∣ record {
         worked = record { made = []; did = _; has = _; are = λ k inside. All-nil (IsSection ghosts entries count k) };
         has = λ k inside. united_none n.rest n.passes whole n.united dealt.1 k inside ∙ dealt.0 k inside;
+        spent = λ k inside. All-nil (λ (w : Worker _ C (SharedPass D A) O). SpentAt k w.pass → SpentAt k whole);
       } ∣₁
 
   -- the slots of a desk as they were put behind its locks, and as they were closed
@@ -263,7 +302,7 @@ module _ (R G : Type 0) {D A O S T C Root : Type 0} (ghosts : Ghosts D) (root : 
     desk_life : (desk : SharedDesk R D A G) (parts handed : PassParts D A) (first whole : SharedPass D A)
         (workers : List (Worker (SharedDesk R D A G) C (SharedPass D A) O)) → IsMade parts desk first → parts.slots.items ≡ slots → IsApart desk whole handed
         → handed.slots.items ≡ stop → DoorsDid workers whole
-        → LifeServed ghosts entries count door source sink moment set term old new workers
+        → LifeServed ghosts entries count door source sink moment set term slots old new workers
     desk_life desk parts handed first whole workers made of_parts is_apart of_stop did =
         let n = desk.count in
         let locks = locks_of desk in
@@ -272,12 +311,14 @@ module _ (R G : Type 0) {D A O S T C Root : Type 0} (ghosts : Ghosts D) (root : 
         let opened : ℕ → TurnedSlot D A = λ k. made_with (slice_index_or locks k free) in
         let closed : ℕ → TurnedSlot D A = λ k. record { slot = slice_index_or stop k e } in
         let worked = did.worked in
-        life ghosts entries count door source sink moment law set term old new workers worked.made worked.did opened closed
+        let at_close : (k : ℕ) → k < 64 → IsClosedAt (slice_index_or locks k free) (pass_at whole k) (slice_index_or stop k e) =
+        λ k inside. subst (λ l. IsClosedAt (slice_index_or locks k free) (pass_at whole k) (slice_index_or l k e)) of_stop (is_apart.closed.each k free e inside) in
+        life ghosts entries count door source sink moment law set term slots old new workers worked.made worked.did opened closed
+        (λ k d inside. sym (get_or-map made_slot locks k free d (omega (arith, n, inside))) ∙ ap (λ l. slice_index_or l k d) (made.slots ∙ of_parts))
+        (λ k inside i d low s. closed_spent (slice_index_or locks k free) (pass_at whole k) (slice_index_or stop k e) (at_close k inside) (did.spent k inside i d low s))
         (λ k inside. lead k (opened k) (closed k) (all_made worked.made k)
         (subst (λ t. IsHistory turns_in name_of (opened k) (closed k) t) (did.has k inside)
-        (closed_history (slice_index_or locks k free) (pass_at whole k) (slice_index_or stop k e)
-        (subst (λ l. IsClosedAt (slice_index_or locks k free) (pass_at whole k) (slice_index_or l k e)) of_stop
-        (is_apart.closed.each k free e inside)))) (worked.are k inside))
+        (closed_history (slice_index_or locks k free) (pass_at whole k) (slice_index_or stop k e) (at_close k inside))) (worked.are k inside))
         (λ k d inside. subst (λ s. IsOpened entries count set k term (slice_index_or old k d) s)
         (ap (λ l. slice_index_or l k (made_slot free)) (sym (made.slots ∙ of_parts)) ∙ get_or-map made_slot locks k free (made_slot free) (omega (arith, n, inside)))
         (at_first k d (made_slot free) inside))
@@ -285,13 +326,15 @@ module _ (R G : Type 0) {D A O S T C Root : Type 0} (ghosts : Ghosts D) (root : 
         (λ k d inside. at_last k e d inside)
 
     -- and those that nobody touched
-    still_life : {K : Type 0} → slots ≡ stop → LifeServed ghosts entries count door source sink moment {K = K} {C = C} set term old new []
+    still_life : {K : Type 0} → slots ≡ stop → LifeServed ghosts entries count door source sink moment {K = K} {C = C} set term slots old new []
     still_life same =
         let e = some_of stop 0 (omega (arith, lasts)) in
         let turned : ℕ → TurnedSlot D A = λ k. record { slot = slice_index_or stop k e } in
         let at_open : (k : ℕ) (d : SlotParts D A) → k < 64 → IsOpened entries count set k term (slice_index_or old k d) (slice_index_or stop k e) =
         λ k d inside. subst (λ l. IsOpened entries count set k term (slice_index_or old k d) (slice_index_or l k e)) same (at_first k d e inside) in
-        life ghosts entries count door source sink moment law set term old new [] [] _ turned turned
+        life ghosts entries count door source sink moment law set term slots old new [] [] _ turned turned
+        (λ k d inside. get_or_default stop k e d (omega (arith, lasts, inside)) ∙ ap (λ l. slice_index_or l k d) (sym same))
+        (λ k inside. All-nil (HadAllTurns ghosts entries count door source sink moment k (turned k)))
         (λ k inside. still_led ghosts entries count k (turned k)) at_open
         (λ k inside. ap (λ (n : SlotNumbers). n.index) (at_open k (some_of old 0 (omega (arith, olds))) inside).numbers)
         (λ k d inside. at_last k e d inside)
@@ -299,7 +342,7 @@ module _ (R G : Type 0) {D A O S T C Root : Type 0} (ghosts : Ghosts D) (root : 
     -- whichever of both it was
     ended_life : (begun handed : PassParts D A) (doors : List O) (faults faults_after : ℕ) (end : StoreEnd D A O) → begun.slots.items ≡ slots
         → (served : IsStoreEnd R G ghosts root entries count door source sink moment clock begun doors faults faults_after end) → end.parts ≡ Some handed
-        → handed.slots.items ≡ stop → ∥ LifeServed ghosts entries count door source sink moment set term old new (workers_in served) ∥₁
+        → handed.slots.items ≡ stop → ∥ LifeServed ghosts entries count door source sink moment set term slots old new (workers_in served) ∥₁
     ended_life begun handed doors faults faults_after end begun_is (inl x) is of_stop =
         let s = x.served in
         let n = s.desk.count in
@@ -314,7 +357,7 @@ module _ (R G : Type 0) {D A O S T C Root : Type 0} (ghosts : Ghosts D) (root : 
 
   life_left : (rig after : Rig D A) (doors : List O) (faults faults_after : ℕ) (ended : Ended D A (Vec O Global))
       (served : Served R G ghosts root entries count door source sink moment clock rig doors faults faults_after ended) → ended.rig ≡ Some after
-      → ∥ LifeServed ghosts entries count door source sink moment (set_of served.opened) served.opens.opened.term rig.slots.items after.slots.items
+      → ∥ LifeServed ghosts entries count door source sink moment (set_of served.opened) served.opens.opened.term (slots_of served.opened) rig.slots.items after.slots.items
       (workers_in served.served) ∥₁
   life_left rig after doors faults faults_after ended x some =
       let l = left rig.set x.end.parts ended.rig after x.closed some in
@@ -354,7 +397,7 @@ module _ (R G : Type 0) {D A O S T C Root : Type 0} (ghosts : Ghosts D) (root : 
   pub serves_life : (rig : Rig D A) (doors : List O) (faults faults_after : ℕ) (ended : Ended D A (Vec O Global))
       (served : Served R G ghosts root entries count door source sink moment clock rig doors faults faults_after ended)
       → (after : Rig D A) × (ended.rig ≡ Some after)
-      × ∥ LifeServed ghosts entries count door source sink moment (set_of served.opened) served.opens.opened.term rig.slots.items after.slots.items
+      × ∥ LifeServed ghosts entries count door source sink moment (set_of served.opened) served.opens.opened.term (slots_of served.opened) rig.slots.items after.slots.items
       (workers_in served.served) ∥₁
   serves_life rig doors faults faults_after ended x =
       let parts = parts_back x.begun doors faults faults_after x.end x.served in

@@ -1,28 +1,34 @@
 -- What a life of `serve` comes to, slot by slot: the history part of the theorem for many callers.
-use Rattle.std.specs.Prelude.{◌≡◌, ◌⊎◌, ℕ, ◌<◌, ◌++◌, List, [], ◌∷◌, Option, Some, Vec, slice_index_or}
+use Rattle.std.specs.Prelude.{◌≡◌, ◌⊎◌, ℕ, ◌<◌, ◌≤◌, ◌++◌, true, List, All, [], ◌∷◌, Option, Some, Vec, slice_index_or}
 use Rattle.std.proofs.Common.{inl, inr}
 use Rattle.std.specs.Global.{Global}
 use Rattle.std.specs.List.{AllZip, flat_map}
 use Rattle.audit_trail.specs.declared.entry.Entry.{Entry}
+use Rattle.drive_base.specs.View.{views}
 use Rattle.drive_base.specs.declared.drive.Drive.{Ghosts}
 use Rattle.drive_base.specs.declared.plan.SetPlan.{SetPlan}
 use Rattle.io_base.specs.declared.door.Door.{Ghosts as DoorGhosts}
 use Rattle.io_base.specs.declared.sink.Sink.{Ghosts as SinkGhosts}
 use Rattle.io_base.specs.declared.source.Source.{Ghosts as SourceGhosts}
 use Rattle.serve_loop.specs.Doors.{ServedSince, sight}
+use Rattle.slot_data.specs.Disks.{Disks}
 use Rattle.slot_core.specs.Opening.{IsOpened}
+use Rattle.slot_core.specs.declared.slot.Slot.{Slot}
 use Rattle.slot_core.specs.declared.slot.SlotParts.{SlotParts}
-use Rattle.turn_lock.specs.History.{Arranged}
+use Rattle.op_steps.specs.Leading.{Standing}
+use Rattle.turn_lock.specs.Tickets.{last_ticket}
 use Rattle.store_shared.specs.Among.{seen_in}
-use Rattle.store_shared.specs.Passes.{set_of}
-use Rattle.store_shared.specs.Sections.{AnswersAmong, TurnedSection, events_by, turn_by, turns_by}
+use Rattle.store_shared.specs.Holders.{LostServe, RigHolds}
+use Rattle.store_shared.specs.Passes.{disks_of, set_of, slots_of}
+use Rattle.store_shared.specs.Sections.{AnswersAmong, IsSection, SlotLed, TurnedSection, events_by, turns_by}
+use Rattle.store_shared.specs.SharedLaws.{TurnsRise}
 use Rattle.store_shared.specs.SharedPasses.{pass_at, shared_holds}
-use Rattle.store_shared.specs.Turned.{slot_in}
+use Rattle.store_shared.specs.Turned.{slot_in, turns_in}
 use Rattle.store_shared.specs.declared.parts.PassParts.{PassParts}
 use Rattle.store_shared.specs.declared.shared.SharedDesk.{SharedDesk}
 use Rattle.store_shared.specs.declared.shared.SharedPass.{SharedPass}
 use Rattle.store_shared.specs.declared.turned.TurnedSlot.{TurnedSlot}
-use Rattle.ostore.specs.History.{SlotRan}
+use Rattle.ostore.specs.History.{LanesBegin, SlotRan}
 use Rattle.ostore.specs.Rigs.{IsClosed}
 use Rattle.ostore.specs.Served.{IsStoreEnd, Served}
 use Rattle.ostore.specs.Workers.{DoorsServed, Worker, view_of}
@@ -36,24 +42,33 @@ Made D A = ℕ → List (TurnedSection D A)
 
 module _ {D A O S T : Type 0} (ghosts : Ghosts D) (entries : A → Option (List Entry)) (count : A → ℕ) (door : DoorGhosts O S T) (source : SourceGhosts S) (sink : SinkGhosts T)
     (moment : Option ℕ) {K C : Type 0} where
-  -- a worker served its door; the sections of all its calls are among these, and these are those of its turns and no others
+  -- a worker served its door; the sections of all its calls are among these, and these are those of its turns and no others, whose tickets rise
   pub record WorkerDid (made : Made D A) (worker : Worker K C (SharedPass D A) O) : Type 0 where
     pub served : ServedSince (AnswersAmong ghosts entries count made) moment (sight source.left source.faults sink.given sink.faults) shared_holds worker.began.pass worker.pass
         (view_of door worker.began.door) (view_of door worker.door)
     pub turns : (k : ℕ) → k < 64 → (seen_in (pass_at worker.pass k)).turns ≡ (seen_in (pass_at worker.began.pass k)).turns ++ turns_by (made k)
+    pub are : (k : ℕ) → k < 64 → All (IsSection ghosts entries count k) (made k)
+    pub rise : (k : ℕ) → k < 64 → TurnsRise (seen_in (pass_at worker.began.pass k)).seen (turns_by (made k)) (seen_in (pass_at worker.pass k)).seen
 
-  -- a life of this term that was served by these workers, from the slots as they were handed in to the slots as they were handed back: in each slot the sections
-  -- of all workers, in the order of their turns, follow one another from the slot as it was opened to the slot as it was closed, and the slot went through
-  -- their log. So its audit has got the entry of the opening and theirs, and where its lanes stood for something they stand for what these entries lead to
-  pub record LifeServed (set : SetPlan) (term : ℕ) (old new : List (SlotParts D A)) (workers : List (Worker K C (SharedPass D A) O)) : Type 0 where
+  -- where a worker's pass is spent in the slot of an index, the slot that was closed had all its turns
+  abbrev pub HadAllTurns : ℕ → TurnedSlot D A → Worker K C (SharedPass D A) O → Type 0
+  HadAllTurns k closed worker = (seen_in (pass_at worker.pass k)).spent ≡ true → last_ticket ≤ turns_in closed
+
+  -- a life of this term that was served by these workers, from the slots as they were handed in to the slots as they were handed back, over these slots as they
+  -- were opened: in each slot the sections of all workers, in the order of their turns, follow one another from the slot as it was opened to the slot as it was
+  -- closed, and the slot went through their log. So its audit has got the entry of the opening and theirs, and where its lanes stood for something they stand
+  -- for what these entries lead to. A pass was spent only where the slot had all turns that it can have
+  pub record LifeServed (set : SetPlan) (term : ℕ) (slots : List (Slot D A)) (old new : List (SlotParts D A)) (workers : List (Worker K C (SharedPass D A) O)) : Type 0 where
     pub made : List (Made D A)
     pub did : AllZip WorkerDid made workers
     pub opened : ℕ → TurnedSlot D A
+    pub opened_is : (k : ℕ) (d : Slot D A) → k < 64 → slot_in (opened k) ≡ slice_index_or slots k d
     pub begins : (k : ℕ) (d : SlotParts D A) → k < 64 → IsOpened entries count set k term (slice_index_or old k d) (slot_in (opened k))
     pub closed : ℕ → TurnedSlot D A
     pub ends : (k : ℕ) (d : SlotParts D A) → k < 64 → IsClosed (slot_in (closed k)) (slice_index_or new k d)
-    pub in_order : (k : ℕ) → k < 64 → Arranged turn_by (flat_map (λ (m : Made D A). m k) made) (opened k) (closed k)
-    pub ran : (k : ℕ) (inside : k < 64) (d : SlotParts D A) → SlotRan entries ghosts.tells ghosts.files set term k (events_by k (in_order k inside).ordered)
+    pub led : (k : ℕ) → k < 64 → SlotLed ghosts entries count k (opened k) (closed k) (flat_map (λ (m : Made D A). m k) made)
+    pub spent : (k : ℕ) → k < 64 → All (HadAllTurns k (closed k)) workers
+    pub ran : (k : ℕ) (inside : k < 64) (d : SlotParts D A) → SlotRan entries ghosts.tells ghosts.files set term k (events_by k (led k inside).in_order.ordered)
         (slice_index_or old k d) (slice_index_or new k d)
 
 module _ {D A O S T C Root : Type 0} {ghosts : Ghosts D} {root : D → Root} {entries : A → Option (List Entry)} {count : A → ℕ} {door : DoorGhosts O S T} {source : SourceGhosts S}
@@ -79,5 +94,16 @@ module _ (R G C : Type 0) {D A O S T Root : Type 0} (ghosts : Ghosts D) (root : 
   ServesLives = (moment : Option ℕ) (clock : C) (rig : Rig D A) (doors : List O) (faults faults_after : ℕ) (ended : Ended D A (Vec O Global))
       (served : Served R G ghosts root entries count door source sink moment clock rig doors faults faults_after ended)
       → (after : Rig D A) × (ended.rig ≡ Some after)
-      × ∥ LifeServed ghosts entries count door source sink moment (set_of served.opened) served.opens.opened.term rig.slots.items after.slots.items
+      × ∥ LifeServed ghosts entries count door source sink moment (set_of served.opened) served.opens.opened.term (slots_of served.opened) rig.slots.items after.slots.items
       (workers_in served.served) ∥₁
+
+  -- where the rig of such a run holds, and no lost drive failed while the store was opened, its term is new, and a history begins in each slot: the lanes stand for
+  -- this as the slot is opened
+  abbrev pub ServesBegin : Type 0
+  ServesBegin = (moment : Option ℕ) (clock : C) (rig : Rig D A) (doors : List O) (faults faults_after : ℕ) (ended : Ended D A (Vec O Global))
+      (served : Served R G ghosts root entries count door source sink moment clock rig doors faults faults_after ended) (used lost : ℕ) (unseen : Disks) (at : ℕ → Standing)
+      → RigHolds ghosts rig.set used lost unseen at served.parts
+      → LostServe lost (views ghosts served.parts.disks.items) (views ghosts (disks_of served.opened))
+      → (used < served.opens.opened.term)
+      × ((k : ℕ) (d : SlotParts D A) → k < 64
+      → LanesBegin entries ghosts.tells ghosts.files (set_of served.opened) k served.opens.opened.term (slice_index_or rig.slots.items k d).lanes.items (at k))

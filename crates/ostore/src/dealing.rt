@@ -4,6 +4,7 @@ ghost use Rattle.std.specs.Prelude.{◌≡◌, ◌<◌, All, IsTrue, length, map
 ghost use Rattle.store_shared.specs.Parting.{HasAllParts};
 ghost use Rattle.store_shared.specs.SharedPasses.{FitsDesk, drives_of, set_held, shared_holds};
 ghost use Rattle.ostore.specs.Workers.{AreDealt, AreUnited, FitsEach, HasLength, ways_of};
+ghost use Rattle.turn_lock.specs.declared.lock.TheConstants.{ALL_PARTS};
 
 use audit_trail::Audit;
 use drive_base::Drive;
@@ -30,7 +31,7 @@ pub fn deal<R, D: Drive + Drop, A: Audit + Drop, G>(
 ) -> Dealt<D, A>
     requires fits { FitsDesk desk.now (shared_holds pass) }
     requires parts { HasAllParts (shared_holds pass) }
-    requires few { length rows.items < 65536 }
+    requires few { length rows.items < ALL_PARTS }
     requires rows { All (HasLength (set_held (shared_holds pass)).drives) rows.items }
     ensures dealt { AreDealt pass result.passes.items result.rest }
     ensures fits { FitsDesk desk.now (shared_holds result.rest) }

@@ -3,7 +3,7 @@
 ghost use Rattle.ostore.specs.History.{ClosedSlotRan};
 ghost use Rattle.ostore.specs.Laws.{ConnectionsPipe};
 ghost use Rattle.ostore.specs.Lives.{LivesAreComplete, LivesGoOn, RefusalsLeave};
-ghost use Rattle.ostore.specs.ServedLife.{ServesLives};
+ghost use Rattle.ostore.specs.ServedLife.{ServesBegin, ServesLives};
 
 use audit_trail::Audit;
 use desk_base::Gate;
@@ -52,4 +52,12 @@ pub fn served_law<R, D: Share, A: Audit, C: Clock, O: Door, G: Gate>()
 {
     sections_law::<D, A>();
     slot_law::<D, A>();
+}
+
+/// Over a rig that holds, as a fresh one does and one that a connection left, the term of such a run is new, and a history begins in each slot from what its lanes
+/// stood for. It does nothing.
+pub fn begun_law<R, D: Share, A: Audit, C: Clock, O: Door, G: Gate>()
+    ensures { ServesBegin R G C D.Drive D.root A.entries A.count O.Door O.In.Source O.Out.Sink }
+{
+    opened_law::<D, A>();
 }

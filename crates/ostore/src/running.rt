@@ -4,12 +4,15 @@ ghost use Rattle.std.specs.Prelude.{◌≡◌, ◌<◌, None, Some, length};
 ghost use Rattle.io_base.specs.Spawner.{spawner_faults};
 ghost use Rattle.ostore.specs.Program.{Fits, SaysNothing};
 ghost use Rattle.ostore.specs.Served.{AllUndone, DoesAll, without_door};
+ghost use Rattle.ostore.specs.ServedLife.{ServesBegin, ServesLives};
 ghost use Rattle.ostore.specs.declared.gate.NoGate.{NoGate};
 ghost use Rattle.command_line.specs.Words.{Says};
 ghost use Rattle.command_line.specs.declared.plan.Plan.{Plan as CommandLine};
 ghost use Rattle.serve_loop.specs.Deeds.{wires};
+ghost use Rattle.turn_lock.specs.declared.lock.TheConstants.{ALL_PARTS};
 
 use crate::gate::NoGate;
+use crate::laws::{begun_law, served_law};
 use crate::piping::Finished;
 use crate::program::run_command;
 use crate::rig::{Ended, Rig};
@@ -32,7 +35,8 @@ pub struct Ran<D, A, S, O> {
     pub source: S,
 }
 
-/// Does the command that the words say. For `serve` each door has a worker of its own, beside the others; for all others no door is touched.
+/// Does the command that the words say. For `serve` each door has a worker of its own, beside the others; for all others no door is touched. What `serve`
+/// comes to by the second clause begins a history in each slot by the third, and is a life of it by the fourth.
 pub fn run<
     R: AllocGlobal + Eprint + Threads + Wait + Copy + Drop + Send + Sync,
     S: Source + Drop,
@@ -52,14 +56,18 @@ pub fn run<
     spawner: &mut Spawner,
 ) -> Ran<D, A, S, O>
     requires fits { Fits words.now rig }
-    requires few { length doors.items < 65536 }
+    requires few { length doors.items < ALL_PARTS }
     ensures usage { SaysNothing words.now → AllUndone R NoGate D.Drive D.root A.entries A.count O.Door O.In.Source O.Out.Sink (C.moment clock.now) clock.now rig doors.items (spawner_faults spawner.old) (spawner_faults spawner.new) result.ended
         (wires (S.left source) (K.given sink.old) (S.faults source) (K.faults sink.old))
         (wires (S.left result.source) (K.given sink.new) (S.faults result.source) (K.faults sink.new)) }
     ensures does { (plan : CommandLine) → Says words.now plan → DoesAll R NoGate D.Drive D.root A.entries A.count O.Door O.In.Source O.Out.Sink (C.moment clock.now) clock.now plan.command rig doors.items (spawner_faults spawner.old) (spawner_faults spawner.new) result.ended
         (wires (S.left source) (K.given sink.old) (S.faults source) (K.faults sink.old))
         (wires (S.left result.source) (K.given sink.new) (S.faults result.source) (K.faults sink.new)) }
+    ensures begins { ServesBegin R NoGate C D.Drive D.root A.entries A.count O.Door O.In.Source O.Out.Sink }
+    ensures lives { ServesLives R NoGate C D.Drive D.root A.entries A.count O.Door O.In.Source O.Out.Sink }
 {
+    begun_law::<R, D, A, C, O, NoGate>();
+    served_law::<R, D, A, C, O, NoGate>();
     let alloc = rt.alloc();
     match plan_of(alloc, words) {
         Ok(plan) => match plan.command {

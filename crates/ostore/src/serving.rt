@@ -10,6 +10,7 @@ ghost use Rattle.ostore.specs.Served.{IsDeskEnd, IsHanded, IsStore, IsStoreEnd, 
 ghost use Rattle.ostore.specs.Sharing.{IsRowTo};
 ghost use Rattle.ostore.specs.Statuses.{done, out_of_memory, read_fault, refusal_status, write_fault};
 ghost use Rattle.ostore.specs.Workers.{DoorsServed};
+ghost use Rattle.turn_lock.specs.declared.lock.TheConstants.{ALL_PARTS};
 
 use crate::dealing::{Dealt, deal, unite};
 use crate::notices::tell_opened;
@@ -47,7 +48,7 @@ pub fn serve<
     gate: G,
 ) -> Ended<D, A, Vec<O>>
     requires fits { IsRigOf rig.set rig }
-    requires few { length doors.items < 65536 }
+    requires few { length doors.items < ALL_PARTS }
     ensures { Serves R G D.Drive D.root A.entries A.count O.Door O.In.Source O.Out.Sink (C.moment clock.now) clock.now rig doors.items (spawner_faults spawner.old) (spawner_faults spawner.new) result }
 {
     match open(alloc, rig) {
@@ -143,7 +144,7 @@ fn serve_store<
     gate: G,
 ) -> StoreEnd<D, A, O>
     requires store { IsStore parts }
-    requires few { length doors.items < 65536 }
+    requires few { length doors.items < ALL_PARTS }
     ensures end { IsStoreEnd R G D.Drive D.root A.entries A.count O.Door O.In.Source O.Out.Sink (C.moment clock.now) clock.now parts doors.items (spawner_faults spawner.old) (spawner_faults spawner.new) result }
     ensures store { IfSome result.parts (λ parts. IsStore parts) }
 {
@@ -236,7 +237,7 @@ fn serve_doors<
 ) -> DoorsEnd<D, A, O>
     requires fits { FitsDesk desk.now (shared_holds pass) }
     requires parts { HasAllParts (shared_holds pass) }
-    requires few { length rows.items < 65536 }
+    requires few { length rows.items < ALL_PARTS }
     requires rows { All (IsRowTo D.Drive D.root (drives_of pass)) rows.items }
     requires count { length rows.items ≡ length doors.items }
     ensures served { DoorsServed D.Drive D.root A.entries A.count O.Door O.In.Source O.Out.Sink (C.moment clock.now) desk.now clock.now pass result.whole doors.items result.doors.items result.status (spawner_faults spawner.old) (spawner_faults spawner.new) }

@@ -1,5 +1,5 @@
 -- The sections of a slot in the order of their turns, and those of a call.
-use Rattle.std.proofs.Common.{◌≡◌, ◌⊎◌, ◌∙◌, ◌<◌, ◌≤◌, ◌++◌, ℕ, leb, true, false, List, [], ◌∷◌, Option, All, cond, refl, sym, ap, subst, inl, inr, arith}
+use Rattle.std.proofs.Common.{◌≡◌, ◌⊎◌, ◌∙◌, ◌+◌, ◌<◌, ◌≤◌, ◌++◌, ℕ, leb, true, false, List, [], ◌∷◌, Option, All, cond, refl, sym, ap, subst, inl, inr, arith}
 use Rattle.std.proofs.lemmas.Bool.Decides.{eqb_tells, leb_tells}
 use Rattle.std.proofs.lemmas.List.Elements.{All-cons, All-head, All-nil, All-tail}
 use Rattle.std.proofs.lemmas.List.Sorted.{All-permutation}
@@ -17,8 +17,8 @@ use Rattle.turn_lock.specs.History.{Follow, IsHistory}
 use Rattle.turn_lock.specs.declared.view.Turn.{Turn}
 use Rattle.turn_lock.proofs.OrderLemmas.{history_in_order}
 use Rattle.store_shared.specs.Among.{seen_in}
-use Rattle.store_shared.specs.Sections.{AnswersHaveSections, HasSections, IsSection, SectionsLead, SlotLed, TurnedSection, events_by, turn_by, turned_at, turned_in, turns_by}
-use Rattle.store_shared.specs.SharedLaws.{AreTurnsOf, SharedAnswersHaveTurns}
+use Rattle.store_shared.specs.Sections.{AnswersHaveSections, AreCounted, HasSections, IsSection, SectionsLead, SlotLed, TurnedSection, events_by, turn_by, turned_at, turned_in, turns_by}
+use Rattle.store_shared.specs.SharedLaws.{AreTurnsOf, SharedAnswersHaveTurns, TurnsRise}
 use Rattle.store_shared.specs.SharedPasses.{pass_at, set_held, shared_holds}
 use Rattle.store_shared.specs.Turned.{SlotName, name_of, slot_in, turns_in}
 use Rattle.store_shared.specs.declared.turned.TurnedSlot.{TurnedSlot}
@@ -54,14 +54,29 @@ module _ {D A : Type 0} (ghosts : Ghosts D) (entries : A → Option (List Entry)
       went_twice ghosts any_effect any_effect k (seen first) (seen s.turn.to) (seen last) (entered_in k (Turned k s.note s.shown))
       (entered_at k (events_by k sections)) one rest
 
+  -- their tickets are the counts of turns at which they were done
+  counted : (first : TurnedSlot D A) (sections : List (TurnedSection D A)) (last : TurnedSlot D A) → All (IsSection ghosts entries count k) sections
+      → Follow turn_by first sections last → AreCounted (turns_in first) sections (turns_in last)
+  counted first [] last all same = ap turns_in (sym same)
+  counted first (s ∷ sections) last all (begins, more) =
+      let is = (All-head (IsSection ghosts entries count k) s sections all).1 in
+      let next : turns_in s.turn.to ≡ turns_in first + 1 = is.did.moves.numbers.turns ∙ ap (λ (t : TurnedSlot D A). turns_in t + 1) begins in (
+        sym is.ticket ∙ ap turns_in begins,
+        subst (λ n. AreCounted n sections (turns_in last)) next
+            (counted s.turn.to sections last (All-tail (IsSection ghosts entries count k) s sections all) more),
+      )
+
   -- those of a history, in the order of its turns
   led : (first last : TurnedSlot D A) (made : List (TurnedSection D A)) → IsHistory turns_in name_of first last (turns_by made)
       → All (IsSection ghosts entries count k) made → SlotLed ghosts entries count k first last made
   led first last made history all =
       let ordered = history_in_order turn_by turns_in name_of first last made history in
+      let are = All-permutation (IsSection ghosts entries count k) made ordered.ordered ordered.same all in
       record {
         in_order = ordered;
-        went = went_sections first ordered.ordered last (All-permutation (IsSection ghosts entries count k) made ordered.ordered ordered.same all) ordered.follow;
+        are = are;
+        counted = counted first ordered.ordered last are ordered.follow;
+        went = went_sections first ordered.ordered last are ordered.follow;
       }
 
   -- the sections of these turns of a log
@@ -134,6 +149,7 @@ module _ {D A : Type 0} (ghosts : Ghosts D) (entries : A → Option (List Entry)
         found.sections,
         record {
           turns = turned.has ∙ ap (λ l. (seen_in (pass_at before k)).turns ++ l) found.are;
+          rise = subst (λ l. TurnsRise (seen_in (pass_at before k)).seen l (seen_in (pass_at after k)).seen) found.are turned.rise;
           are = found.all;
           of_log = found.of_log;
         },

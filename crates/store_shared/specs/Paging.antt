@@ -14,6 +14,7 @@ use Rattle.slot_core.specs.declared.fault.SlotFault.{SlotFault}
 use Rattle.slot_core.specs.declared.fault.SlotFault.TheVariants.{SeqSpent}
 use Rattle.slot_core.specs.declared.slot.Slot.{Slot}
 use Rattle.slot_core.specs.declared.stub.Stub.{Stub}
+use Rattle.turn_lock.specs.Tickets.{last_ticket}
 
 module _ {D A : Type 0} (ghosts : Ghosts D) (entries : A → Option (List Entry)) (count : A → ℕ) where
   -- a slot listed the names of its registers, from one on and so many at most
@@ -41,7 +42,7 @@ module _ {D A : Type 0} (ghosts : Ghosts D) (entries : A → Option (List Entry)
 
 -- the turns of a slot of a store are spent, and nothing is done
 pub record IsPageSpent {D A Y : Type 0} (index : ℕ) (old new : List (Slot D A)) (answer : Result (List (String Y)) SlotFault) (stub : Option Stub) : Type 0 where
-  pub spent : (d : Slot D A) → 18446744073709551615 ≤ (numbers_of (slice_index_or old index d)).turns
+  pub spent : (d : Slot D A) → last_ticket ≤ (numbers_of (slice_index_or old index d)).turns
   pub refused : answer ≡ Err SeqSpent
   pub no_stub : stub ≡ None
   pub stays : new ≡ old

@@ -12,6 +12,8 @@ use Rattle.store_shared.specs.declared.parts.PassParts.{PassParts}
 use Rattle.store_shared.specs.declared.shared.SharedDesk.{SharedDesk}
 use Rattle.store_shared.specs.declared.shared.SharedPass.{SharedPass}
 use Rattle.store_shared.specs.declared.turned.TurnedSlot.{TurnedSlot}
+use Rattle.turn_lock.specs.declared.lock.TheConstants.{ALL_PARTS}
+use Rattle.turn_lock.specs.Tickets.{last_ticket}
 
 module _ {D A : Type 0} where
   -- how many parts a pass of a lock has
@@ -27,19 +29,19 @@ module _ {D A : Type 0} where
   MayBeSplit held = (k : ℕ) → k < 64 → 1 < parts_at held k
 
   abbrev pub HasAllParts : SharedHolds D A → Type 0
-  HasAllParts held = (k : ℕ) → k < 64 → parts_at held k ≡ 65536
+  HasAllParts held = (k : ℕ) → k < 64 → parts_at held k ≡ ALL_PARTS
 
   -- of some lock some part is missing
   abbrev pub LacksSome : List (Option (PassHolds D A)) → Type 0
-  LacksSome passes = (k : ℕ) × (k < length passes) × (parts_in (slice_index_or passes k None) < 65536)
+  LacksSome passes = (k : ℕ) × (k < length passes) × (parts_in (slice_index_or passes k None) < ALL_PARTS)
 
   abbrev pub LacksParts : SharedHolds D A → Type 0
-  LacksParts held = (k : ℕ) × (k < 64) × (parts_at held k < 65536)
+  LacksParts held = (k : ℕ) × (k < 64) × (parts_at held k < ALL_PARTS)
 
   -- the pass of a new lock: it has all parts, has seen the turns of the lock's slot, and has made none
   pub record IsFirst (lock : TurnLock (TurnedSlot D A)) (pass : Pass (TurnedSlot D A)) : Type 0 where
     pub of_lock : IsPassOf lock pass
-    pub parts : parts_of pass ≡ 65536
+    pub parts : parts_of pass ≡ ALL_PARTS
     pub seen : seen_by pass ≡ turns_in (made_with lock)
     pub spent : is_spent pass ≡ false
     pub turns : turns_of pass ≡ []
@@ -77,10 +79,10 @@ module _ {D A : Type 0} where
   -- a slot whose lock is closed: it has the name of the one that the lock was made with, and all turns that were made are those that led from that one to it.
   -- Where the pass is spent all tickets were used up
   pub record IsClosed (lock : TurnLock (TurnedSlot D A)) (pass : Pass (TurnedSlot D A)) (turned : TurnedSlot D A) : Type 0 where
-    pub parts : parts_of pass ≡ 65536
+    pub parts : parts_of pass ≡ ALL_PARTS
     pub name : name_of turned ≡ name_of (made_with lock)
     pub seen : seen_by pass ≤ turns_in turned
-    pub spent : is_spent pass ≡ true → 18446744073709551615 ≤ turns_in turned
+    pub spent : is_spent pass ≡ true → last_ticket ≤ turns_in turned
     pub history : IsHistory turns_in name_of (made_with lock) turned (turns_of pass)
 
   abbrev pub IsClosedAt : TurnLock (TurnedSlot D A) → Option (Pass (TurnedSlot D A)) → Slot D A → Type 0

@@ -1,5 +1,5 @@
 -- The sections of a slot that many calls did, each in a turn of it, and where they lead the slot.
-use Rattle.std.specs.Prelude.{◌≡◌, ℕ, ◌<◌, ◌++◌, List, [], ◌∷◌, map, All, Contains, Option, Result, if◌then◌else◌, nat_eq}
+use Rattle.std.specs.Prelude.{◌≡◌, ℕ, ◌+◌, ◌<◌, ◌++◌, List, [], ◌∷◌, map, All, Contains, Option, Result, if◌then◌else◌, nat_eq}
 use Rattle.std.specs.List.{flat_map}
 use Rattle.audit_trail.specs.declared.entry.Entry.{Entry}
 use Rattle.call_types.specs.declared.feed.Cut.{Cut}
@@ -16,7 +16,7 @@ use Rattle.turn_lock.specs.History.{Arranged, IsHistory}
 use Rattle.turn_lock.specs.declared.view.Turn.{Turn}
 use Rattle.store_shared.specs.Among.{PassSeen, seen_in}
 use Rattle.store_shared.specs.SharedAnswers.{SharedAnswers}
-use Rattle.store_shared.specs.SharedLaws.{IsSectionIn}
+use Rattle.store_shared.specs.SharedLaws.{IsSectionIn, TurnsRise}
 use Rattle.store_shared.specs.SharedPasses.{pass_at}
 use Rattle.store_shared.specs.Turned.{name_of, slot_in, turns_in}
 use Rattle.store_shared.specs.declared.receipt.Receipt.{Receipt}
@@ -36,6 +36,11 @@ module _ {D A : Type 0} where
 
   abbrev pub turns_by : List (TurnedSection D A) → List (Turn (TurnedSlot D A))
   turns_by sections = map turn_by sections
+
+  -- their tickets are the numbers from this one on, up to the next one
+  abbrev pub AreCounted : ℕ → List (TurnedSection D A) → ℕ → Type 0
+  AreCounted n [] next = next ≡ n
+  AreCounted n (s ∷ sections) next = (s.turn.ticket ≡ n) × AreCounted (n + 1) sections next
 
   -- their events, as those of the slot of this index
   abbrev pub events_by : ℕ → List (TurnedSection D A) → Log
@@ -58,9 +63,11 @@ module _ {D A : Type 0} (ghosts : Ghosts D) (entries : A → Option (List Entry)
   IsSection k s = (set : SetPlan) × IsSectionIn ghosts entries count set k s.note s.shown s.turn
 
   -- what sections of a slot come to that were done by whatever calls: in the order of their turns they follow one another from the one state of the slot to
-  -- the other, and by the entries of their log the slot went on
+  -- the other, one at each count of turns, and by the entries of their log the slot went on
   pub record SlotLed (k : ℕ) (first last : TurnedSlot D A) (made : List (TurnedSection D A)) : Type 0 where
     pub in_order : Arranged turn_by made first last
+    pub are : All (IsSection k) in_order.ordered
+    pub counted : AreCounted (turns_in first) in_order.ordered (turns_in last)
     pub went : WentOn ghosts.tells ghosts.files k (slot_seen entries count (slot_in first)) (slot_seen entries count (slot_in last))
         (entered_at k (events_by k in_order.ordered))
 
@@ -69,9 +76,10 @@ module _ {D A : Type 0} (ghosts : Ghosts D) (entries : A → Option (List Entry)
   SectionsLead = (k : ℕ) (first last : TurnedSlot D A) (made : List (TurnedSection D A)) → IsHistory turns_in name_of first last (turns_by made)
       → All (IsSection k) made → SlotLed k first last made
 
-  -- the sections of a log in the slot of this index: its pass has their turns more
+  -- the sections of a log in the slot of this index: its pass has their turns more, and their tickets rise from what it had seen to what it has seen
   pub record HasSections (k : ℕ) (log : Log) (was now : PassSeen D A) (sections : List (TurnedSection D A)) : Type 0 where
     pub turns : now.turns ≡ was.turns ++ turns_by sections
+    pub rise : TurnsRise was.seen (turns_by sections) now.seen
     pub are : All (IsSection k) sections
     pub of_log : events_by k sections ≡ turned_at k log
 

@@ -4,6 +4,7 @@ ghost use Rattle.std.specs.Prelude.{◌≡◌, ◌<◌, ℕ, [], IfOk};
 ghost use Rattle.desk_base.specs.Answering.{CutCause, Serves, Task};
 ghost use Rattle.desk_base.specs.Calls.{IsFeedOf, IsLawful};
 ghost use Rattle.op_steps.specs.Claims.{no_claim};
+ghost use Rattle.bucket_book.specs.Limits.{moment_limit};
 
 use crate::later::refuse_later;
 use crate::op_desk::OpDesk;
@@ -59,7 +60,7 @@ pub(crate) fn serve_call<S: OpDesk, F: Feed, T: Teller>(
     requires fits { S.fits desk.now (S.holds pass.old) }
     requires lawful { IsLawful call.now }
     requires feed { IsFeedOf (F.seen feed.old) call.now }
-    requires moment { now < 253402300800 }
+    requires moment { now < moment_limit }
     ensures serves { Serves T.takes T.breaks
         (λ body tale. S.answers desk.now (record { call = call.now; now = now }) pass.old pass.new body tale result)
         call.now result (F.seen feed.old) (F.seen feed.new) teller.old teller.new }

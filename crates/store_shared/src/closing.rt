@@ -13,15 +13,12 @@ use crate::turned::TurnedSlot;
 use audit_trail::Audit;
 use drive_base::Drive;
 use slot_core::Slot;
-use turn_lock::{Pass, TurnLock};
-
-/// How many parts of the right to close a lock there are.
-const ALL_PARTS: u64 = 65_536;
+use turn_lock::{ALL_PARTS, Pass, TurnLock};
 
 /// Whether a pass isn't there, or some part of its right to close its lock is missing.
 fn lacks_some<D: Drive + Drop, A: Audit + Drop>(pass: &Option<Pass<TurnedSlot<D, A>>>) -> bool
-    ensures lacks { IsTrue result → parts_in (option_map pass_holds pass.now) < 65536 }
-    ensures has { (IsTrue result → ⊥) → 65536 ≤ parts_in (option_map pass_holds pass.now) }
+    ensures lacks { IsTrue result → parts_in (option_map pass_holds pass.now) < ALL_PARTS }
+    ensures has { (IsTrue result → ⊥) → ALL_PARTS ≤ parts_in (option_map pass_holds pass.now) }
 {
     match pass {
         None => true,
@@ -32,7 +29,7 @@ fn lacks_some<D: Drive + Drop, A: Audit + Drop>(pass: &Option<Pass<TurnedSlot<D,
 /// Whether some part of the right to close some lock is missing.
 fn lacks_any<D: Drive + Drop, A: Audit + Drop>(passes: &[Option<Pass<TurnedSlot<D, A>>>]) -> bool
     ensures lacks { IsTrue result → LacksSome (passes_hold passes.now) }
-    ensures has { (IsTrue result → ⊥) → (k : ℕ) → k < length passes.now → 65536 ≤ parts_in (slice_index_or (passes_hold passes.now) k None) }
+    ensures has { (IsTrue result → ⊥) → (k : ℕ) → k < length passes.now → ALL_PARTS ≤ parts_in (slice_index_or (passes_hold passes.now) k None) }
 {
     for pass in passes {
         if lacks_some(pass) {
@@ -51,7 +48,7 @@ fn close_all<D: Drive + Drop, A: Audit + Drop>(
     requires count { length locks.items ≡ 64 }
     requires count_too { length passes.items ≡ 64 }
     requires lock { AreOfLocks locks.items (passes_hold passes.items) }
-    requires parts { (k : ℕ) → k < 64 → 65536 ≤ parts_in (slice_index_or (passes_hold passes.items) k None) }
+    requires parts { (k : ℕ) → k < 64 → ALL_PARTS ≤ parts_in (slice_index_or (passes_hold passes.items) k None) }
     requires none { slots.old.items ≡ [] }
     requires room { 64 ≤ vec_capacity slots.old }
     ensures closed { AreClosed locks.items passes.items slots.new.items }

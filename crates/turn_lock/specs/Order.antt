@@ -7,6 +7,7 @@ use Rattle.turn_lock.specs.History.{tickets, Leads}
 use Rattle.turn_lock.specs.Tickets.{total, times, holds, between}
 use Rattle.turn_lock.specs.declared.view.Turn.{Turn}
 use Rattle.turn_lock.specs.declared.view.View.{View}
+use Rattle.turn_lock.specs.declared.lock.TheConstants.{ALL_PARTS}
 
 module _ {T : Type 0} where
   -- a pass has the value
@@ -40,7 +41,7 @@ module _ {T N : Type 0} (turn : T → ℕ) (name : T → N) where
     pub counts : (n : ℕ) → turn of ≤ n → n ≤ serving → (turn (at n) ≡ n) × (name (at n) ≡ name of)
     pub begun : turn of ≤ serving
     pub ahead : serving ≤ next
-    pub whole : total (λ v. v.parts) views ≡ 65536
+    pub whole : total (λ v. v.parts) views ≡ ALL_PARTS
     pub held : (x : ℕ) → total (λ v. holds x v.ticket) views ≡ between serving next x
     pub once : (x : ℕ) → total (λ v. times x (tickets v.done)) views ≡ between (turn of) serving x
     pub each : (i : ℕ) (v : View T) → get_elem? views i ≡ maybe.some v → Fits of at next serving v

@@ -6,6 +6,7 @@ use Rattle.turn_lock.specs.declared.pass.Pass.{Pass}
 use Rattle.turn_lock.specs.declared.pass.Held.{Held}
 use Rattle.turn_lock.specs.declared.lock.TurnLock.{TurnLock}
 use Rattle.turn_lock.specs.declared.view.Turn.{Turn}
+use Rattle.turn_lock.specs.Tickets.{last_ticket}
 
 module _ {T : Type 0} where
   -- which lock it is
@@ -33,7 +34,7 @@ module _ {T : Type 0} where
 
   -- whether it found the next ticket at the last value of its word, where it stays
   abbrev pub is_spent : Pass T → Bool
-  is_spent pass = pass.looked == 18446744073709551615
+  is_spent pass = pass.looked == last_ticket
 
   -- the turns that it made, and those of the passes that it was joined with
   abbrev pub turns_of : Pass T → List (Turn T)

@@ -2,10 +2,11 @@
 use Rattle.std.specs.Prelude.{◌≡◌, ◌≢◌, ℕ, ◌<◌, ◌≤◌, ◌∷◌, Option, Some, IfSome}
 use Rattle.atomic_table.specs.Table.{Me, Step, rest}
 use Rattle.turn_lock.specs.History.{tickets}
-use Rattle.turn_lock.specs.Tickets.{times}
+use Rattle.turn_lock.specs.Tickets.{times, last_ticket}
 use Rattle.turn_lock.specs.Views.{looked, drew, lending, rested}
 use Rattle.turn_lock.specs.declared.view.Turn.{Turn}
 use Rattle.turn_lock.specs.declared.view.View.{View}
+use Rattle.turn_lock.specs.declared.lock.TheConstants.{ALL_PARTS}
 
 -- a pass's view, and what it has of the slot
 abbrev pub Mine : Type 0 → Type 0
@@ -15,7 +16,7 @@ module _ {T : Type 0} where
   -- a ticket was looked for, found and drawn. It isn't the last number
   abbrev pub DrewTicket : Mine T → ℕ → Mine T → Type 0
   DrewTicket m ticket n =
-      (n ≡ (drew ticket (looked ticket m.0), m.1)) × (m.0.seen ≤ ticket) × (m.0.looked ≤ ticket) × (times ticket (tickets m.0.done) ≡ 0) × (ticket < 18446744073709551615)
+      (n ≡ (drew ticket (looked ticket m.0), m.1)) × (m.0.seen ≤ ticket) × (m.0.looked ≤ ticket) × (times ticket (tickets m.0.done) ≡ 0) × (ticket < last_ticket)
 
   -- a look at the next ticket, which never falls
   abbrev pub Looks : Step (Option T) → Mine T → ℕ → Mine T → Type 0
@@ -27,7 +28,7 @@ module _ {T : Type 0} where
 
   -- the number of parts is at most that of all
   abbrev pub Weighs : Step (Option T) → Mine T → ℕ → Mine T → Type 0
-  Weighs st m r n = (n ≡ m) × (m.0.parts ≤ 65536)
+  Weighs st m r n = (n ≡ m) × (m.0.parts ≤ ALL_PARTS)
 
   -- a turn's end: it led from the value that was lent to the one that comes back
   abbrev pub Advances : Step (Option T) → Mine T → ℕ → Mine T → Type 0

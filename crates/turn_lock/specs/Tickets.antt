@@ -1,6 +1,10 @@
 -- Tickets, counted.
 use Rattle.std.specs.Prelude.{ℕ, ◌+◌, List, [], ◌∷◌, Option, Some, None, cond, ltb, eqb}
 
+-- the last number, which no ticket has: no value could count the turn after it
+abbrev pub last_ticket : ℕ
+last_ticket = 18446744073709551615
+
 -- f of each, added up
 abbrev pub total : {A : Type 0} → (A → ℕ) → List A → ℕ
 total f [] = 0

@@ -2,6 +2,7 @@
 use Rattle.std.specs.Prelude.{ℕ, ◌+◌, ◌-◌, max, List, [], ◌∷◌, ◌++◌, Option, Some, None}
 use Rattle.turn_lock.specs.declared.view.Turn.{Turn}
 use Rattle.turn_lock.specs.declared.view.View.{View}
+use Rattle.turn_lock.specs.declared.lock.TheConstants.{ALL_PARTS}
 
 module _ {T : Type 0} where
   abbrev pub view : ℕ → ℕ → ℕ → Option ℕ → Option T → List (Turn T) → Option T → View T
@@ -9,7 +10,7 @@ module _ {T : Type 0} where
 
   -- of the pass that comes with a new lock: it has all parts, and has seen the turns of the value
   abbrev pub first : ℕ → T → View T
-  first turns of = view 65536 turns 0 None None [] (Some of)
+  first turns of = view ALL_PARTS turns 0 None None [] (Some of)
 
   -- without some of its parts
   abbrev pub cut : ℕ → View T → View T

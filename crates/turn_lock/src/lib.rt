@@ -28,7 +28,7 @@ mod turned;
 mod view;
 
 pub use laws::history_law;
-pub use lock::TurnLock;
+pub use lock::{ALL_PARTS, TurnLock};
 pub use pass::{Held, Pass};
 pub use turned::Turned;
 pub use view::Turn;

@@ -10,7 +10,7 @@ use std::alloc::Global;
 use std::snapshot::Snapshot;
 
 /// The parts of the right to close a lock, which the pass of `new` has.
-pub(crate) const ALL_PARTS: u64 = 65_536;
+pub const ALL_PARTS: u64 = 65_536;
 
 /// The word of the next ticket.
 pub(crate) const NEXT: usize = 0;

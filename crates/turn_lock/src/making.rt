@@ -3,7 +3,7 @@
 ghost use Rattle.std.specs.Prelude.{◌≡◌, ℕ, ◌<◌, ◌≤◌, [], ◌∷◌, Some, true, false, IfOk, IfErr};
 ghost use Rattle.turn_lock.specs.History.{IsHistory};
 ghost use Rattle.turn_lock.specs.Passes.{IsPassOf, made_with, parts_of, seen_by, is_spent, drawn_by, turns_of};
-ghost use Rattle.turn_lock.specs.Tickets.{times, between};
+ghost use Rattle.turn_lock.specs.Tickets.{times, between, last_ticket};
 
 use crate::lock::{ALL_PARTS, TurnLock};
 use crate::pass::Pass;
@@ -16,7 +16,7 @@ impl<T: Turned> TurnLock<T> {
     /// A lock of the value, with its one pass. The first ticket is the number of turns that the value had. It hands the value back for
     /// want of memory.
     pub fn new(alloc: Global, value: T) -> Result<(TurnLock<T>, Pass<T>), T>
-        ensures pass { IfOk result (λ r. IsPassOf r.0 r.1 × (parts_of r.1 ≡ 65536) × (seen_by r.1 ≡ T.turn value) × (is_spent r.1 ≡ false) × (drawn_by r.1 ≡ []) × (turns_of r.1 ≡ [])) }
+        ensures pass { IfOk result (λ r. IsPassOf r.0 r.1 × (parts_of r.1 ≡ ALL_PARTS) × (seen_by r.1 ≡ T.turn value) × (is_spent r.1 ≡ false) × (drawn_by r.1 ≡ []) × (turns_of r.1 ≡ [])) }
         ensures made { IfOk result (λ r. made_with r.0 ≡ value) }
         ensures err { IfErr result (λ back. back ≡ value) }
     {
@@ -46,11 +46,11 @@ impl<T: Turned> TurnLock<T> {
     /// spent tells that all tickets were used up. `Err` exactly where the pass has fewer than all parts, since another pass isn't joined.
     pub fn close(self, pass: Pass<T>) -> Result<T, (TurnLock<T>, Pass<T>)>
         requires { IsPassOf self pass }
-        ensures ok { IfOk result (λ value. (parts_of pass ≡ 65536) × (T.name value ≡ T.name (made_with self)) × (seen_by pass ≤ T.turn value)) }
-        ensures spent { IfOk result (λ value. is_spent pass ≡ true → 18446744073709551615 ≤ T.turn value) }
+        ensures ok { IfOk result (λ value. (parts_of pass ≡ ALL_PARTS) × (T.name value ≡ T.name (made_with self)) × (seen_by pass ≤ T.turn value)) }
+        ensures spent { IfOk result (λ value. is_spent pass ≡ true → last_ticket ≤ T.turn value) }
         ensures drawn { IfOk result (λ value. (ticket : ℕ) → times ticket (drawn_by pass) ≡ between (T.turn (made_with self)) (T.turn value) ticket) }
         ensures history { IfOk result (λ value. IsHistory T.turn T.name (made_with self) value (turns_of pass)) }
-        ensures err { IfErr result (λ back. (parts_of pass < 65536) × (back.0 ≡ self) × (back.1 ≡ pass)) }
+        ensures err { IfErr result (λ back. (parts_of pass < ALL_PARTS) × (back.0 ≡ self) × (back.1 ≡ pass)) }
     {
         let all = ALL_PARTS;
         if pass.parts < all {

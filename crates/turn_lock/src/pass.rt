@@ -1,6 +1,8 @@
 //! A pass, and a value that is out with a pass.
 
 ghost use Rattle.std.specs.Prelude.{◌≡◌, ℕ, ◌<◌, ◌≤◌, [], ◌∷◌, Some, None};
+ghost use Rattle.turn_lock.specs.declared.lock.TheConstants.{ALL_PARTS};
+ghost use Rattle.turn_lock.specs.Tickets.{last_ticket};
 
 use crate::view::View;
 use atomic_table::Seat;
@@ -20,7 +22,7 @@ pub struct Pass<T> {
     /// The next ticket, as the pass found it last, and 0 before that.
     pub(crate) looked: u64,
     pub(crate) seat: Seat<Option<T>, View<T>>,
-    ghost some_part: { (0 < parts) × (parts ≤ 65536) },
+    ghost some_part: { (0 < parts) × (parts ≤ ALL_PARTS) },
     ghost view_is: { (seat.me.0.parts ≡ parts) × (seat.me.0.seen ≡ seen) × (seat.me.0.looked ≡ looked) },
     ghost at_rest: { (seat.me.0.ticket ≡ None) × (seat.me.0.lent ≡ None) × (seat.me.1 ≡ []) },
 }
@@ -36,8 +38,8 @@ pub struct Held<T> {
     /// The parts of the pass that has it.
     pub(crate) parts: u64,
     pub(crate) seat: Seat<Option<T>, View<T>>,
-    ghost some_part: { (0 < parts) × (parts ≤ 65536) },
-    ghost not_last: { ticket < 18446744073709551615 },
+    ghost some_part: { (0 < parts) × (parts ≤ ALL_PARTS) },
+    ghost not_last: { ticket < last_ticket },
     ghost view_is: { (seat.me.0.parts ≡ parts) × (seat.me.0.looked ≡ ticket) },
     ghost in_turn: { (seat.me.0.ticket ≡ Some ticket) × (seat.me.0.lent ≡ Some lent.value) × (seat.me.1 ≡ (0, None) ∷ []) },
 }

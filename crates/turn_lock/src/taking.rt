@@ -4,7 +4,7 @@ ghost use Rattle.std.specs.Prelude.{◌≡◌, ◌+◌, ◌<◌, ◌≤◌, [], 
 ghost use Rattle.turn_lock.specs.Passes.{IsPassOf, IsHeldOf, made_with, parts_of, seen_by, is_spent, drawn_by, ticket_of, parts_held, drawn_so_far, turns_of, turns_so_far, lent_to, this_turn};
 ghost use Rattle.turn_lock.specs.Steps.{DrewTicket, Lends};
 ghost use Rattle.turn_lock.specs.History.{tickets};
-ghost use Rattle.turn_lock.specs.Tickets.{times};
+ghost use Rattle.turn_lock.specs.Tickets.{times, last_ticket};
 ghost use Rattle.turn_lock.specs.Views.{looked};
 
 use crate::lock::{NEXT, SERVING, TurnLock};
@@ -27,7 +27,7 @@ impl<T: Turned> TurnLock<T> {
         requires { IsPassOf self.now pass }
         ensures held { IfOk result (λ held. IsHeldOf self.now held × (parts_held held ≡ parts_of pass) × (drawn_so_far held ≡ drawn_by pass ++ ticket_of held ∷ [])) }
         ensures value { IfOk result (λ held. (T.turn held.value ≡ ticket_of held) × (T.name held.value ≡ T.name (made_with self.now))) }
-        ensures ticket { IfOk result (λ held. (seen_by pass ≤ ticket_of held) × (ticket_of held < 18446744073709551615) × (times (ticket_of held) (drawn_by pass) ≡ 0)) }
+        ensures ticket { IfOk result (λ held. (seen_by pass ≤ ticket_of held) × (ticket_of held < last_ticket) × (times (ticket_of held) (drawn_by pass) ≡ 0)) }
         ensures turns { IfOk result (λ held. (turns_so_far held ≡ turns_of pass) × (lent_to held ≡ held.value)) }
         ensures spent { IfOk result (λ _. is_spent pass ≡ false) }
         ensures err { IfErr result (λ back. IsPassOf self.now back × (is_spent back ≡ true) × (parts_of back ≡ parts_of pass) × (seen_by back ≡ seen_by pass) × (drawn_by back ≡ drawn_by pass) × (turns_of back ≡ turns_of pass)) }
@@ -63,7 +63,7 @@ impl<T: Turned> TurnLock<T> {
         requires seat { (seat.old.table_id ≡ self.now.table.shared.table_id) × (0 < seat.old.me.0.parts) × (seat.old.me.0.ticket ≡ None) }
         ensures same { seat.new.table_id ≡ seat.old.table_id }
         ensures some { IfSome result (λ ticket. DrewTicket seat.old.me ticket seat.new.me) }
-        ensures none { IfNone result (seat.new.me ≡ (looked 18446744073709551615 seat.old.me.0, seat.old.me.1)) }
+        ensures none { IfNone result (seat.new.me ≡ (looked last_ticket seat.old.me.0, seat.old.me.1)) }
     {
         let shared = &self.table.shared;
         for _ in rt.forever() {

@@ -36,6 +36,8 @@ returns-in-Ok g c = record {
       (ap (λ s. wires (g.S.Source.left s) (g.K.Sink.given c.run_command.new.sink) (g.S.Source.faults s) (g.K.Sink.faults c.run_command.new.sink))
       (sym c.with_doors.ensures.source))
       c.run_command.ensures);
+  begins = c.begun_law.ensures;
+  lives = c.served_law.ensures;
 }
 
 pub returns-in-Err-NotACommand-clause-does : goal.returns-in-Err-NotACommand-clause-does
