@@ -7,6 +7,7 @@ use Rattle.manifest_file.specs.Print.{Cut, cut_of, print_text}
 use Rattle.manifest_file.specs.declared.manifest.Manifest.{Manifest}
 use Rattle.manifest_file.specs.declared.manifest.ManifestPart.{ManifestPart}
 use Rattle.body_print.specs.Shards.{HasRoots}
+use Rattle.manifest_file.specs.Limits.{most_parts, most_part_bytes}
 
 -- the cut of a part: its length, and the roots of its shards over n drives with p of parity
 abbrev pub IsCutOf : ℕ → ℕ → List ℕ → Cut → Type 0
@@ -22,8 +23,8 @@ pub record IsPrintText (n p : ℕ) (parts : List (List ℕ)) (text : List ℕ) :
 -- a body is cut so that a manifest can tell it: into 1 to 10,000 parts of at most 5 GiB
 pub record IsCut (parts : List (List ℕ)) : Type 0 where
   pub some : 0 < length parts
-  pub few : length parts ≤ 10000
-  pub fits : All (λ part. length part ≤ 5368709120) parts
+  pub few : length parts ≤ most_parts
+  pub fits : All (λ part. length part ≤ most_part_bytes) parts
 
 -- a body has a print: that of the body cut into some parts
 pub record HasPrint (n p : ℕ) (body print : List ℕ) : Type 0 where

@@ -7,6 +7,7 @@ use Rattle.sealed_record.specs.Table.{Table}
 use Rattle.call_types.specs.declared.names.Mode.{Mode}
 use Rattle.call_types.specs.declared.names.Mode.TheVariants.{Never, Enabled, Suspended}
 use Rattle.bucket_book.specs.declared.record.BucketRecord.{BucketRecord}
+use Rattle.bucket_book.specs.Limits.{moment_limit}
 
 -- the number of a mode
 abbrev pub mode_number : Mode → ℕ
@@ -25,7 +26,7 @@ row_of bucket = record { created = bucket.created; mode = mode_number bucket.mod
 
 -- whether a number is a moment: Unix seconds before the year 10000
 abbrev pub is_moment : ℕ → Bool
-is_moment moment = nat_lt moment 253402300800
+is_moment moment = nat_lt moment moment_limit
 
 -- whether a number is that of a mode
 abbrev pub is_mode : ℕ → Bool
@@ -44,7 +45,7 @@ bytes_of r = joined (number_bytes w64 r.created ∷ number_bytes w8 r.mode ∷ [
 
 -- The moment of a record that is written is before the year 10000.
 pub record IsCanonical (bucket : BucketRecord) : Type 0 where
-  pub created : bucket.created < 253402300800
+  pub created : bucket.created < moment_limit
 
 -- the table of records
 abbrev pub bucket_table : Table BucketRecord BucketRow

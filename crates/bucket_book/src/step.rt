@@ -5,6 +5,7 @@ ghost use Rattle.bucket_book.specs.Content.{IsCanonicalRow};
 ghost use Rattle.bucket_book.specs.Table.{IsCanonical};
 ghost use Rattle.bucket_book.specs.Laws.{BucketsStay, StepsAreOne};
 ghost use Rattle.bucket_book.specs.Step.{IsLawful, Serves, with_mode};
+ghost use Rattle.bucket_book.specs.Limits.{moment_limit};
 
 use crate::record::BucketRecord;
 use call_types::{Mode, Refusal, Reply};
@@ -38,7 +39,7 @@ pub struct BucketStep {
 pub fn apply(row: &Option<BucketRecord>, act: BucketAct, now: u64) -> BucketStep
     requires lawful { IsLawful act }
     ensures step { Serves row.now act now result }
-    ensures canonical { IsCanonicalRow row.now → now < 253402300800 → IfSome result.changed IsCanonical }
+    ensures canonical { IsCanonicalRow row.now → now < moment_limit → IfSome result.changed IsCanonical }
 {
     match row {
         None => apply_to_none(act, now),
@@ -60,7 +61,7 @@ fn answered(reply: Reply) -> BucketStep
 /// The step where there is no bucket.
 fn apply_to_none(act: BucketAct, now: u64) -> BucketStep
     ensures step { Serves None act now result }
-    ensures canonical { now < 253402300800 → IfSome result.changed IsCanonical }
+    ensures canonical { now < moment_limit → IfSome result.changed IsCanonical }
 {
     match act {
         BucketAct::Make => BucketStep {

@@ -3,7 +3,7 @@ ghost use Rattle.bucket_book.specs.Content.{IsCanonicalRow};
 ghost use Rattle.bucket_book.specs.Step.{IsLawful};
 
 use super::*;
-use call_types::{ListRead, Mode, Refusal, Reply};
+use call_types::{ListFault, Mode, Refusal, Reply};
 use std::test::Fail;
 
 /// Texts, and whether each is the name of a bucket: by its length, its bytes, its ends, its dots, and as an address.
@@ -114,7 +114,7 @@ const REFUSED: [(&[u8], u64); 5] = [
 fn refuses_other_contents(rt: HostRuntime) {
     for (content, place) in REFUSED {
         assert!(rt;
-            read(rt.alloc(), content) == Err(ListRead::NotCanonical(place)),
+            read(rt.alloc(), content) == Err(ListFault::NotCanonical(place)),
             "at {place}"
         );
     }

@@ -2,6 +2,7 @@
 
 ghost use Rattle.std.specs.Prelude.{◌≡◌, ◌<◌, ◌≤◌, length, string_bytes};
 ghost use Rattle.slot_history.specs.Names.{bucket_name};
+ghost use Rattle.drive_base.specs.declared.drive.TheConstants.{LONGEST_NAME};
 
 use call_types::{BucketRow, Cut, Reply};
 use seal_file::Text;
@@ -14,7 +15,7 @@ pub struct Wanted {
     /// The bucket.
     pub(crate) bucket: Text,
     pub ghost named: { string_bytes name ≡ bucket_name bucket },
-    pub ghost short: { length (string_bytes name) ≤ 1129 },
+    pub ghost short: { length (string_bytes name) ≤ LONGEST_NAME },
 }
 
 /// What a list of buckets has so far.

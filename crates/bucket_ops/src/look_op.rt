@@ -2,6 +2,7 @@
 
 ghost use Rattle.std.specs.Prelude.{◌≡◌, ◌≤◌, length, string_bytes};
 ghost use Rattle.slot_history.specs.Names.{bucket_name};
+ghost use Rattle.drive_base.specs.declared.drive.TheConstants.{LONGEST_NAME};
 
 use crate::state::State;
 use drive_base::SetPlan;
@@ -23,5 +24,5 @@ pub struct LookOp {
     /// How far it is.
     pub(crate) state: State,
     pub ghost named: { string_bytes name ≡ bucket_name bucket },
-    pub ghost short: { length (string_bytes name) ≤ 1129 },
+    pub ghost short: { length (string_bytes name) ≤ LONGEST_NAME },
 }

@@ -22,7 +22,7 @@ pub use act::{Act, Brief};
 pub use feed::{Cut, Feed};
 pub use list::Listing;
 pub use names::{Etag, Key, Mode, Pick, RangeAsk, Span, VersionName};
-pub use refusal::{KeyRefusal, ListRead, Refusal};
+pub use refusal::{KeyRefusal, ListFault, Refusal};
 pub use reply::{
     BucketRow, BucketRows, PageCut, PageRow, PageRows, Reply, VersionRow, VersionRows,
 };

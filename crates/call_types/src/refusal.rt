@@ -154,7 +154,7 @@ impl From<KeyRefusal> for Refusal {
 
 /// Why the content of a key's state is not read.
 #[derive(Clone, Copy, Debug, PartialEq, Eq)]
-pub enum ListRead {
+pub enum ListFault {
     /// The content spells no state: the place of its first fault, from 0.
     NotCanonical(u64),
     /// There was not enough memory.

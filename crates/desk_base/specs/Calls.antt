@@ -19,6 +19,22 @@ most_body = 5368709120
 abbrev pub most_document : ℕ
 most_document = 2097152
 
+-- the greatest length of a key, in bytes
+abbrev pub longest_key : ℕ
+longest_key = 1024
+
+-- the greatest length of a content type, in bytes
+abbrev pub longest_kind : ℕ
+longest_kind = 255
+
+-- the most rows of a page of a listing
+abbrev pub most_rows : ℕ
+most_rows = 1000
+
+-- the most parts of an upload, and the greatest number of a part
+abbrev pub most_parts : ℕ
+most_parts = 10000
+
 -- the stated length of the body that a call takes, 0 for a call that takes none
 abbrev pub stated_length : Call → ℕ
 stated_length ListBuckets = 0
@@ -41,7 +57,7 @@ stated_length (Abort at upload) = 0
 pub record IsKey (at : Key) : Type 0 where
   pub bucket : IsBucketName at.bucket
   pub some : 1 ≤ length at.key
-  pub few : length at.key ≤ 1024
+  pub few : length at.key ≤ longest_key
   pub utf8 : IsUtf8 at.key
 
 -- the first place that is asked for isn't above the last one
@@ -60,7 +76,7 @@ IsText (Some text) = IsUtf8 text
 pub record IsListAsk (page : ListAsk) : Type 0 where
   pub prefix : IsUtf8 page.prefix
   pub delimiter : IsUtf8 page.delimiter
-  pub most : page.most ≤ 1000
+  pub most : page.most ≤ most_rows
   pub start_after : IsText page.start_after
   pub token : IsText page.token
 
@@ -68,7 +84,7 @@ pub record IsListAsk (page : ListAsk) : Type 0 where
 pub record IsVersionsAsk (page : VersionsAsk) : Type 0 where
   pub prefix : IsUtf8 page.prefix
   pub delimiter : IsUtf8 page.delimiter
-  pub most : page.most ≤ 1000
+  pub most : page.most ≤ most_rows
   pub key_marker : IsText page.key_marker
   pub with_key : page.key_marker ≡ None → page.id_marker ≡ None
 
@@ -79,14 +95,14 @@ IsLawful (CreateBucket bucket) = IsBucketName bucket
 IsLawful (HeadBucket bucket) = IsBucketName bucket
 IsLawful (GetVersioning bucket) = IsBucketName bucket
 IsLawful (PutVersioning bucket long) = IsBucketName bucket × (long ≤ most_document)
-IsLawful (Put at kind md5 long) = IsKey at × (length kind ≤ 255) × (long ≤ most_body)
+IsLawful (Put at kind md5 long) = IsKey at × (length kind ≤ longest_kind) × (long ≤ most_body)
 IsLawful (Get at pick ask) = IsKey at × IsRange ask
 IsLawful (Head at pick) = IsKey at
 IsLawful (Delete at pick) = IsKey at
 IsLawful (List2 bucket page) = IsBucketName bucket × IsListAsk page
 IsLawful (ListVersions bucket page) = IsBucketName bucket × IsVersionsAsk page
-IsLawful (Create at kind) = IsKey at × (length kind ≤ 255)
-IsLawful (Part at upload number md5 long) = IsKey at × (1 ≤ number) × (number ≤ 10000) × (long ≤ most_body)
+IsLawful (Create at kind) = IsKey at × (length kind ≤ longest_kind)
+IsLawful (Part at upload number md5 long) = IsKey at × (1 ≤ number) × (number ≤ most_parts) × (long ≤ most_body)
 IsLawful (Complete at upload long) = IsKey at × (long ≤ most_document)
 IsLawful (Abort at upload) = IsKey at
 

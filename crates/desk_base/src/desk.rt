@@ -5,6 +5,7 @@ ghost use Rattle.call_types.specs.declared.feed.Cut.{Cut};
 ghost use Rattle.desk_base.specs.Calls.{IsFeedOf, IsLawful};
 ghost use Rattle.desk_base.specs.Answering.{CutCause, Serves, Task};
 ghost use Rattle.desk_base.specs.Telling.{Telling};
+ghost use Rattle.bucket_book.specs.Limits.{moment_limit};
 
 use crate::call::Call;
 use crate::teller::Teller;
@@ -56,7 +57,7 @@ pub trait Desk {
         requires fits { fits self.now (holds pass.old) }
         requires lawful { IsLawful call.now }
         requires feed { IsFeedOf (F.seen feed.old) call.now }
-        requires moment { now < 253402300800 }
+        requires moment { now < moment_limit }
         ensures serves { Serves T.takes T.breaks
             (λ body tale. answers self.now (record { call = call.now; now = now }) pass.old pass.new body tale result)
             call.now result (F.seen feed.old) (F.seen feed.new) teller.old teller.new }

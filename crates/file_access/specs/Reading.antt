@@ -8,8 +8,8 @@ use Rattle.call_types.specs.declared.why.Why.{Why}
 use Rattle.call_types.specs.declared.why.Why.TheVariants.{Good, Failed, Damaged, Behind, Lacks}
 use Rattle.fault_base.specs.Counts.{Rose}
 use Rattle.drive_base.specs.Files.{Files}
-use Rattle.file_access.specs.declared.cause.NotGiven.{NotGiven}
-use Rattle.file_access.specs.declared.cause.NotGiven.TheVariants.{Because, NoMemory}
+use Rattle.file_access.specs.declared.fault.FetchFault.{FetchFault}
+use Rattle.file_access.specs.declared.fault.FetchFault.TheVariants.{Because, NoMemory}
 
 -- the shown file of this name has so many bytes
 abbrev pub HasLength : Files → List ℕ → ℕ → Type 0
@@ -67,6 +67,6 @@ IsWhyNot kind name IsSo (Behind _) tells files old new = ⊥
 IsWhyNot kind name IsSo (Lacks lacked) tells files old new = (lacked ≡ kind) × (new ≡ old) × (IsTrue tells → files.shown name ≡ None)
 
 -- the same, or there was not enough memory, and no count rose
-abbrev pub IsRefusedBy : FileKind → List ℕ → (List ℕ → Damage → Type 0) → NotGiven → Bool → Files → ℕ → ℕ → Type 0
+abbrev pub IsRefusedBy : FileKind → List ℕ → (List ℕ → Damage → Type 0) → FetchFault → Bool → Files → ℕ → ℕ → Type 0
 IsRefusedBy kind name IsSo (Because why) tells files old new = IsWhyNot kind name IsSo why tells files old new
 IsRefusedBy kind name IsSo NoMemory tells files old new = new ≡ old

@@ -13,12 +13,12 @@
 //! The crate stands on `drive_base` for drives and on `call_types` for causes.
 #![tactic(auto)]
 
-mod cause;
+mod fault;
 mod reading;
 mod steps;
 mod writing;
 
-pub use cause::NotGiven;
+pub use fault::FetchFault;
 pub use reading::{bytes_at, file_on, piece_into, piece_on, size_on};
 pub use steps::{append_on, discard_on, place, remove_on, sync_on};
 pub use writing::{write_file, write_loose};

@@ -3,7 +3,7 @@
 ghost use Rattle.std.specs.Prelude.{◌≡◌, ◌≤◌, IsTrue, IfOk, IfErr, OnOk, length};
 ghost use Rattle.file_access.specs.Reading.{HasLength, IsPieceAt, IsCutShort, IsRefusedBy, IsTooLong, IsWhole, IsWhyNot, NeverDamaged, EndsBefore};
 
-use crate::cause::NotGiven;
+use crate::fault::FetchFault;
 use call_types::{FileKind, Why};
 use drive_base::{Drive, DriveFault};
 use seal_file::Damage;
@@ -73,7 +73,7 @@ pub fn piece_on<D: Drive>(
     name: &str,
     at: u64,
     long: u64,
-) -> Result<Vec<u8>, NotGiven>
+) -> Result<Vec<u8>, FetchFault>
     ensures long { IfOk result (λ bytes. length bytes.items ≡ long) }
     ensures piece { IfOk result (λ bytes. IsTrue (D.tells drive.old) → IsPieceAt (D.files drive.old) name.now at bytes.items) }
     ensures calm { OnOk result (D.count drive.new ≡ D.count drive.old) }
@@ -83,11 +83,11 @@ pub fn piece_on<D: Drive>(
     ensures count { D.count drive.old ≤ D.count drive.new }
 {
     let Ok(mut bytes) = vec![in alloc; 0; long as usize] else {
-        return Err(NotGiven::NoMemory);
+        return Err(FetchFault::NoMemory);
     };
     match piece_into(drive, kind, name, at, bytes.as_mut_slice()) {
         Ok(()) => Ok(bytes),
-        Err(why) => Err(NotGiven::Because(why)),
+        Err(why) => Err(FetchFault::Because(why)),
     }
 }
 
@@ -99,7 +99,7 @@ pub fn file_on<D: Drive>(
     kind: FileKind,
     name: &str,
     most: u64,
-) -> Result<Vec<u8>, NotGiven>
+) -> Result<Vec<u8>, FetchFault>
     ensures file { IfOk result (λ bytes. IsTrue (D.tells drive.old) → IsWhole (D.files drive.old) name.now bytes.items) }
     ensures most { IfOk result (λ bytes. length bytes.items ≤ most) }
     ensures calm { OnOk result (D.count drive.new ≡ D.count drive.old) }
@@ -110,7 +110,7 @@ pub fn file_on<D: Drive>(
 {
     let size = size_on(drive, kind, name)?;
     if size > most {
-        return Err(NotGiven::Because(Why::Damaged(Damage::Long(size))));
+        return Err(FetchFault::Because(Why::Damaged(Damage::Long(size))));
     }
     piece_on(alloc, drive, kind, name, 0, size)
 }
@@ -124,7 +124,7 @@ pub fn bytes_at<D: Drive>(
     name: &str,
     at: u64,
     long: u64,
-) -> Result<Vec<u8>, NotGiven>
+) -> Result<Vec<u8>, FetchFault>
     ensures long { IfOk result (λ bytes. length bytes.items ≡ long) }
     ensures piece { IfOk result (λ bytes. IsTrue (D.tells drive.old) → IsPieceAt (D.files drive.old) name.now at bytes.items) }
     ensures calm { OnOk result (D.count drive.new ≡ D.count drive.old) }
@@ -135,7 +135,7 @@ pub fn bytes_at<D: Drive>(
 {
     let size = size_on(drive, kind, name)?;
     if size < at || size - at < long {
-        return Err(NotGiven::Because(Why::Damaged(Damage::Short(size))));
+        return Err(FetchFault::Because(Why::Damaged(Damage::Short(size))));
     }
     piece_on(alloc, drive, kind, name, at, long)
 }

@@ -38,7 +38,7 @@ fn a_written_file_is_read_whole_and_in_pieces(rt: HostRuntime) -> Result<(), Fai
 fn what_is_not_there_is_lacking(rt: HostRuntime) -> Result<(), Fail> {
     let alloc = rt.alloc();
     let mut drive = MemDrive::new(alloc);
-    let lacks = Some(NotGiven::Because(Why::Lacks(FileKind::Manifest)));
+    let lacks = Some(FetchFault::Because(Why::Lacks(FileKind::Manifest)));
     assert_eq!(rt;
         size_on(&mut drive, FileKind::Manifest, "m/1").err(),
         Some(Why::Lacks(FileKind::Manifest))
@@ -69,7 +69,7 @@ fn a_file_that_ends_too_early_is_short(rt: HostRuntime) -> Result<(), Fail> {
     let mut drive = MemDrive::new(alloc);
     let why = write_file(&mut drive, FileKind::Shard, "w1", "s/1", b"abc");
     assert_eq!(rt; why, Why::Good);
-    let short = Some(NotGiven::Because(Why::Damaged(Damage::Short(3))));
+    let short = Some(FetchFault::Because(Why::Damaged(Damage::Short(3))));
     assert_eq!(rt;
         bytes_at(alloc, &mut drive, FileKind::Shard, "s/1", 1, 3).err(),
         short
@@ -85,7 +85,7 @@ fn a_file_that_ends_too_early_is_short(rt: HostRuntime) -> Result<(), Fail> {
     // A reading that begins past the end ends where it begins.
     assert_eq!(rt;
         piece_on(alloc, &mut drive, FileKind::Shard, "s/1", 10, 1).err(),
-        Some(NotGiven::Because(Why::Damaged(Damage::Short(10))))
+        Some(FetchFault::Because(Why::Damaged(Damage::Short(10))))
     );
     Ok(())
 }
@@ -98,7 +98,7 @@ fn a_file_past_the_greatest_length_is_not_read(rt: HostRuntime) -> Result<(), Fa
     assert_eq!(rt; why, Why::Good);
     assert_eq!(rt;
         file_on(alloc, &mut drive, FileKind::Manifest, "m/1", 2).err(),
-        Some(NotGiven::Because(Why::Damaged(Damage::Long(3))))
+        Some(FetchFault::Because(Why::Damaged(Damage::Long(3))))
     );
     assert!(rt; file_on(alloc, &mut drive, FileKind::Manifest, "m/1", 3).is_ok());
     Ok(())
@@ -149,7 +149,7 @@ fn each_failed_call_is_named_with_its_counts(rt: HostRuntime) -> Result<(), Fail
     );
     assert_eq!(rt;
         file_on(alloc, &mut drive, FileKind::Register, "k", 100).err(),
-        Some(NotGiven::Because(failed(1)))
+        Some(FetchFault::Because(failed(1)))
     );
     assert_eq!(rt;
         write_file(&mut drive, FileKind::Register, "w2", "k", b"b"),

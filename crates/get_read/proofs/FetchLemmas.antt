@@ -33,8 +33,8 @@ use Rattle.get_read.specs.Passing.{PassesDrive, PassesOver}
 use Rattle.get_read.specs.Readers.{AreTablesOf, IsStripe, IsStripeOf, Told, all_calls}
 use Rattle.get_read.specs.Refusing.{FewGiveIn}
 use Rattle.get_read.specs.Sifting.{AreAtHand, AreSifted, IsRow, block_at, row_at, stored_at}
-use Rattle.get_read.specs.declared.faults.ReadFaultKind.{ReadFaultKind}
-use Rattle.get_read.specs.declared.faults.ReadFaultKind.TheVariants.{InvalidRange, ShardQuorum, NoMemory}
+use Rattle.get_read.specs.declared.faults.BodyFault.{BodyFault}
+use Rattle.get_read.specs.declared.faults.BodyFault.TheVariants.{InvalidRange, ShardQuorum, NoMemory}
 use Rattle.get_read.specs.declared.state.StripeWork.{StripeWork}
 use Rattle.get_read.proofs.AccountLemmas.{block_on, gave_late, no_block_on, stands_last, table_on}
 use Rattle.get_read.proofs.PieceLemmas.{piece_added, piece_stays}
@@ -320,7 +320,7 @@ block_now d part i root calls since k table stored block is_table size bytes is_
 
 -- what is made of the blocks that are at hand
 module _ {Z : Type 0} (set : SetPlan) (part : ManifestPart) where
-  pub judged_so : (long : ℕ) (told : Told) (result : Result (Option (Vec ℕ Z)) ReadFaultKind) (old new : StripeWork)
+  pub judged_so : (long : ℕ) (told : Told) (result : Result (Option (Vec ℕ Z)) BodyFault) (old new : StripeWork)
       → long ≡ stripe_length part.length old.stripe → old.stripe < stripe_count part.length
       → old.size ≡ block_size (data_drives set.drives set.parity) (stripe_length part.length old.stripe)
       → AreAtHand old.size old.found old.whys → length old.whys ≡ set.drives

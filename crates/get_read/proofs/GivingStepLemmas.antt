@@ -15,8 +15,8 @@ use Rattle.get_read.specs.Given.{AreOfSpanIn, IsFoundIn}
 use Rattle.get_read.specs.Held.{all_bytes}
 use Rattle.get_read.specs.Readers.{AreCalls, AreOfState, AreTablesOf, IsRefusedIn, IsStateOf, StepsFrom, Told, all_calls, set_of, told_after, wants}
 use Rattle.get_read.specs.Turning.{GivesPiece, wanted_of_stripe}
-use Rattle.get_read.specs.declared.faults.ReadFaultKind.{ReadFaultKind}
-use Rattle.get_read.specs.declared.faults.ReadFaultKind.TheVariants.{InvalidRange, ShardQuorum, NoMemory}
+use Rattle.get_read.specs.declared.faults.BodyFault.{BodyFault}
+use Rattle.get_read.specs.declared.faults.BodyFault.TheVariants.{InvalidRange, ShardQuorum, NoMemory}
 use Rattle.get_read.specs.declared.reader.ReadStep.{ReadStep}
 use Rattle.get_read.specs.declared.reader.ReadStep.TheVariants.{More, Piece, Done}
 use Rattle.get_read.specs.declared.state.Asked.{Asked}
@@ -72,7 +72,7 @@ piece_within : (next : FetchingRecord) (stripe : List ℕ) → length (wanted_of
 piece_within next stripe = omega (arith, length-take (next.asked.wanted.reach - next.at) (drop (next.at - next.part.begin - next.work.stripe * stripe_size) stripe))
 
 -- why a stripe is refused
-fetch_cause : (fault : ReadFaultKind) (asked : Asked) (next : FetchingRecord) (told : Told) (given : ℕ) → next.asked ≡ asked → AtPlace next
+fetch_cause : (fault : BodyFault) (asked : Asked) (next : FetchingRecord) (told : Told) (given : ℕ) → next.asked ≡ asked → AtPlace next
     → next.at ≡ asked.span.at + given → FetchAnswers {Z = Global} (Err fault) next told → IsRefusedIn asked fault told given
 fetch_cause (InvalidRange n) asked next told given same place at answers = answers.stripe
 fetch_cause NoMemory asked next told given same place at answers = tt
@@ -121,7 +121,7 @@ module _ {D : Type 0} (ghosts : Ghosts D) where
       }
 
   -- it is refused
-  pub fetch_refused : (asked : Asked) (fetching next : FetchingRecord) (piece : List ℕ) (fault : ReadFaultKind) (before after : List D) → fetching.asked ≡ asked
+  pub fetch_refused : (asked : Asked) (fetching next : FetchingRecord) (piece : List ℕ) (fault : BodyFault) (before after : List D) → fetching.asked ≡ asked
       → AtPlace next → FetchSteps {Z = Global} ghosts fetching next (Err fault) before after
       → StepsFrom ghosts asked (Fetching fetching) (Refused fault) piece (Err fault) before after
   fetch_refused asked fetching next piece fault before after same place steps =
@@ -163,7 +163,7 @@ module _ {D : Type 0} (ghosts : Ghosts D) where
       piece_is (subst (IsRunBy (set_of a) part.part next.work.stripe answers.stripe.0 stripe.items) whole answers.stripe.2) exact)
 
   -- a piece of a stripe is given
-  pub fetch_given : (asked : Asked) (fetching next : FetchingRecord) (stripe : Vec ℕ Global) (new : State) (piece : List ℕ) (result : Result ReadStep ReadFaultKind)
+  pub fetch_given : (asked : Asked) (fetching next : FetchingRecord) (stripe : Vec ℕ Global) (new : State) (piece : List ℕ) (result : Result ReadStep BodyFault)
       (before after : List D) → fetching.asked ≡ asked → AtPlace next → FetchSteps {Z = Global} ghosts fetching next (Ok (Some stripe)) before after
       → GivesPiece (Refused NoMemory) new piece next stripe.items result → StepsFrom ghosts asked (Fetching fetching) new piece result before after
   fetch_given asked fetching next stripe new piece (Ok More) before after same place steps gives = absurd gives
@@ -171,7 +171,7 @@ module _ {D : Type 0} (ghosts : Ghosts D) where
   fetch_given asked fetching next stripe new piece (Err fault) before after same place steps gives =
       let are : AreCalls ghosts (set_of asked).out steps.calls before after = subst (λ (a : Asked). AreCalls ghosts (set_of a).out steps.calls before after) same steps.are in
       subst (λ (s : State). StepsFrom ghosts asked (Fetching fetching) s piece (Err fault) before after) (sym gives.1)
-      (subst (λ (f : ReadFaultKind). StepsFrom ghosts asked (Fetching fetching) (Refused NoMemory) piece (Err f) before after) (sym gives.0) (record {
+      (subst (λ (f : BodyFault). StepsFrom ghosts asked (Fetching fetching) (Refused NoMemory) piece (Err f) before after) (sym gives.0) (record {
         calls = steps.calls;
         are = are;
         made = omega (arith, steps.made);

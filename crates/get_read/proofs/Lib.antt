@@ -18,4 +18,5 @@ pub mod SpanByLemmas
 pub mod StepLemmas
 pub mod StripeByLemmas
 pub mod WindowLemmas
+pub mod WindowRunLemmas
 pub mod WindowStepLemmas

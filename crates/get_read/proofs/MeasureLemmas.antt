@@ -16,8 +16,8 @@ use Rattle.get_read.specs.Measure.{Falls, FallsOn, ahead_left, alone_left, one_h
 use Rattle.get_read.specs.Readers.{set_of}
 use Rattle.get_read.specs.Turning.{BeginsSpan, GivesPiece}
 use Rattle.get_read.specs.Windows.{RunTakes}
-use Rattle.get_read.specs.declared.faults.ReadFaultKind.{ReadFaultKind}
-use Rattle.get_read.specs.declared.faults.ReadFaultKind.TheVariants.{NoMemory}
+use Rattle.get_read.specs.declared.faults.BodyFault.{BodyFault}
+use Rattle.get_read.specs.declared.faults.BodyFault.TheVariants.{NoMemory}
 use Rattle.get_read.specs.declared.reader.ReadStep.{ReadStep}
 use Rattle.get_read.specs.declared.reader.ReadStep.TheVariants.{More, Piece, Done}
 use Rattle.get_read.specs.declared.state.Asked.{Asked}
@@ -49,14 +49,14 @@ fewer_times a b c low =
     omega (arith, less, is)
 
 -- a drive more is tried
-pub tried_more : {T : Type 0} (result : Result (Option T) ReadFaultKind) (n old new saved saved_then : ℕ) → old < new → old < n → saved ≤ 1
+pub tried_more : {T : Type 0} (result : Result (Option T) BodyFault) (n old new saved saved_then : ℕ) → old < new → old < n → saved ≤ 1
     → FallsOn result (2 * (n - old) - saved) (2 * (n - new) - saved_then)
 tried_more (Ok None) n old new saved saved_then more low most = omega (arith, more, low, most)
 tried_more (Ok (Some found)) n old new saved saved_then more low most = tt
 tried_more (Err fault) n old new saved saved_then more low most = tt
 
 -- where all drives are tried, no stripe goes on
-pub over_falls : {Z : Type 0} (set : SetPlan) (long : ℕ) (result : Result (Option (Vec ℕ Z)) ReadFaultKind) (old new : StripeWork) (left left_then : ℕ)
+pub over_falls : {Z : Type 0} (set : SetPlan) (long : ℕ) (result : Result (Option (Vec ℕ Z)) BodyFault) (old new : StripeWork) (left left_then : ℕ)
     → JudgesStripe set long result old new → new.tried ≡ old.tried → old.tried ≡ set.drives → FallsOn result left left_then
 over_falls set long (Ok None) old new left left_then judges same all = absurd (omega (arith, judges.2, same, all))
 over_falls set long (Ok (Some stripe)) old new left left_then judges same all = tt
@@ -67,7 +67,7 @@ pub saved_now : (n tried saved saved_then : ℕ) → tried < n → saved ≡ 0 �
 saved_now n tried saved saved_then low none one = omega (arith, low, none, one)
 
 -- a drive was passed over in a search
-pub search_past : {T : Type 0} (result : Result (Option T) ReadFaultKind) (old new : Search) → new.asked ≡ old.asked → old.tried < new.tried
+pub search_past : {T : Type 0} (result : Result (Option T) BodyFault) (old new : Search) → new.asked ≡ old.asked → old.tried < new.tried
     → old.tried < (set_of old.asked).drives → FallsOn result (search_left old) (search_left new)
 search_past result old new asked more low =
     rw asked (tried_more result (set_of old.asked).drives old.tried new.tried (one_told old.size) (one_told new.size) more low (told_most old.size))
@@ -119,7 +119,7 @@ begins_below fetching missing low =
     )
 
 -- the span begins
-pub begun_falls : (asked : Asked) (search : Search) (m : Manifest) (new : State) (result : Result ReadStep ReadFaultKind) → search.asked ≡ asked
+pub begun_falls : (asked : Asked) (search : Search) (m : Manifest) (new : State) (result : Result ReadStep BodyFault) → search.asked ≡ asked
     → BeginsSpan asked (Refused NoMemory) new m result → Falls result (state_left (Searching search)) (state_left new)
 begun_falls asked search m new (Ok Piece) same begins = absurd begins
 begun_falls asked search m new (Ok Done) same begins = ap state_left begins.1
@@ -135,7 +135,7 @@ begun_falls asked search m new (Ok More) same begins =
     omega (arith, below, steps, is)
 
 -- a piece is given
-pub given_falls : (old next : FetchingRecord) (stripe piece : List ℕ) (new : State) (result : Result ReadStep ReadFaultKind)
+pub given_falls : (old next : FetchingRecord) (stripe piece : List ℕ) (new : State) (result : Result ReadStep BodyFault)
     → next.asked ≡ old.asked → next.at ≡ old.at → old.at < old.asked.wanted.reach
     → GivesPiece (Refused NoMemory) new piece next stripe result → Falls result (state_left (Fetching old)) (state_left new)
 given_falls old next stripe piece new (Ok More) asked at low gives = absurd gives
@@ -175,7 +175,7 @@ held_later tables k j table low some =
     ]
 
 -- or gave its blocks
-pub took_falls : (Z : Type 0) (set : SetPlan) (tables : List (List ℕ)) (w : Window) (run digests : List ℕ) (result : Result (Option (Vec ℕ Z)) ReadFaultKind) (ahead : Option Window)
+pub took_falls : (Z : Type 0) (set : SetPlan) (tables : List (List ℕ)) (w : Window) (run digests : List ℕ) (result : Result (Option (Vec ℕ Z)) BodyFault) (ahead : Option Window)
     (alone : ℕ) → w.tried < set.drives → RunTakes set w run digests result ahead → FallsOn result (run_left set tables w + alone) (ahead_left set tables ahead + alone)
 took_falls Z set tables w run digests (Ok None) None alone low takes = omega (arith, low, held_most (slice_index_or tables w.tried []))
 took_falls Z set tables w run digests (Ok None) (Some new) alone low takes = omega (arith, low, takes.past, held_most (slice_index_or tables w.tried []))
@@ -194,7 +194,7 @@ bare_left old none =
     ap (λ (a : Option Window). ahead_left (set_of old.asked) (all_bytes old.part.tables.items) a) none in
     omega (arith, is)
 
-pub falls_as : {T : Type 0} (result : Result (Option T) ReadFaultKind) (a b c d : ℕ) → a ≡ c → b ≡ d → FallsOn result a b → FallsOn result c d
+pub falls_as : {T : Type 0} (result : Result (Option T) BodyFault) (a b c d : ℕ) → a ≡ c → b ≡ d → FallsOn result a b → FallsOn result c d
 falls_as result a b c d one other falls = subst (λ (x : ℕ). FallsOn result x d) one (subst (λ (y : ℕ). FallsOn result a y) other falls)
 
 -- a table more is held
@@ -208,7 +208,7 @@ less_as a b c d low same = omega (arith, low, same)
 pub no_window : (set : SetPlan) (tables : List (List ℕ)) (ahead : Option Window) → ahead ≡ None → ahead_left set tables ahead ≡ 0
 no_window set tables ahead none = ap (λ (a : Option Window). ahead_left set tables a) none
 
-pub falls_plus : {T : Type 0} (result : Result (Option T) ReadFaultKind) (p a q c : ℕ) → p ≡ 0 → q ≡ 0 → FallsOn result a c → FallsOn result (p + a) (q + c)
+pub falls_plus : {T : Type 0} (result : Result (Option T) BodyFault) (p a q c : ℕ) → p ≡ 0 → q ≡ 0 → FallsOn result a c → FallsOn result (p + a) (q + c)
 falls_plus (Ok None) p a q c none other falls = omega (arith, none, other, falls)
 falls_plus (Ok (Some found)) p a q c none other falls = tt
 falls_plus (Err fault) p a q c none other falls = tt

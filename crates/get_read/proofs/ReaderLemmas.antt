@@ -21,8 +21,8 @@ use Rattle.get_read.specs.Refusing.{NoneServesIn}
 use Rattle.get_read.specs.States.{manifest_in}
 use Rattle.get_read.specs.Turning.{BeginsAt, BeginsSpan, HasNoRuns}
 use Rattle.get_read.specs.Windows.{AreAhead}
-use Rattle.get_read.specs.declared.faults.ReadFaultKind.{ReadFaultKind}
-use Rattle.get_read.specs.declared.faults.ReadFaultKind.TheVariants.{InvalidRange, ShardQuorum, NoMemory}
+use Rattle.get_read.specs.declared.faults.BodyFault.{BodyFault}
+use Rattle.get_read.specs.declared.faults.BodyFault.TheVariants.{InvalidRange, ShardQuorum, NoMemory}
 use Rattle.get_read.specs.declared.manifests.Wanted.{Wanted}
 use Rattle.get_read.specs.declared.reader.Reader.{Reader}
 use Rattle.get_read.specs.declared.reader.ReadStep.{ReadStep}
@@ -72,7 +72,7 @@ all_told false told calls = no_turn told calls
 all_told true told calls = one_turn told calls
 
 -- why a search is refused
-search_cause : (fault : ReadFaultKind) (asked : Asked) (next : Search) (told : Told) (given : ℕ) → next.asked ≡ asked → given ≡ 0
+search_cause : (fault : BodyFault) (asked : Asked) (next : Search) (told : Told) (given : ℕ) → next.asked ≡ asked → given ≡ 0
     → SearchAnswers (Err fault) next (all_calls told) → IsRefusedIn asked fault told given
 search_cause (InvalidRange n) asked next told given same none answers = answers
 search_cause (ShardQuorum whys) asked next told given same none answers =
@@ -109,7 +109,7 @@ module _ {D : Type 0} (ghosts : Ghosts D) where
       }
 
   -- it is refused
-  pub search_refused : (asked : Asked) (search next : Search) (piece : List ℕ) (fault : ReadFaultKind) (before after : List D) → search.asked ≡ asked
+  pub search_refused : (asked : Asked) (search next : Search) (piece : List ℕ) (fault : BodyFault) (before after : List D) → search.asked ≡ asked
       → SearchSteps ghosts search next (Err fault) before after → StepsFrom ghosts asked (Searching search) (Refused fault) piece (Err fault) before after
   search_refused asked search next piece fault before after same steps =
       let are : AreCalls ghosts (set_of asked).out steps.calls before after = subst (λ (a : Asked). AreCalls ghosts (set_of a).out steps.calls before after) same steps.are in
@@ -170,7 +170,7 @@ told_same told = ap (λ (s : Account). record { before = told.before; since = s 
 
 module _ {D : Type 0} (ghosts : Ghosts D) where
   -- the manifest is found, and the span begins
-  pub search_begun : (asked : Asked) (search next : Search) (m : Manifest) (new : State) (piece : List ℕ) (result : Result ReadStep ReadFaultKind) (before after : List D)
+  pub search_begun : (asked : Asked) (search next : Search) (m : Manifest) (new : State) (piece : List ℕ) (result : Result ReadStep BodyFault) (before after : List D)
       → search.asked ≡ asked → SearchSteps ghosts search next (Ok (Some m)) before after → BeginsSpan asked (Refused NoMemory) new m result
       → StepsFrom ghosts asked (Searching search) new piece result before after
   search_begun asked search next m new piece (Ok Piece) before after same steps begins = absurd begins
@@ -214,7 +214,7 @@ module _ {D : Type 0} (ghosts : Ghosts D) where
   search_begun asked search next m new piece (Err fault) before after same steps begins =
       let are : AreCalls ghosts (set_of asked).out steps.calls before after = subst (λ (a : Asked). AreCalls ghosts (set_of a).out steps.calls before after) same steps.are in
       subst (λ (s : State). StepsFrom ghosts asked (Searching search) s piece (Err fault) before after) (sym begins.1)
-      (subst (λ (f : ReadFaultKind). StepsFrom ghosts asked (Searching search) (Refused NoMemory) piece (Err f) before after) (sym begins.0) (record {
+      (subst (λ (f : BodyFault). StepsFrom ghosts asked (Searching search) (Refused NoMemory) piece (Err f) before after) (sym begins.0) (record {
         calls = steps.calls;
         are = are;
         made = omega (arith, steps.made);
@@ -236,7 +236,7 @@ module _ {D : Type 0} (ghosts : Ghosts D) where
     );
   }
 
-  pub refused_stays : (asked : Asked) (fault : ReadFaultKind) (piece : List ℕ) (drives : List D)
+  pub refused_stays : (asked : Asked) (fault : BodyFault) (piece : List ℕ) (drives : List D)
       → StepsFrom ghosts asked (Refused fault) (Refused fault) piece (Err fault) drives drives
   refused_stays asked fault piece drives = record {
     calls = [];

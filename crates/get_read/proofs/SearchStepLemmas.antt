@@ -9,8 +9,8 @@ use Rattle.call_types.specs.declared.why.Why.TheVariants.{Good, Failed, Damaged,
 use Rattle.seal_file.specs.declared.damage.Damage.TheVariants.{Long}
 use Rattle.drive_base.specs.View.{DriveView, view}
 use Rattle.drive_base.specs.declared.drive.Drive.{Ghosts}
-use Rattle.file_access.specs.declared.cause.NotGiven.{NotGiven}
-use Rattle.file_access.specs.declared.cause.NotGiven.TheVariants.{Because, NoMemory as NoRoom}
+use Rattle.file_access.specs.declared.fault.FetchFault.{FetchFault}
+use Rattle.file_access.specs.declared.fault.FetchFault.TheVariants.{Because, NoMemory as NoRoom}
 use Rattle.manifest_file.specs.declared.manifest.TheConstants.{LONGEST_FILE}
 use Rattle.manifest_file.specs.declared.manifest.Manifest.{Manifest}
 use Rattle.manifest_file.specs.Spelling.{file_of}
@@ -23,7 +23,7 @@ use Rattle.get_read.specs.Manifests.{IsDamagedSo, IsServed}
 use Rattle.get_read.specs.Passing.{PassesDrive}
 use Rattle.get_read.specs.Readers.{AreCalls, IsSearchOf, set_of, wants}
 use Rattle.get_read.specs.Refusing.{NoneServesIn}
-use Rattle.get_read.specs.declared.faults.ReadFaultKind.TheVariants.{ShardQuorum, NoMemory}
+use Rattle.get_read.specs.declared.faults.BodyFault.TheVariants.{ShardQuorum, NoMemory}
 use Rattle.get_read.specs.declared.state.Looked.{Looked}
 use Rattle.get_read.specs.declared.state.Looked.TheVariants.{Size, File}
 use Rattle.get_read.specs.declared.state.Search.{Search}
@@ -46,7 +46,7 @@ look_long old name n was now same more seen =
     (refl, (Sized (manifest_name old.asked.id) n, seen_so, inr (inl (n, refl, more, refl))))
 
 -- it has no manifest that serves
-pub look_unserved : (old : Search) (name file : List ℕ) (fault : NotGiven) (was now : DriveView) → name ≡ manifest_name old.asked.id → old.size ≡ Some (length file)
+pub look_unserved : (old : Search) (name file : List ℕ) (fault : FetchFault) (was now : DriveView) → name ≡ manifest_name old.asked.id → old.size ≡ Some (length file)
     → WasSeen (Showed name 0 file) was now → IsServed (wants old.asked) file (Err fault) → LookCall old (Err fault) was now
 look_unserved old name file NoRoom was now same long seen served = tt
 look_unserved old name file (Because why) was now same long seen served =
@@ -64,7 +64,7 @@ look_served old name file m was now same long seen served = (
 )
 
 -- one call was made before the memory was short
-pub look_without : {D : Type 0} (ghosts : Ghosts D) (file name : List ℕ) (fault : NotGiven) (was now : D) → WasSeen (Showed name 0 file) (view ghosts was) (view ghosts now)
+pub look_without : {D : Type 0} (ghosts : Ghosts D) (file name : List ℕ) (fault : FetchFault) (was now : D) → WasSeen (Showed name 0 file) (view ghosts was) (view ghosts now)
     → IdleOrCalled {T = Looked} ghosts (Err fault) was now
 look_without ghosts file name NoRoom was now seen = inr (Showed name 0 file, seen)
 look_without ghosts file name (Because why) was now seen = tt

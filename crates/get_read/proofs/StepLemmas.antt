@@ -8,7 +8,7 @@ use Rattle.call_types.specs.declared.why.Why.TheVariants.{Good}
 use Rattle.drive_base.specs.Plan.{data_drives}
 use Rattle.drive_base.specs.View.{view}
 use Rattle.drive_base.specs.declared.drive.Drive.{Ghosts}
-use Rattle.file_access.specs.declared.cause.NotGiven.TheVariants.{Because}
+use Rattle.file_access.specs.declared.fault.FetchFault.TheVariants.{Because}
 use Rattle.manifest_file.specs.declared.manifest.Manifest.{Manifest}
 use Rattle.manifest_file.specs.declared.manifest.ManifestPart.{ManifestPart}
 use Rattle.shard_file.proofs.StripeLemmas.{stripes_reach}
@@ -23,8 +23,8 @@ use Rattle.get_read.specs.Letters.{IsBlockIn, IsTableIn}
 use Rattle.get_read.specs.Passing.{PassesDrive}
 use Rattle.get_read.specs.Held.{all_bytes}
 use Rattle.get_read.specs.Readers.{AreTablesOf, IsFetchOf, IsStripe, IsStripeOf, Told, all_calls, set_of, told_after, wants}
-use Rattle.get_read.specs.declared.faults.ReadFaultKind.{ReadFaultKind}
-use Rattle.get_read.specs.declared.faults.ReadFaultKind.TheVariants.{NoMemory}
+use Rattle.get_read.specs.declared.faults.BodyFault.{BodyFault}
+use Rattle.get_read.specs.declared.faults.BodyFault.TheVariants.{NoMemory}
 use Rattle.get_read.specs.declared.state.Asked.{Asked}
 use Rattle.get_read.specs.declared.state.Fetching.{Fetching as FetchingRecord}
 use Rattle.get_read.specs.declared.state.Found.TheVariants.{Table, Block}
@@ -49,7 +49,7 @@ any_part (x ∷ parts) k low = x
 
 module _ (old new : FetchingRecord) where
   -- what a stripe answers, by what it answers of its part
-  fetch_answers : (result : Result (Option (Vec ℕ Global)) ReadFaultKind) (told : Told) (calls : Account) (part : ManifestPart)
+  fetch_answers : (result : Result (Option (Vec ℕ Global)) BodyFault) (told : Told) (calls : Account) (part : ManifestPart)
       → ((d : ManifestPart) → slice_index_or new.manifest.parts new.part.place d ≡ part)
       → IsFoundIn (wants new.asked) new.asked.id new.manifest told.before
       → AreTablesOf (data_of new) part (all_bytes new.part.tables.items) (all_calls told ++ calls)
@@ -118,7 +118,7 @@ module _ {D : Type 0} (ghosts : Ghosts D) (old new : FetchingRecord) where
     pub ahead : new.ahead ≡ None
 
   -- a stripe is judged, with calls before
-  fetch_judged : (mid : StripeWork) (result : Result (Option (Vec ℕ Global)) ReadFaultKind) (told : Told) (more : Account) → StaysFor
+  fetch_judged : (mid : StripeWork) (result : Result (Option (Vec ℕ Global)) BodyFault) (told : Told) (more : Account) → StaysFor
       → mid.stripe ≡ old.work.stripe → mid.size ≡ old.work.size → length mid.whys ≡ (set_of old.asked).drives
       → (so : IsFetchOf old told)
       → IsStripeOf (set_of old.asked) so.is_part.part mid (all_calls told ++ more) (told.since ++ more)
@@ -150,12 +150,12 @@ module _ {D : Type 0} (ghosts : Ghosts D) (old new : FetchingRecord) where
       stays.ahead
 
   -- one call was made where a stripe is judged with a drive that was called
-  made_one : (result : Result (Option (Vec ℕ Global)) ReadFaultKind) (call : Call) → MakesOne result (call ∷ [])
+  made_one : (result : Result (Option (Vec ℕ Global)) BodyFault) (call : Call) → MakesOne result (call ∷ [])
   made_one (Ok found) call = refl
   made_one (Err fault) call = omega arith
 
   -- no drive is left, and the stripe is judged without a call
-  pub fetch_over : (result : Result (Option (Vec ℕ Global)) ReadFaultKind) (drives : List D) → old.work.tried ≡ (set_of old.asked).drives → StaysFor
+  pub fetch_over : (result : Result (Option (Vec ℕ Global)) BodyFault) (drives : List D) → old.work.tried ≡ (set_of old.asked).drives → StaysFor
       → JudgesStripe (set_of old.asked) (stripe_length old.part.long old.work.stripe) result old.work new.work
       → new.work.tried ≡ old.work.tried → new.work.stripe ≡ old.work.stripe → new.work.size ≡ old.work.size
       → FetchSteps {Z = Global} ghosts old new result drives drives
@@ -173,7 +173,7 @@ module _ {D : Type 0} (ghosts : Ghosts D) (old new : FetchingRecord) where
   }
 
   -- the next drive is left, and the stripe is judged
-  pub fetch_passed : (why : Why) (mid : StripeWork) (result : Result (Option (Vec ℕ Global)) ReadFaultKind) (drives : List D) (was now : D)
+  pub fetch_passed : (why : Why) (mid : StripeWork) (result : Result (Option (Vec ℕ Global)) BodyFault) (drives : List D) (was now : D)
       → old.work.tried < length drives → slice_index_or drives old.work.tried was ≡ was → old.work.tried < (set_of old.asked).drives → StaysFor
       → FetchCall old (Err (Because why)) (view ghosts was) (view ghosts now)
       → PassesDrive (set_of old.asked) why old.work.tried mid.tried old.work.whys mid.whys → mid.found ≡ old.work.found
@@ -205,7 +205,7 @@ module _ {D : Type 0} (ghosts : Ghosts D) (old new : FetchingRecord) where
       }
 
   -- its block is at hand, and the stripe is judged
-  pub fetch_added : (fetched : Fetched) (mid : StripeWork) (result : Result (Option (Vec ℕ Global)) ReadFaultKind) (drives : List D) (was now : D)
+  pub fetch_added : (fetched : Fetched) (mid : StripeWork) (result : Result (Option (Vec ℕ Global)) BodyFault) (drives : List D) (was now : D)
       → old.work.tried < length drives → slice_index_or drives old.work.tried was ≡ was → old.work.tried < (set_of old.asked).drives → StaysFor
       → FetchCall old (Ok (Block fetched)) (view ghosts was) (view ghosts now)
       → PassesDrive (set_of old.asked) Good old.work.tried mid.tried old.work.whys mid.whys

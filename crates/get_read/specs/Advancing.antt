@@ -7,8 +7,8 @@ use Rattle.drive_base.specs.Plan.{data_drives}
 use Rattle.drive_base.specs.View.{DriveView}
 use Rattle.drive_base.specs.declared.drive.Drive.{Ghosts}
 use Rattle.drive_base.specs.declared.plan.SetPlan.{SetPlan}
-use Rattle.file_access.specs.declared.cause.NotGiven.{NotGiven}
-use Rattle.file_access.specs.declared.cause.NotGiven.TheVariants.{Because, NoMemory}
+use Rattle.file_access.specs.declared.fault.FetchFault.{FetchFault}
+use Rattle.file_access.specs.declared.fault.FetchFault.TheVariants.{Because, NoMemory}
 use Rattle.manifest_file.specs.Canonical.{IsCanonical}
 use Rattle.manifest_file.specs.Spelling.{file_of}
 use Rattle.manifest_file.specs.declared.manifest.TheConstants.{LONGEST_FILE}
@@ -28,8 +28,8 @@ use Rattle.get_read.specs.Held.{all_bytes}
 use Rattle.get_read.specs.Readers.{AreCalls, IsFetchOf, IsPartOf, IsSearchOf, IsStripeOf, Told, all_calls, set_of, told_after, wants}
 use Rattle.get_read.specs.Refusing.{FewGiveIn, NoneServesIn}
 use Rattle.get_read.specs.Windows.{AreAhead}
-use Rattle.get_read.specs.declared.faults.ReadFaultKind.{ReadFaultKind}
-use Rattle.get_read.specs.declared.faults.ReadFaultKind.TheVariants.{InvalidRange, ShardQuorum, NoMemory as NoRoom}
+use Rattle.get_read.specs.declared.faults.BodyFault.{BodyFault}
+use Rattle.get_read.specs.declared.faults.BodyFault.TheVariants.{InvalidRange, ShardQuorum, NoMemory as NoRoom}
 use Rattle.get_read.specs.declared.tables.Fetched.{Fetched}
 use Rattle.get_read.specs.declared.state.Asked.{Asked}
 use Rattle.get_read.specs.declared.state.Search.{Search}
@@ -41,7 +41,7 @@ use Rattle.get_read.specs.declared.state.Fetching.{Fetching}
 use Rattle.get_read.specs.declared.state.StripeWork.{StripeWork}
 
 -- a call of the next drive of a search gives the length of its file, or the manifest, which serves, or why there is none
-abbrev pub LookCall : Search → Result Looked NotGiven → DriveView → DriveView → Type 0
+abbrev pub LookCall : Search → Result Looked FetchFault → DriveView → DriveView → Type 0
 LookCall old (Ok (Size n)) before after = (n ≤ LONGEST_FILE) × WasSeen (Sized (manifest_name old.asked.id) n) before after × (old.size ≡ None)
 LookCall old (Ok (File m)) before after = (old.size ≡ Some (length (file_of m))) × IsCanonical m × Serves (wants old.asked) m
     × WasSeen (Showed (manifest_name old.asked.id) 0 (file_of m)) before after
@@ -50,7 +50,7 @@ LookCall old (Err (Because why)) before after = (is_good why ≡ false)
 LookCall old (Err NoMemory) before after = Unit {0}
 
 -- what a search answers after one call more, which these are all calls
-abbrev pub SearchAnswers : Result (Option Manifest) ReadFaultKind → Search → Account → Type 0
+abbrev pub SearchAnswers : Result (Option Manifest) BodyFault → Search → Account → Type 0
 SearchAnswers (Ok None) new calls = IsSearchOf new calls
 SearchAnswers (Ok (Some m)) new calls = IsFoundIn (wants new.asked) new.asked.id m calls
 SearchAnswers (Err (InvalidRange _)) new calls = ⊥
@@ -63,19 +63,19 @@ abbrev pub Suits : Asked → Manifest → Type 0
 Suits asked manifest = IsCanonical manifest × Serves (wants asked) manifest
 
 -- one that is found is so
-abbrev pub FindsSuiting : Asked → Result (Option Manifest) ReadFaultKind → Type 0
+abbrev pub FindsSuiting : Asked → Result (Option Manifest) BodyFault → Type 0
 FindsSuiting asked (Ok None) = Unit {0}
 FindsSuiting asked (Ok (Some m)) = Suits asked m
 FindsSuiting asked (Err fault) = Unit {0}
 
 -- what is given has so many bytes, or more
-abbrev pub GivesSoLong : {Z : Type 0} → ℕ → Result (Option (Vec ℕ Z)) ReadFaultKind → Type 0
+abbrev pub GivesSoLong : {Z : Type 0} → ℕ → Result (Option (Vec ℕ Z)) BodyFault → Type 0
 GivesSoLong n (Ok None) = Unit {0}
 GivesSoLong n (Ok (Some run)) = n ≤ length run.items
 GivesSoLong n (Err fault) = Unit {0}
 
 -- a stripe, or an answer in place of it, came with one call
-abbrev pub MakesOne : {T : Type 0} → Result T ReadFaultKind → Account → Type 0
+abbrev pub MakesOne : {T : Type 0} → Result T BodyFault → Account → Type 0
 MakesOne (Ok _) calls = length calls ≡ 1
 MakesOne (Err _) calls = length calls ≤ 1
 
@@ -135,7 +135,7 @@ abbrev pub TellsNeither : Fetching → ManifestPart → Why → Seen → Type 0
 TellsNeither old part why seen = TellsNoTable (data_of old) part (next_root old part) why seen ⊎ TellsNoBytes (data_of old) part old.work.stripe why seen
 
 -- a call of the next drive of a stripe gives its digest table, or the block by the table that is held, or why there is none
-abbrev pub FetchCall : Fetching → Result Found NotGiven → DriveView → DriveView → Type 0
+abbrev pub FetchCall : Fetching → Result Found FetchFault → DriveView → DriveView → Type 0
 FetchCall old (Ok (Table table)) before after = (d : ManifestPart) → ShowsTableNow old (part_of old d) table.items before after
 FetchCall old (Ok (Block fetched)) before after = (d : ManifestPart) → FetchesBlock old (part_of old d) fetched before after
 FetchCall old (Err (Because why)) before after = (is_good why ≡ false)
@@ -143,7 +143,7 @@ FetchCall old (Err (Because why)) before after = (is_good why ≡ false)
 FetchCall old (Err NoMemory) before after = Unit {0}
 
 -- what a stripe answers after one call more, which these are all calls: it goes on, or its bytes are there, or too few drives gave a block
-abbrev pub StripeAnswers : {Z : Type 0} → SetPlan → ManifestPart → Result (Option (Vec ℕ Z)) ReadFaultKind → StripeWork → Told → Type 0
+abbrev pub StripeAnswers : {Z : Type 0} → SetPlan → ManifestPart → Result (Option (Vec ℕ Z)) BodyFault → StripeWork → Told → Type 0
 StripeAnswers set part (Ok None) new told = IsStripeOf set part new (all_calls told) told.since
 StripeAnswers set part (Ok (Some run)) new told = GivesRun set part new.stripe run.items (all_calls told)
 StripeAnswers set part (Err (InvalidRange _)) new told = ⊥
@@ -151,14 +151,14 @@ StripeAnswers set part (Err (ShardQuorum whys)) new told = FewGiveIn set part ne
 StripeAnswers set part (Err NoRoom) new told = Unit {0}
 
 -- and the tables are held on
-pub record FetchAnswers {Z : Type 0} (result : Result (Option (Vec ℕ Z)) ReadFaultKind) (new : Fetching) (told : Told) : Type 0 where
+pub record FetchAnswers {Z : Type 0} (result : Result (Option (Vec ℕ Z)) BodyFault) (new : Fetching) (told : Told) : Type 0 where
   pub is_part : IsPartOf new.asked new.manifest new.part told.before (all_calls told)
   pub stripe : StripeAnswers (set_of new.asked) is_part.part result new.work told
   pub ahead : AreAhead (set_of new.asked) is_part.part new.ahead (all_calls told)
 
 module _ {D : Type 0} (ghosts : Ghosts D) where
   -- one call of a search
-  pub record SearchSteps (old new : Search) (result : Result (Option Manifest) ReadFaultKind) (before after : List D) : Type 0 where
+  pub record SearchSteps (old new : Search) (result : Result (Option Manifest) BodyFault) (before after : List D) : Type 0 where
     pub calls : Account
     pub are : AreCalls ghosts (set_of old.asked).out calls before after
     pub made : MakesOne result calls
@@ -167,7 +167,7 @@ module _ {D : Type 0} (ghosts : Ghosts D) where
 
 module _ {D Z : Type 0} (ghosts : Ghosts D) where
   -- one call of a stripe
-  pub record FetchSteps (old new : Fetching) (result : Result (Option (Vec ℕ Z)) ReadFaultKind) (before after : List D) : Type 0 where
+  pub record FetchSteps (old new : Fetching) (result : Result (Option (Vec ℕ Z)) BodyFault) (before after : List D) : Type 0 where
     pub calls : Account
     pub are : AreCalls ghosts (set_of old.asked).out calls before after
     pub made : MakesOne result calls

@@ -6,8 +6,8 @@ use Rattle.call_types.specs.declared.why.FileKind.{FileKind}
 use Rattle.call_types.specs.declared.why.Why.{Why}
 use Rattle.drive_base.specs.View.{DriveView, view}
 use Rattle.drive_base.specs.declared.drive.Drive.{Ghosts}
-use Rattle.file_access.specs.declared.cause.NotGiven.{NotGiven}
-use Rattle.file_access.specs.declared.cause.NotGiven.TheVariants.{Because, NoMemory}
+use Rattle.file_access.specs.declared.fault.FetchFault.{FetchFault}
+use Rattle.file_access.specs.declared.fault.FetchFault.TheVariants.{Because, NoMemory}
 use Rattle.manifest_file.specs.declared.manifest.ManifestPart.{ManifestPart}
 use Rattle.shard_file.specs.Shards.{block_place, table_place}
 use Rattle.shard_file.specs.Stripes.{block_size, stripe_count, stripe_length}
@@ -32,33 +32,33 @@ ReadCall kind name at long into (Ok _) old new = (length into ≡ long) × WasSe
 ReadCall kind name at long into (Err why) old new = (is_good why ≡ false) × WasSeenSo (TellsNoPiece kind name at long why) old new
 
 -- a call for so many bytes of a file from a place on, or none for want of memory
-abbrev pub PieceCall : {Z : Type 0} → FileKind → List ℕ → ℕ → ℕ → Result (Vec ℕ Z) NotGiven → DriveView → DriveView → Type 0
+abbrev pub PieceCall : {Z : Type 0} → FileKind → List ℕ → ℕ → ℕ → Result (Vec ℕ Z) FetchFault → DriveView → DriveView → Type 0
 PieceCall kind name at long (Ok bytes) old new = (length bytes.items ≡ long) × WasSeen (Showed name at bytes.items) old new
 PieceCall kind name at long (Err (Because why)) old new = (is_good why ≡ false) × WasSeenSo (TellsNoPiece kind name at long why) old new
 PieceCall kind name at long (Err NoMemory) old new = Unit {0}
 
 -- a call for the digest table of a part, of which a stripe has d data blocks
-abbrev pub TableCall : {Z : Type 0} → ℕ → ManifestPart → List ℕ → Result (Vec ℕ Z) NotGiven → DriveView → DriveView → Type 0
+abbrev pub TableCall : {Z : Type 0} → ℕ → ManifestPart → List ℕ → Result (Vec ℕ Z) FetchFault → DriveView → DriveView → Type 0
 TableCall d part root (Ok table) old new = (length table.items ≡ 32 * stripe_count part.length) × (root ≡ sha256 table.items)
     × WasSeen (Showed (shard_name part.id) (table_place d part.length) table.items) old new
 TableCall d part root (Err (Because why)) old new = (is_good why ≡ false) × WasSeenSo (TellsNoTable d part root why) old new
 TableCall d part root (Err NoMemory) old new = Unit {0}
 
 -- a call for the block of a stripe, whose digest a table has
-abbrev pub BlockCall : ℕ → ManifestPart → ℕ → List ℕ → Result Fetched NotGiven → DriveView → DriveView → Type 0
+abbrev pub BlockCall : ℕ → ManifestPart → ℕ → List ℕ → Result Fetched FetchFault → DriveView → DriveView → Type 0
 BlockCall d part i table (Ok fetched) old new = (length fetched.block.items ≡ block_size d (stripe_length part.length i))
     × (fetched.stored ≡ digest_in table i) × WasSeen (Showed (shard_name part.id) (block_place d i) fetched.block.items) old new
 BlockCall d part i table (Err (Because why)) old new = (is_good why ≡ false) × WasSeenSo (TellsNoBytes d part i why) old new
 BlockCall d part i table (Err NoMemory) old new = Unit {0}
 
 -- for want of memory no call was made
-abbrev pub IdleWithout : {T D : Type 0} → Result T NotGiven → D → D → Type 0
+abbrev pub IdleWithout : {T D : Type 0} → Result T FetchFault → D → D → Type 0
 IdleWithout (Ok _) old new = Unit {0}
 IdleWithout (Err (Because _)) old new = Unit {0}
 IdleWithout (Err NoMemory) old new = new ≡ old
 
 -- for want of memory no call was made, or one before
-abbrev pub IdleOrCalled : {T D : Type 0} → Ghosts D → Result T NotGiven → D → D → Type 0
+abbrev pub IdleOrCalled : {T D : Type 0} → Ghosts D → Result T FetchFault → D → D → Type 0
 IdleOrCalled ghosts (Ok _) old new = Unit {0}
 IdleOrCalled ghosts (Err (Because _)) old new = Unit {0}
 IdleOrCalled ghosts (Err NoMemory) old new = (new ≡ old) ⊎ ((seen : Seen) × WasSeen seen (view ghosts old) (view ghosts new))

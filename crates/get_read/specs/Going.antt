@@ -5,7 +5,7 @@ use Rattle.get_read.specs.Account.{Account}
 use Rattle.get_read.specs.Advancing.{FetchAnswers, MakesOne}
 use Rattle.get_read.specs.Readers.{AreCalls, IsFetchOf, Told, all_calls, set_of, told_after}
 use Rattle.get_read.specs.Windows.{AreRuns}
-use Rattle.get_read.specs.declared.faults.ReadFaultKind.{ReadFaultKind}
+use Rattle.get_read.specs.declared.faults.BodyFault.{BodyFault}
 use Rattle.get_read.specs.declared.state.Fetching.{Fetching}
 use Rattle.get_read.specs.declared.window.Window.{Window}
 
@@ -19,7 +19,7 @@ pub record StaysBesides (old new : Fetching) : Type 0 where
 
 module _ {D Z : Type 0} (ghosts : Ghosts D) where
   -- one call for a window
-  pub record WindowSteps (old : Fetching) (window : Window) (new : Fetching) (result : Result (Option (Vec ℕ Z)) ReadFaultKind) (before after : List D) : Type 0 where
+  pub record WindowSteps (old : Fetching) (window : Window) (new : Fetching) (result : Result (Option (Vec ℕ Z)) BodyFault) (before after : List D) : Type 0 where
     pub calls : Account
     pub are : AreCalls ghosts (set_of old.asked).out calls before after
     pub made : MakesOne result calls

@@ -7,8 +7,8 @@ use Rattle.shard_file.specs.Stripes.{piece}
 use Rattle.body_print.specs.Shards.{AreStripeBlocks}
 use Rattle.get_read.specs.Sifting.{AreSifted}
 use Rattle.get_read.specs.declared.blocks.Blocks.{Blocks}
-use Rattle.get_read.specs.declared.faults.ReadFaultKind.{ReadFaultKind}
-use Rattle.get_read.specs.declared.faults.ReadFaultKind.TheVariants.{InvalidRange, ShardQuorum, NoMemory}
+use Rattle.get_read.specs.declared.faults.BodyFault.{BodyFault}
+use Rattle.get_read.specs.declared.faults.BodyFault.TheVariants.{InvalidRange, ShardQuorum, NoMemory}
 use Rattle.get_read.specs.declared.state.StripeWork.{StripeWork}
 
 -- bytes, of this number, are the stripe whose blocks these are, if there is one
@@ -19,7 +19,7 @@ IsRebuilt set size long found bytes = (length bytes ≡ long) × ((stripe : List
     → bytes ≡ stripe)
 
 -- enough blocks verify, and the stripe comes from them, and none is at hand any more; or more blocks are wanted; or no drive is left
-abbrev pub JudgesStripe : {Z : Type 0} → SetPlan → ℕ → Result (Option (Vec ℕ Z)) ReadFaultKind → StripeWork → StripeWork → Type 0
+abbrev pub JudgesStripe : {Z : Type 0} → SetPlan → ℕ → Result (Option (Vec ℕ Z)) BodyFault → StripeWork → StripeWork → Type 0
 JudgesStripe set long (Ok (Some bytes)) old new = (found : Blocks) × AreSifted old.size 0 old.found found old.whys new.whys
     × (length found.rows.items ≡ data_drives set.drives set.parity) × IsRebuilt set old.size long found bytes.items × (new.found.rows.items ≡ [])
 JudgesStripe set long (Ok None) old new = ((place : ℕ) × AreSifted old.size place old.found new.found old.whys new.whys)

@@ -6,8 +6,8 @@ use Rattle.manifest_file.specs.Canonical.{IsCanonical}
 use Rattle.manifest_file.specs.Spelling.{file_of}
 use Rattle.manifest_file.specs.declared.manifest.Manifest.{Manifest as ManifestRecord}
 use Rattle.get_read.specs.Causes.{Wanted, Serves, IsUnserved}
-use Rattle.file_access.specs.declared.cause.NotGiven.{NotGiven}
-use Rattle.file_access.specs.declared.cause.NotGiven.TheVariants.{Because, NoMemory}
+use Rattle.file_access.specs.declared.fault.FetchFault.{FetchFault}
+use Rattle.file_access.specs.declared.fault.FetchFault.TheVariants.{Because, NoMemory}
 
 -- only a damage is told, and the file has it
 abbrev pub IsDamagedSo : Wanted → List ℕ → Why → Type 0
@@ -18,7 +18,7 @@ IsDamagedSo wanted file (Behind _) = ⊥
 IsDamagedSo wanted file (Lacks _) = ⊥
 
 -- a manifest that serves and has this file, or what is wrong with the file
-abbrev pub IsServed : Wanted → List ℕ → Result ManifestRecord NotGiven → Type 0
+abbrev pub IsServed : Wanted → List ℕ → Result ManifestRecord FetchFault → Type 0
 IsServed wanted file (Ok m) = IsCanonical m × (file ≡ file_of m) × Serves wanted m
 IsServed wanted file (Err (Because why)) = IsDamagedSo wanted file why
 IsServed wanted file (Err NoMemory) = Unit {0}

@@ -4,7 +4,7 @@ use Rattle.drive_base.specs.declared.plan.SetPlan.{SetPlan}
 use Rattle.get_read.specs.Advancing.{next_table}
 use Rattle.get_read.specs.Held.{all_bytes}
 use Rattle.get_read.specs.Readers.{set_of}
-use Rattle.get_read.specs.declared.faults.ReadFaultKind.{ReadFaultKind}
+use Rattle.get_read.specs.declared.faults.BodyFault.{BodyFault}
 use Rattle.get_read.specs.declared.reader.Reader.{Reader}
 use Rattle.get_read.specs.declared.reader.ReadStep.{ReadStep}
 use Rattle.get_read.specs.declared.reader.ReadStep.TheVariants.{More, Piece, Done}
@@ -58,14 +58,14 @@ abbrev pub steps_left : Reader → ℕ
 steps_left reader = state_left reader.state
 
 -- the number falls at each step that leaves more to do, and is 0 after every other
-abbrev pub Falls : Result ReadStep ReadFaultKind → ℕ → ℕ → Type 0
+abbrev pub Falls : Result ReadStep BodyFault → ℕ → ℕ → Type 0
 Falls (Ok More) old new = new < old
 Falls (Ok Piece) old new = new < old
 Falls (Ok Done) old new = new ≡ 0
 Falls (Err fault) old new = new ≡ 0
 
 -- it falls where a search or a stripe goes on
-abbrev pub FallsOn : {T : Type 0} → Result (Option T) ReadFaultKind → ℕ → ℕ → Type 0
+abbrev pub FallsOn : {T : Type 0} → Result (Option T) BodyFault → ℕ → ℕ → Type 0
 FallsOn (Ok None) old new = new < old
 FallsOn (Ok (Some _)) old new = Unit {0}
 FallsOn (Err fault) old new = Unit {0}

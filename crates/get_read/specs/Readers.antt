@@ -25,8 +25,8 @@ use Rattle.get_read.specs.Sifting.{IsRow, block_at, row_at, stored_at}
 use Rattle.get_read.specs.declared.blocks.Blocks.{Blocks}
 use Rattle.get_read.specs.States.{manifest_in}
 use Rattle.get_read.specs.Windows.{AreAhead}
-use Rattle.get_read.specs.declared.faults.ReadFaultKind.{ReadFaultKind}
-use Rattle.get_read.specs.declared.faults.ReadFaultKind.TheVariants.{InvalidRange, ShardQuorum, NoMemory}
+use Rattle.get_read.specs.declared.faults.BodyFault.{BodyFault}
+use Rattle.get_read.specs.declared.faults.BodyFault.TheVariants.{InvalidRange, ShardQuorum, NoMemory}
 use Rattle.get_read.specs.declared.reader.Reader.{Reader}
 use Rattle.get_read.specs.declared.reader.ReadStep.{ReadStep}
 use Rattle.get_read.specs.declared.reader.ReadStep.TheVariants.{More, Piece, Done}
@@ -103,7 +103,7 @@ pub record IsFetchOf (fetching : FetchingRecord) (told : Told) : Type 0 where
 
 -- why a reader refuses, after so many bytes were given: no drive gave a manifest that serves, before any byte was given, or too few gave a block of the stripe that
 -- has the next byte
-abbrev pub IsRefusedIn : Asked → ReadFaultKind → Told → ℕ → Type 0
+abbrev pub IsRefusedIn : Asked → BodyFault → Told → ℕ → Type 0
 IsRefusedIn asked (InvalidRange _) told given = ⊥
 IsRefusedIn asked (ShardQuorum whys) told given =
     (NoneServesIn (set_of asked) asked.wanted.print asked.id asked.wanted.reach whys (all_calls told) × (given ≡ 0))
@@ -143,7 +143,7 @@ pub record Begins (set : SetPlan) (print : List ℕ) (id : VersionId) (span : Sp
   pub none : IsAccountOf reader (record { before = []; since = [] }) []
 
 -- the bytes that were given after a step, with its piece
-abbrev pub given_after : Result ReadStep ReadFaultKind → List ℕ → List ℕ → List ℕ
+abbrev pub given_after : Result ReadStep BodyFault → List ℕ → List ℕ → List ℕ
 given_after (Ok More) piece given = given
 given_after (Ok Piece) piece given = given ++ piece
 given_after (Ok Done) piece given = given
@@ -159,7 +159,7 @@ finds (Fetching _) new = false
 finds (Ended _) new = false
 finds (Refused _) new = false
 
-abbrev pub turns : Result ReadStep ReadFaultKind → State → State → Bool
+abbrev pub turns : Result ReadStep BodyFault → State → State → Bool
 turns (Ok More) old new = finds old new
 turns (Ok Piece) old new = true
 turns (Ok Done) old new = finds old new
@@ -167,7 +167,7 @@ turns (Err fault) old new = false
 
 -- what a step answers, with its piece and all that was given: a piece is not empty and ends within the span, `Done` comes only with the whole span, after the manifest was found, and a
 -- refusal has its cause in the calls
-abbrev pub AnswersBy : Result ReadStep ReadFaultKind → Asked → State → List ℕ → Told → List ℕ → Type 0
+abbrev pub AnswersBy : Result ReadStep BodyFault → Asked → State → List ℕ → Told → List ℕ → Type 0
 AnswersBy (Ok More) asked new piece told given = Unit {0}
 AnswersBy (Ok Piece) asked new piece told given = (0 < length piece) × (length given ≤ asked.span.length)
 AnswersBy (Ok Done) asked new piece told given = (length given ≡ asked.span.length)
@@ -175,14 +175,14 @@ AnswersBy (Ok Done) asked new piece told given = (length given ≡ asked.span.le
 AnswersBy (Err fault) asked new piece told given = IsRefusedIn asked fault told (length given)
 
 -- a step after which more are due makes one call, and every other at most one
-abbrev pub MakesCalls : Result ReadStep ReadFaultKind → Account → Type 0
+abbrev pub MakesCalls : Result ReadStep BodyFault → Account → Type 0
 MakesCalls (Ok More) calls = length calls ≡ 1
 MakesCalls (Ok Piece) calls = length calls ≤ 1
 MakesCalls (Ok Done) calls = length calls ≤ 1
 MakesCalls (Err fault) calls = length calls ≤ 1
 
 -- a reader that was refused answers the same again, and one that is done is done
-abbrev pub StaysSo : State → Result ReadStep ReadFaultKind → State → Account → Type 0
+abbrev pub StaysSo : State → Result ReadStep BodyFault → State → Account → Type 0
 StaysSo (Searching search) result new calls = Unit {0}
 StaysSo (Fetching fetching) result new calls = Unit {0}
 StaysSo (Ended manifest) result new calls = (result ≡ Ok Done) × (new ≡ Ended manifest) × (calls ≡ [])
@@ -197,7 +197,7 @@ module _ {D : Type 0} (ghosts : Ghosts D) where
 
   -- one step from a state to a state, with its piece: whatever calls a reader may have made before and whatever it gave, it has now made those of the step as
   -- well, and what it answers has its cause in them
-  pub record StepsFrom (asked : Asked) (old new : State) (piece : List ℕ) (result : Result ReadStep ReadFaultKind) (before after : List D) : Type 0 where
+  pub record StepsFrom (asked : Asked) (old new : State) (piece : List ℕ) (result : Result ReadStep BodyFault) (before after : List D) : Type 0 where
     pub calls : Account
     pub are : AreCalls (set_of asked).out calls before after
     pub made : MakesCalls result calls
@@ -207,6 +207,6 @@ module _ {D : Type 0} (ghosts : Ghosts D) where
         × AnswersBy result asked new piece (told_after (turns result old new) told calls) (given_after result piece given)
 
   -- one step of a reader
-  pub record Steps (old new : Reader) (result : Result ReadStep ReadFaultKind) (before after : List D) : Type 0 where
+  pub record Steps (old new : Reader) (result : Result ReadStep BodyFault) (before after : List D) : Type 0 where
     pub asked : new.asked ≡ old.asked
     pub step : StepsFrom old.asked old.state new.state new.piece.items result before after

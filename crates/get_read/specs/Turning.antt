@@ -11,8 +11,8 @@ use Rattle.get_read.specs.Causes.{body_length}
 use Rattle.get_read.specs.Passing.{PassesOver}
 use Rattle.get_read.specs.Held.{all_bytes}
 use Rattle.get_read.specs.Readers.{set_of}
-use Rattle.get_read.specs.declared.faults.ReadFaultKind.{ReadFaultKind}
-use Rattle.get_read.specs.declared.faults.ReadFaultKind.TheVariants.{NoMemory}
+use Rattle.get_read.specs.declared.faults.BodyFault.{BodyFault}
+use Rattle.get_read.specs.declared.faults.BodyFault.TheVariants.{NoMemory}
 use Rattle.get_read.specs.declared.reader.ReadStep.{ReadStep}
 use Rattle.get_read.specs.declared.reader.ReadStep.TheVariants.{More, Piece, Done}
 use Rattle.get_read.specs.declared.state.Asked.{Asked}
@@ -66,7 +66,7 @@ abbrev pub IsPartOn : ℕ → PartWork → ℕ → PartWork → Type 0
 IsPartOn n old at new = ((at < old.begin + old.long) × (new ≡ old)) ⊎ ((old.begin + old.long ≤ at) × HasNoTables n new)
 
 -- a span begins in its first stripe, or ends at once where it is empty
-abbrev pub BeginsSpan : Asked → State → State → Manifest → Result ReadStep ReadFaultKind → Type 0
+abbrev pub BeginsSpan : Asked → State → State → Manifest → Result ReadStep BodyFault → Type 0
 BeginsSpan asked old new manifest (Ok More) =
     (fetching : FetchingRecord) × (new ≡ Fetching fetching) × BeginsAt asked manifest asked.span.at fetching × HoldsNone fetching
 BeginsSpan asked old new manifest (Ok Piece) = ⊥
@@ -79,7 +79,7 @@ wanted_of_stripe fetching stripe =
     take (fetching.asked.wanted.reach - fetching.at) (drop (fetching.at - fetching.part.begin - fetching.work.stripe * stripe_size) stripe)
 
 -- it is given, and the reader turns to the next stripe, or is done
-abbrev pub GivesPiece : State → State → List ℕ → FetchingRecord → List ℕ → Result ReadStep ReadFaultKind → Type 0
+abbrev pub GivesPiece : State → State → List ℕ → FetchingRecord → List ℕ → Result ReadStep BodyFault → Type 0
 GivesPiece old new piece fetching stripe (Ok More) = ⊥
 GivesPiece old new piece fetching stripe (Ok Piece) = (piece ≡ wanted_of_stripe fetching stripe) × (0 < length piece)
     × (((fetching.at + length piece ≡ fetching.asked.wanted.reach) × (new ≡ Ended fetching.manifest))

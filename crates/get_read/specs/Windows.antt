@@ -5,8 +5,8 @@ use Rattle.sha2.specs.Sha256.{sha256}
 use Rattle.drive_base.specs.Plan.{data_drives}
 use Rattle.drive_base.specs.View.{DriveView}
 use Rattle.drive_base.specs.declared.plan.SetPlan.{SetPlan}
-use Rattle.file_access.specs.declared.cause.NotGiven.{NotGiven}
-use Rattle.file_access.specs.declared.cause.NotGiven.TheVariants.{Because, NoMemory as NoRoom}
+use Rattle.file_access.specs.declared.fault.FetchFault.{FetchFault}
+use Rattle.file_access.specs.declared.fault.FetchFault.TheVariants.{Because, NoMemory as NoRoom}
 use Rattle.manifest_file.specs.declared.manifest.ManifestPart.{ManifestPart}
 use Rattle.shard_file.specs.Shards.{block_place, table_place}
 use Rattle.shard_file.specs.Stripes.{block_size, piece, stripe_count, stripe_size}
@@ -14,8 +14,8 @@ use Rattle.body_print.specs.Names.{shard_name}
 use Rattle.body_print.specs.Shards.{AreStripeBlocks}
 use Rattle.get_read.specs.Account.{Account, Seen, Showed, WasSeen}
 use Rattle.get_read.specs.Letters.{IsBlockIn}
-use Rattle.get_read.specs.declared.faults.ReadFaultKind.{ReadFaultKind}
-use Rattle.get_read.specs.declared.faults.ReadFaultKind.TheVariants.{InvalidRange, ShardQuorum, NoMemory}
+use Rattle.get_read.specs.declared.faults.BodyFault.{BodyFault}
+use Rattle.get_read.specs.declared.faults.BodyFault.TheVariants.{InvalidRange, ShardQuorum, NoMemory}
 use Rattle.get_read.specs.declared.window.Found.{Found}
 use Rattle.get_read.specs.declared.window.Found.TheVariants.{Table, Run}
 use Rattle.get_read.specs.declared.window.Window.{Window}
@@ -60,7 +60,7 @@ AreAhead set part None calls = Unit {0}
 AreAhead set part (Some window) calls = AreRuns set part window calls
 
 -- a call for a window gives the digest table of its next drive, or the blocks, or tells why not
-abbrev pub WindowCall : ℕ → ManifestPart → List ℕ → List ℕ → Window → Result Found NotGiven → DriveView → DriveView → Type 0
+abbrev pub WindowCall : ℕ → ManifestPart → List ℕ → List ℕ → Window → Result Found FetchFault → DriveView → DriveView → Type 0
 WindowCall d part root held window (Ok (Table table)) before after = (held ≡ []) × (length table.items ≡ 32 * stripe_count part.length)
     × (root ≡ sha256 table.items) × WasSeen (Showed (shard_name part.id) (table_place d part.length) table.items) before after
 WindowCall d part root held window (Ok (Run run)) before after = (0 < length held) × (length run.items ≡ window.count * window.size)
@@ -115,7 +115,7 @@ abbrev pub digests_in : List ℕ → ℕ → ℕ → List ℕ
 digests_in table first count = take (32 * count) (drop (32 * first) table)
 
 -- the window goes on with the blocks of its next drive, or it is given up; or its stripes are there
-abbrev pub RunTakes : {Z : Type 0} → SetPlan → Window → List ℕ → List ℕ → Result (Option (Vec ℕ Z)) ReadFaultKind → Option Window → Type 0
+abbrev pub RunTakes : {Z : Type 0} → SetPlan → Window → List ℕ → List ℕ → Result (Option (Vec ℕ Z)) BodyFault → Option Window → Type 0
 RunTakes set old run digests (Ok None) None = Unit {0}
 RunTakes set old run digests (Ok None) (Some new) = TookRun old new run digests
 RunTakes set old run digests (Ok (Some bytes)) ahead = (ahead ≡ None) × ((window : Window) × TookRun old window run digests

@@ -11,7 +11,7 @@ ghost use Rattle.get_read.specs.Calling.{BlockCall, IdleWithout, PieceCall, Read
 use crate::tables::{Fetched, byte_law, digest_of};
 use call_types::{FileKind, Why};
 use drive_base::{Drive, DriveFault, SetPlan};
-use file_access::NotGiven;
+use file_access::FetchFault;
 use manifest_file::ManifestPart;
 use seal_file::Damage;
 use shard_file::{STRIPE, check_block, layout};
@@ -70,17 +70,17 @@ pub fn call_piece<D: Drive>(
     name: &str,
     at: u64,
     long: u64,
-) -> Result<Vec<u8>, NotGiven>
+) -> Result<Vec<u8>, FetchFault>
     ensures called { PieceCall kind name.now at long result (view D.Drive drive.old) (view D.Drive drive.new) }
     ensures idle { IdleWithout result drive.old drive.new }
     ensures read { OnlyRead (view D.Drive drive.old) (view D.Drive drive.new) }
 {
     let Ok(mut bytes) = vec![in alloc; 0; long as usize] else {
-        return Err(NotGiven::NoMemory);
+        return Err(FetchFault::NoMemory);
     };
     match call_read(drive, kind, name, at, bytes.as_mut_slice()) {
         Ok(()) => Ok(bytes),
-        Err(why) => Err(NotGiven::Because(why)),
+        Err(why) => Err(FetchFault::Because(why)),
     }
 }
 
@@ -92,7 +92,7 @@ pub fn call_table<D: Drive>(
     index: usize,
     name: &str,
     drive: &mut D,
-) -> Result<Vec<u8>, NotGiven>
+) -> Result<Vec<u8>, FetchFault>
     requires some { 0 < part.now.length }
     requires index { index < length part.now.roots }
     requires name { name.now ≡ shard_name part.now.id }
@@ -105,7 +105,7 @@ pub fn call_table<D: Drive>(
     match call_piece(alloc, drive, FileKind::Shard, name, at, long) {
         Ok(table) => match check_block(part.roots.as_slice()[index], table.as_slice()) {
             Ok(()) => Ok(table),
-            Err(damage) => Err(NotGiven::Because(Why::Damaged(damage))),
+            Err(damage) => Err(FetchFault::Because(Why::Damaged(damage))),
         },
         Err(fault) => Err(fault),
     }
@@ -120,7 +120,7 @@ pub fn call_block<D: Drive>(
     name: &str,
     table: &[u8],
     drive: &mut D,
-) -> Result<Fetched, NotGiven>
+) -> Result<Fetched, FetchFault>
     requires within { stripe < stripe_count part.now.length }
     requires table { length table.now ≡ 32 * stripe_count part.now.length }
     requires name { name.now ≡ shard_name part.now.id }

@@ -1,14 +1,14 @@
 //! Why nothing was read.
 
 ghost use Rattle.std.specs.Prelude.{◌≡◌};
-ghost use Rattle.get_read.specs.declared.faults.ReadFaultKind.TheVariants.{NoMemory};
+ghost use Rattle.get_read.specs.declared.faults.BodyFault.TheVariants.{NoMemory};
 
 use call_types::Whys;
 use std::alloc::{AllocError, AllocFailed};
 
 /// Why a read was refused.
 #[derive(Clone, Copy, Debug, PartialEq, Eq)]
-pub enum ReadFaultKind {
+pub enum BodyFault {
     /// The range has no byte of a body of this length. No call asks for a range yet.
     InvalidRange(u64),
     /// All drives were tried, and too few gave what was asked: why, for each drive.
@@ -17,26 +17,26 @@ pub enum ReadFaultKind {
     NoMemory,
 }
 
-impl From<AllocError> for ReadFaultKind {
+impl From<AllocError> for BodyFault {
     ghost from_gives = { λ _ error. error ≡ NoMemory };
 
-    fn from(_error: AllocError) -> ReadFaultKind {
-        ReadFaultKind::NoMemory
+    fn from(_error: AllocError) -> BodyFault {
+        BodyFault::NoMemory
     }
 }
 
-impl<T: Drop> From<AllocFailed<T>> for ReadFaultKind {
+impl<T: Drop> From<AllocFailed<T>> for BodyFault {
     ghost from_gives = { λ _ error. error ≡ NoMemory };
 
-    fn from(_refused: AllocFailed<T>) -> ReadFaultKind {
-        ReadFaultKind::NoMemory
+    fn from(_refused: AllocFailed<T>) -> BodyFault {
+        BodyFault::NoMemory
     }
 }
 
-impl From<fault_base::NoMemory> for ReadFaultKind {
+impl From<fault_base::NoMemory> for BodyFault {
     ghost from_gives = { λ _ error. error ≡ NoMemory };
 
-    fn from(_refused: fault_base::NoMemory) -> ReadFaultKind {
-        ReadFaultKind::NoMemory
+    fn from(_refused: fault_base::NoMemory) -> BodyFault {
+        BodyFault::NoMemory
     }
 }

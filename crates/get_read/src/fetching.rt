@@ -14,14 +14,14 @@ ghost use Rattle.get_read.specs.Passing.{PassesDrive, PassesOver};
 
 use crate::blocks::{Blocks, add_block, are_enough, sift};
 use crate::calls::{call_block, call_table};
-use crate::faults::ReadFaultKind;
+use crate::faults::BodyFault;
 use crate::letters::past_out;
 use crate::state::{Fetching, Found, PartWork, StripeWork};
 use crate::stripes::stripe_of;
 use crate::tables::Fetched;
 use call_types::{Why, Whys};
 use drive_base::{Drive, SetPlan};
-use file_access::NotGiven;
+use file_access::FetchFault;
 use shard_file::STRIPE;
 use std::alloc::{AllocError, Global};
 use std::mem;
@@ -33,7 +33,7 @@ impl Fetching {
         &mut self,
         alloc: Global,
         drives: &mut [D],
-    ) -> Result<Option<Vec<u8>>, ReadFaultKind>
+    ) -> Result<Option<Vec<u8>>, BodyFault>
         requires { length drives.old ≡ self.old.asked.wanted.set.drives }
         ensures steps { FetchSteps D.Drive self.old self.new result drives.old drives.new }
         ensures long { GivesSoLong (stripe_length self.new.part.long self.new.work.stripe) result }
@@ -51,7 +51,7 @@ impl Fetching {
         &mut self,
         alloc: Global,
         drives: &mut [D],
-    ) -> Result<Option<Vec<u8>>, ReadFaultKind>
+    ) -> Result<Option<Vec<u8>>, BodyFault>
         requires drives { length drives.old ≡ self.old.asked.wanted.set.drives }
         requires none { self.old.ahead ≡ None }
         ensures steps { FetchSteps D.Drive self.old self.new result drives.old drives.new }
@@ -74,16 +74,16 @@ impl Fetching {
                 self.work.add(alloc, &set, &fetched)?;
                 self.work.judge(alloc, &set, long)
             }
-            Err(NotGiven::Because(why)) => {
+            Err(FetchFault::Because(why)) => {
                 self.work.pass(&set, why);
                 self.work.judge(alloc, &set, long)
             }
-            Err(NotGiven::NoMemory) => Err(ReadFaultKind::NoMemory),
+            Err(FetchFault::NoMemory) => Err(BodyFault::NoMemory),
         }
     }
 
     /// One call of the next drive: its digest table, or its block where the table is held.
-    fn call<D: Drive>(&self, alloc: Global, drive: &mut D) -> Result<Found, NotGiven>
+    fn call<D: Drive>(&self, alloc: Global, drive: &mut D) -> Result<Found, FetchFault>
         requires { self.now.work.tried < self.now.asked.wanted.set.drives }
         ensures called { FetchCall self.now result (view D.Drive drive.old) (view D.Drive drive.new) }
         ensures idle { IdleWithout result drive.old drive.new }
@@ -185,7 +185,7 @@ impl StripeWork {
         alloc: Global,
         set: &SetPlan,
         long: usize,
-    ) -> Result<Option<Vec<u8>>, ReadFaultKind>
+    ) -> Result<Option<Vec<u8>>, BodyFault>
         requires tried { self.old.tried ≤ set.now.drives }
         requires letters { length self.old.whys ≡ set.now.drives }
         requires size { self.old.size ≡ block_size (data_drives set.now.drives set.now.parity) long }
@@ -206,7 +206,7 @@ impl StripeWork {
             return Ok(None);
         }
         sift(&mut self.found, &mut self.whys, self.size);
-        Err(ReadFaultKind::ShardQuorum(self.whys))
+        Err(BodyFault::ShardQuorum(self.whys))
     }
 }
 

@@ -31,7 +31,7 @@ mod tables;
 mod window;
 mod windows;
 
-pub use faults::ReadFaultKind;
+pub use faults::BodyFault;
 pub use reader::{ReadStep, Reader};
 
 #[cfg(test)]

@@ -9,9 +9,9 @@ ghost use Rattle.get_read.specs.Outcomes.{wanted_of};
 
 use call_types::Why;
 use drive_base::SetPlan;
-use file_access::NotGiven;
+use file_access::FetchFault;
 use manifest_file::{Manifest, ManifestPart, print_of, read};
-use seal_file::{Damage, FileRead};
+use seal_file::{Damage, RecordFault};
 use std::alloc::Global;
 
 /// What a manifest must have: a print, a set's numbers, and parts that reach to a length.
@@ -26,21 +26,21 @@ pub struct Wanted {
 }
 
 /// The manifest of a file, if it serves.
-pub fn served(alloc: Global, wanted: &Wanted, file: &[u8]) -> Result<Manifest, NotGiven>
+pub fn served(alloc: Global, wanted: &Wanted, file: &[u8]) -> Result<Manifest, FetchFault>
     ensures { IsServed (wanted_of wanted.now.set wanted.now.print wanted.now.reach) file.now result }
 {
     match read(alloc, file) {
         Ok(manifest) => checked(wanted, manifest, file.len() as u64),
-        Err(FileRead::Unsealed(damage)) => Err(NotGiven::Because(Why::Damaged(damage))),
-        Err(FileRead::NotCanonical(place)) => {
-            Err(NotGiven::Because(Why::Damaged(Damage::Spelling(place))))
+        Err(RecordFault::Unsealed(damage)) => Err(FetchFault::Because(Why::Damaged(damage))),
+        Err(RecordFault::NotCanonical(place)) => {
+            Err(FetchFault::Because(Why::Damaged(Damage::Spelling(place))))
         }
-        Err(FileRead::NoMemory) => Err(NotGiven::NoMemory),
+        Err(RecordFault::NoMemory) => Err(FetchFault::NoMemory),
     }
 }
 
 /// A manifest, if it serves. Its file has so many bytes.
-fn checked(wanted: &Wanted, manifest: Manifest, long: u64) -> Result<Manifest, NotGiven>
+fn checked(wanted: &Wanted, manifest: Manifest, long: u64) -> Result<Manifest, FetchFault>
     requires canonical { IsCanonical manifest }
     requires long { long ≡ length (file_of manifest) }
     ensures { IsServed (wanted_of wanted.now.set wanted.now.print wanted.now.reach) (file_of manifest) result }
@@ -48,10 +48,10 @@ fn checked(wanted: &Wanted, manifest: Manifest, long: u64) -> Result<Manifest, N
     let computed = print_of(&manifest);
     if computed != wanted.print {
         let stored = wanted.print;
-        return Err(NotGiven::Because(Why::Damaged(Damage::Digest { stored, computed })));
+        return Err(FetchFault::Because(Why::Damaged(Damage::Digest { stored, computed })));
     }
     if !fits(wanted, &manifest) {
-        return Err(NotGiven::Because(Why::Damaged(Damage::Spelling(long - 36))));
+        return Err(FetchFault::Because(Why::Damaged(Damage::Spelling(long - 36))));
     }
     Ok(manifest)
 }

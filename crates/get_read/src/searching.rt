@@ -9,14 +9,14 @@ ghost use Rattle.get_read.specs.Passing.{PassesDrive};
 ghost use Rattle.get_read.specs.Readers.{IsSearchOf};
 
 use crate::calls::{call_piece, call_size};
-use crate::faults::ReadFaultKind;
+use crate::faults::BodyFault;
 use crate::letters::past_out;
 use crate::manifests::served;
 use crate::state::{Asked, Looked, Search};
 use body_print::name_of_manifest;
 use call_types::{FileKind, Why, Whys};
 use drive_base::Drive;
-use file_access::NotGiven;
+use file_access::FetchFault;
 use manifest_file::{LONGEST_FILE, Manifest};
 use seal_file::Damage;
 use std::alloc::{AllocError, Global};
@@ -45,7 +45,7 @@ impl Search {
         &mut self,
         alloc: Global,
         drives: &mut [D],
-    ) -> Result<Option<Manifest>, ReadFaultKind>
+    ) -> Result<Option<Manifest>, BodyFault>
         requires { length drives.old ≡ self.old.asked.wanted.set.drives }
         ensures steps { SearchSteps D.Drive self.old self.new result drives.old drives.new }
         ensures suits { FindsSuiting self.old.asked result }
@@ -53,7 +53,7 @@ impl Search {
         ensures read { AllOnlyRead (views D.Drive drives.old) (views D.Drive drives.new) }
     {
         if self.tried == self.asked.wanted.set.drives {
-            return Err(ReadFaultKind::ShardQuorum(self.whys));
+            return Err(BodyFault::ShardQuorum(self.whys));
         }
         let drive = &mut drives[self.tried as usize];
         match self.look(alloc, drive) {
@@ -62,11 +62,11 @@ impl Search {
                 Ok(None)
             }
             Ok(Looked::File(manifest)) => Ok(Some(manifest)),
-            Err(NotGiven::NoMemory) => Err(ReadFaultKind::NoMemory),
-            Err(NotGiven::Because(why)) => {
+            Err(FetchFault::NoMemory) => Err(BodyFault::NoMemory),
+            Err(FetchFault::Because(why)) => {
                 self.pass(why);
                 if self.tried == self.asked.wanted.set.drives {
-                    return Err(ReadFaultKind::ShardQuorum(self.whys));
+                    return Err(BodyFault::ShardQuorum(self.whys));
                 }
                 Ok(None)
             }
@@ -74,7 +74,7 @@ impl Search {
     }
 
     /// One call of a drive: its file's length, or then the file, and the manifest if it serves.
-    fn look<D: Drive>(&self, alloc: Global, drive: &mut D) -> Result<Looked, NotGiven>
+    fn look<D: Drive>(&self, alloc: Global, drive: &mut D) -> Result<Looked, FetchFault>
         ensures called { LookCall self.now result (view D.Drive drive.old) (view D.Drive drive.new) }
         ensures idle { IdleOrCalled D.Drive result drive.old drive.new }
         ensures read { OnlyRead (view D.Drive drive.old) (view D.Drive drive.new) }
@@ -83,7 +83,7 @@ impl Search {
         let Some(long) = self.size else {
             let size = call_size(drive, FileKind::Manifest, name)?;
             if size > LONGEST_FILE {
-                return Err(NotGiven::Because(Why::Damaged(Damage::Long(size))));
+                return Err(FetchFault::Because(Why::Damaged(Damage::Long(size))));
             }
             return Ok(Looked::Size(size));
         };

@@ -13,7 +13,7 @@ ghost use Rattle.get_read.specs.Sifting.{AreAtHand};
 ghost use Rattle.get_read.specs.Windows.{FitsAhead};
 
 use crate::blocks::Blocks;
-use crate::faults::ReadFaultKind;
+use crate::faults::BodyFault;
 use crate::manifests::Wanted;
 use crate::tables::Fetched;
 use crate::window::Window;
@@ -150,5 +150,5 @@ pub enum State {
     /// All of the span is given.
     Ended(Manifest),
     /// The reading was refused.
-    Refused(ReadFaultKind),
+    Refused(BodyFault),
 }

@@ -12,9 +12,9 @@ ghost use Rattle.get_read.specs.States.{manifest_in};
 ghost use Rattle.get_read.specs.Turning.{BeginsAt, BeginsSpan, GivesPiece, HasNoTables, HoldsNone, IsFreshAt, IsPartAt, IsPartOn};
 ghost use Rattle.get_read.specs.declared.state.State.TheVariants as state;
 ghost use Rattle.get_read.specs.declared.reader.ReadStep.TheVariants.{More};
-ghost use Rattle.get_read.specs.declared.faults.ReadFaultKind.TheVariants as refusal;
+ghost use Rattle.get_read.specs.declared.faults.BodyFault.TheVariants as refusal;
 
-use crate::faults::ReadFaultKind;
+use crate::faults::BodyFault;
 use crate::manifests::Wanted;
 use crate::places::part_with;
 use crate::reader::{ReadStep, Reader};
@@ -62,17 +62,13 @@ impl Reader {
     /// after all drives were tried for the manifest, or for a stripe, and tells the cause of each; a step that finds no
     /// memory ends the reading too. Each step after a refusal answers the same. The number of steps that are left at most
     /// falls at each step that leaves more to do.
-    pub fn step<D: Drive>(
-        &mut self,
-        alloc: Global,
-        drives: &mut [D],
-    ) -> Result<ReadStep, ReadFaultKind>
+    pub fn step<D: Drive>(&mut self, alloc: Global, drives: &mut [D]) -> Result<ReadStep, BodyFault>
         requires { length drives.old ≡ self.old.asked.wanted.set.drives }
         ensures steps { Steps D.Drive self.old self.new result drives.old drives.new }
         ensures fewer { Falls result (steps_left self.old) (steps_left self.new) }
         ensures read { AllOnlyRead (views D.Drive drives.old) (views D.Drive drives.new) }
     {
-        let state = mem::replace(&mut self.state, State::Refused(ReadFaultKind::NoMemory));
+        let state = mem::replace(&mut self.state, State::Refused(BodyFault::NoMemory));
         match state {
             State::Searching(search) => self.search(alloc, search, drives),
             State::Fetching(fetching) => self.fetch(alloc, fetching, drives),
@@ -107,7 +103,7 @@ impl Reader {
         alloc: Global,
         mut search: Search,
         drives: &mut [D],
-    ) -> Result<ReadStep, ReadFaultKind>
+    ) -> Result<ReadStep, BodyFault>
         requires same { search.asked ≡ self.old.asked }
         requires state { self.old.state ≡ state.Refused refusal.NoMemory }
         requires drives { length drives.old ≡ search.asked.wanted.set.drives }
@@ -124,7 +120,7 @@ impl Reader {
     }
 
     /// The search goes on.
-    fn search_on(&mut self, search: Search) -> Result<ReadStep, ReadFaultKind>
+    fn search_on(&mut self, search: Search) -> Result<ReadStep, BodyFault>
         requires { search.asked ≡ self.old.asked }
         ensures state { self.new.state ≡ state.Searching search }
         ensures asked { self.new.asked ≡ self.old.asked }
@@ -135,7 +131,7 @@ impl Reader {
     }
 
     /// A stripe is read next.
-    fn fetch_on(&mut self, fetching: Fetching, step: ReadStep) -> Result<ReadStep, ReadFaultKind>
+    fn fetch_on(&mut self, fetching: Fetching, step: ReadStep) -> Result<ReadStep, BodyFault>
         requires { fetching.asked ≡ self.old.asked }
         ensures state { self.new.state ≡ state.Fetching fetching }
         ensures asked { self.new.asked ≡ self.old.asked }
@@ -147,7 +143,7 @@ impl Reader {
     }
 
     /// All of the span is given.
-    fn end(&mut self, manifest: Manifest, step: ReadStep) -> Result<ReadStep, ReadFaultKind>
+    fn end(&mut self, manifest: Manifest, step: ReadStep) -> Result<ReadStep, BodyFault>
         ensures state { self.new.state ≡ state.Ended manifest }
         ensures asked { self.new.asked ≡ self.old.asked }
         ensures piece { self.new.piece ≡ self.old.piece }
@@ -158,7 +154,7 @@ impl Reader {
     }
 
     /// The reading is refused, now and at each later step.
-    fn refuse(&mut self, fault: &ReadFaultKind) -> Result<ReadStep, ReadFaultKind>
+    fn refuse(&mut self, fault: &BodyFault) -> Result<ReadStep, BodyFault>
         ensures state { self.new.state ≡ state.Refused fault.now }
         ensures asked { self.new.asked ≡ self.old.asked }
         ensures fault { result ≡ Err fault.now }
@@ -168,7 +164,7 @@ impl Reader {
     }
 
     /// Turns to the first stripe of the span.
-    fn begin(&mut self, alloc: Global, manifest: Manifest) -> Result<ReadStep, ReadFaultKind>
+    fn begin(&mut self, alloc: Global, manifest: Manifest) -> Result<ReadStep, BodyFault>
         requires { Suits self.old.asked manifest }
         ensures asked { self.new.asked ≡ self.old.asked }
         ensures begins { BeginsSpan self.old.asked self.old.state self.new.state manifest result }
@@ -186,7 +182,7 @@ impl Reader {
         alloc: Global,
         mut fetching: Fetching,
         drives: &mut [D],
-    ) -> Result<ReadStep, ReadFaultKind>
+    ) -> Result<ReadStep, BodyFault>
         requires same { fetching.asked ≡ self.old.asked }
         requires state { self.old.state ≡ state.Refused refusal.NoMemory }
         requires drives { length drives.old ≡ fetching.asked.wanted.set.drives }
@@ -208,7 +204,7 @@ impl Reader {
         alloc: Global,
         fetching: Fetching,
         stripe: Vec<u8>,
-    ) -> Result<ReadStep, ReadFaultKind>
+    ) -> Result<ReadStep, BodyFault>
         requires same { fetching.asked ≡ self.old.asked }
         requires long { stripe_length fetching.part.long fetching.work.stripe ≤ length stripe.items }
         ensures asked { self.new.asked ≡ self.old.asked }

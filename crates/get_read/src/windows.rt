@@ -12,13 +12,13 @@ ghost use Rattle.get_read.specs.Going.{StaysBesides, WindowSteps};
 ghost use Rattle.get_read.specs.Windows.{FitsWindow, GoesOn, RunPasses, RunTakes, TurnsOn, WindowCall, digests_in};
 
 use crate::calls::{call_piece, call_table};
-use crate::faults::ReadFaultKind;
+use crate::faults::BodyFault;
 use crate::rows::next_in_use;
 use crate::state::Fetching;
 use crate::window::{Found, Window};
 use call_types::FileKind;
 use drive_base::Drive;
-use file_access::NotGiven;
+use file_access::FetchFault;
 use std::alloc::Global;
 
 impl Fetching {
@@ -30,7 +30,7 @@ impl Fetching {
         alloc: Global,
         window: Window,
         drives: &mut [D],
-    ) -> Result<Option<Vec<u8>>, ReadFaultKind>
+    ) -> Result<Option<Vec<u8>>, BodyFault>
         requires drives { length drives.old ≡ self.old.asked.wanted.set.drives }
         requires none { self.old.ahead ≡ None }
         requires fits { FitsWindow self.old.asked.wanted.set self.old.part.long self.old.work.stripe window }
@@ -48,11 +48,11 @@ impl Fetching {
                 Ok(None)
             }
             Ok(Found::Run(run)) => self.take_run(alloc, window, run.as_slice()),
-            Err(NotGiven::Because(_)) => {
+            Err(FetchFault::Because(_)) => {
                 self.pass_run(window);
                 Ok(None)
             }
-            Err(NotGiven::NoMemory) => Err(ReadFaultKind::NoMemory),
+            Err(FetchFault::NoMemory) => Err(BodyFault::NoMemory),
         }
     }
 
@@ -62,7 +62,7 @@ impl Fetching {
         alloc: Global,
         window: &Window,
         drive: &mut D,
-    ) -> Result<Found, NotGiven>
+    ) -> Result<Found, FetchFault>
         requires { FitsWindow self.now.asked.wanted.set self.now.part.long self.now.work.stripe window.now }
         ensures called { (d : ManifestPart) → WindowCall (data_of self.now) (part_of self.now d) (slice_index_or (part_of self.now d).roots window.now.tried [])
             (slice_index_or (all_bytes self.now.part.tables.items) window.now.tried []) window.now result (view D.Drive drive.old) (view D.Drive drive.new) }
@@ -89,7 +89,7 @@ impl Fetching {
         alloc: Global,
         window: Window,
         run: &[u8],
-    ) -> Result<Option<Vec<u8>>, ReadFaultKind>
+    ) -> Result<Option<Vec<u8>>, BodyFault>
         requires none { self.old.ahead ≡ None }
         requires fits { FitsWindow self.old.asked.wanted.set self.old.part.long self.old.work.stripe window }
         requires run { length run.now ≡ window.count * window.size }

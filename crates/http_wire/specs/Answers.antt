@@ -25,7 +25,7 @@ pub record LastPiece (before text : List ℕ) : Type 0 where
   pub text_is : text ≡ asked ++ last
   pub reached : length before ≤ length asked
   pub was_open : IsOpen asked
-  pub most : length last ≤ 65536
+  pub most : length last ≤ most_bytes
 
 -- the text is what waited and what came behind it, and it came only because what was there before did not decide
 pub record Came (before text : List ℕ) (left after : Option (List ℕ)) : Type 0 where

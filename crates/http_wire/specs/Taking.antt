@@ -1,6 +1,7 @@
 -- What a take adds to the bytes that wait.
 use Rattle.std.specs.Prelude.{◌≡◌, ◌+◌, ◌≤◌, ℕ, List, ◌++◌, length, slice_range, Option, Result, Ok, Err}
 use Rattle.std.specs.Io.KnownBytes.{prepend_known, IsAtEnd}
+use Rattle.http_wire.specs.Heads.{most_bytes}
 
 -- n bytes came behind those that waited, none only where the source has ended
 pub record CameBehind (n : ℕ) (old new : List ℕ) (left after : Option (List ℕ)) : Type 0 where
@@ -8,7 +9,7 @@ pub record CameBehind (n : ℕ) (old new : List ℕ) (left after : Option (List 
   pub new_is : new ≡ old ++ piece
   pub left_is : left ≡ prepend_known piece after
   pub size : length piece ≡ n
-  pub most : n ≤ 65536
+  pub most : n ≤ most_bytes
   pub ends : n ≡ 0 → IsAtEnd after
 
 -- what waits, and what is left of the source, before and after one take
@@ -19,5 +20,5 @@ Fills (Err _) old new left after = (new ≡ old) × (after ≡ left)
 -- one take into the room from `at` on
 abbrev pub TakesAt : {E : Type 0} → Result ℕ E → ℕ → List ℕ → Option (List ℕ) → Option (List ℕ) → Type 0
 TakesAt (Ok n) at room left after =
-    (n ≤ 65536) × (left ≡ prepend_known (slice_range room at (at + n)) after) × (n ≡ 0 → IsAtEnd after)
+    (n ≤ most_bytes) × (left ≡ prepend_known (slice_range room at (at + n)) after) × (n ≡ 0 → IsAtEnd after)
 TakesAt (Err _) at room left after = after ≡ left

@@ -2,6 +2,7 @@
 
 ghost use Rattle.std.specs.Prelude.{◌≡◌, ◌<◌, length};
 ghost use Rattle.http_wire.specs.Answers.{Arrives, Came, TakesPiece};
+ghost use Rattle.http_wire.specs.Heads.{most_bytes};
 
 use crate::judging::{Judged, judge_first};
 use crate::window::Window;
@@ -63,7 +64,7 @@ enum Piece {
 
 /// Takes one piece from the source, behind what waits.
 fn take_piece<S: Source>(window: &mut Window, source: &mut S) -> Piece
-    requires { length window.old < 65536 }
+    requires { length window.old < most_bytes }
     ensures { TakesPiece result window.old window.new (S.left source.old) (S.left source.new)
         (S.faults source.old) (S.faults source.new) }
 {

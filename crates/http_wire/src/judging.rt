@@ -45,15 +45,15 @@ enum Parsed {
 /// lines stand in `headers`.
 pub fn judge_first(bytes: &[u8], headers: &mut [HeaderSpan]) -> Judged
     requires { length headers.old ≡ 64 }
-    ensures { IsJudged (take 65536 bytes.now) headers.new result }
+    ensures { IsJudged (take MOST_BYTES bytes.now) headers.new result }
 {
     judge(first_bytes(bytes), headers)
 }
 
 /// As many of the bytes as a head may have.
 pub fn first_bytes(bytes: &[u8]) -> &[u8]
-    ensures first { result.now ≡ take 65536 bytes.now }
-    ensures most { length result.now ≤ 65536 }
+    ensures first { result.now ≡ take MOST_BYTES bytes.now }
+    ensures most { length result.now ≤ MOST_BYTES }
 {
     &bytes[..bytes.len().min(MOST_BYTES)]
 }
@@ -61,7 +61,7 @@ pub fn first_bytes(bytes: &[u8]) -> &[u8]
 /// Judges the first bytes at hand. Where they are a whole head, the places of its lines stand in `headers`.
 #[tactic(auto, using(crate::proofs::LimitLemmas::exceeds_line_65))]
 fn judge(bytes: &[u8], headers: &mut [HeaderSpan]) -> Judged
-    requires short { length bytes.now ≤ 65536 }
+    requires short { length bytes.now ≤ MOST_BYTES }
     requires room { length headers.old ≡ 64 }
     ensures { IsJudged bytes.now headers.new result }
 {
@@ -88,7 +88,7 @@ fn parse(bytes: &[u8], headers: &mut [HeaderSpan]) -> Parsed
 
 /// Judges bytes that hold no whole head and may go on to one.
 fn judge_open(bytes: &[u8], headers: &mut [HeaderSpan]) -> Judged
-    requires short { length bytes.now ≤ 65536 }
+    requires short { length bytes.now ≤ MOST_BYTES }
     requires room { length headers.old ≡ 64 }
     requires none { HasNoRequest bytes.now }
     requires goes_on { MayBecomeRequest bytes.now }
@@ -105,7 +105,7 @@ fn judge_open(bytes: &[u8], headers: &mut [HeaderSpan]) -> Judged
 
 /// Judges bytes with which no head begins.
 fn judge_refused(bytes: &[u8], headers: &mut [HeaderSpan]) -> Judged
-    requires short { length bytes.now ≤ 65536 }
+    requires short { length bytes.now ≤ MOST_BYTES }
     requires room { length headers.old ≡ 64 }
     requires never { NeverHasRequest bytes.now }
     ensures { IsJudged bytes.now headers.new result }
@@ -121,7 +121,7 @@ fn judge_refused(bytes: &[u8], headers: &mut [HeaderSpan]) -> Judged
 
 /// Judges as many bytes as a head may have, which hold none and no line too many: by what stands before the last.
 fn judge_full(bytes: &[u8], headers: &mut [HeaderSpan]) -> Judged
-    requires full { length bytes.now ≡ 65536 }
+    requires full { length bytes.now ≡ MOST_BYTES }
     requires room { length headers.old ≡ 64 }
     requires none { HasNoRequest bytes.now }
     requires lines { ¬ (HasLine65 bytes.now) }

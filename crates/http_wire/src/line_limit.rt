@@ -13,7 +13,7 @@ use httparse::spans::{HeaderSpan, RequestSpans, parse_request};
 /// Whether the bytes are all lines of a head with as many header lines as it may have, and a byte that begins one more.
 /// The parser says so only once that line is whole, or not at all where the line is none. It writes to `headers`.
 pub fn has_line_65(bytes: &[u8], headers: &mut [HeaderSpan]) -> bool
-    requires short { length bytes.now ≤ 65536 }
+    requires short { length bytes.now ≤ MOST_BYTES }
     requires room { length headers.old ≡ 64 }
     ensures { IsTrue result ↔ HasLine65 bytes.now }
 {
@@ -42,7 +42,7 @@ fn goes_on(bytes: &[u8], end: usize) -> bool
 
 /// Whether the lines, and an empty line of one line feed, are a head with as many header lines as it may have.
 fn ends_head(lines: &[u8], headers: &mut [HeaderSpan]) -> bool
-    requires short { length lines.now < 65536 }
+    requires short { length lines.now < MOST_BYTES }
     requires room { length headers.old ≡ 64 }
     ensures { IsTrue result ↔ IsFullHead (lines.now ++ print_end lf) }
 {

@@ -3,6 +3,7 @@
 ghost use Rattle.std.specs.Prelude.{◌≡◌, ◌+◌, ◌-◌, ◌<◌, ◌≤◌, [], length, take, drop, slice_range, IfOk, vec_len};
 ghost use Rattle.io_base.specs.Count.{CountsFault};
 ghost use Rattle.http_wire.specs.Taking.{Fills, TakesAt};
+ghost use Rattle.http_wire.specs.Heads.{most_bytes};
 
 use io_base::{IoFault, Source};
 use std::alloc::{AllocError, Global};
@@ -63,7 +64,7 @@ impl Window {
     /// Takes one piece from the source, behind what waits, and answers its number of bytes: none where the source has
     /// ended. Where the source fails, what waits stays.
     pub fn fill<S: Source>(&mut self, source: &mut S) -> Result<usize, IoFault>
-        requires { length self.old < 65536 }
+        requires { length self.old < most_bytes }
         ensures filled { Fills result self.old self.new (S.left source.old) (S.left source.new) }
         ensures counted { CountsFault result (S.faults source.old) (S.faults source.new) }
     {
@@ -80,10 +81,10 @@ impl Window {
 fn settle(room: &mut Vec<u8>, start: usize, end: usize) -> usize
     requires ordered { start ≤ end }
     requires fits { end ≤ 131072 }
-    requires short { end < start + 65536 }
+    requires short { end < start + most_bytes }
     requires room { vec_len room.old ≡ 131072 }
     ensures room { vec_len room.new ≡ 131072 }
-    ensures fits { result + (end - start) ≤ 65536 }
+    ensures fits { result + (end - start) ≤ most_bytes }
     ensures same { slice_range room.new.items result (result + (end - start)) ≡ slice_range room.old.items start end }
 {
     if end <= PIECE {
@@ -95,7 +96,7 @@ fn settle(room: &mut Vec<u8>, start: usize, end: usize) -> usize
 
 /// Takes one piece into the room from `end` on.
 fn take_behind<S: Source>(room: &mut Vec<u8>, end: usize, source: &mut S) -> Result<usize, IoFault>
-    requires fits { end ≤ 65536 }
+    requires fits { end ≤ most_bytes }
     requires room { vec_len room.old ≡ 131072 }
     ensures room { vec_len room.new ≡ 131072 }
     ensures front { take end room.new.items ≡ take end room.old.items }

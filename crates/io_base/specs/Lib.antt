@@ -1,3 +1,4 @@
+pub mod Clock
 pub mod Count
 pub mod Door
 pub mod MemDoor

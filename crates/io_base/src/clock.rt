@@ -1,6 +1,7 @@
 //! What tells the time.
 
 ghost use Rattle.std.specs.Prelude.{◌≡◌, ◌<◌, ℕ, None, Some, Option, IfSome};
+ghost use Rattle.io_base.specs.Clock.{year_10000};
 
 use std::marker::Model;
 use std::time::Duration;
@@ -16,7 +17,7 @@ pub trait Clock {
 
     /// The moment now. It never fails.
     fn now(&self) -> u64
-        ensures range { result < MOMENT_LIMIT }
+        ensures range { result < year_10000 }
         ensures told { IfSome (moment self.now) (λ m. result ≡ m) };
 
     /// Waits for so many seconds, where the clock can. It changes nothing that a contract sees, and it returns; that it
@@ -32,13 +33,13 @@ pub struct MemClock {
 
 impl Model for MemClock {
     ghost use Rattle.std.specs.Prelude.{ℕ, ◌<◌};
-    ghost use Rattle.io_base.specs.declared.clock.TheConstants.{MOMENT_LIMIT};
+    ghost use Rattle.io_base.specs.Clock.{year_10000};
 
     ghost Value = { ℕ };
 
     ghost view = { λ c. c.moment };
 
-    ghost invariant = { λ c. c.moment < MOMENT_LIMIT };
+    ghost invariant = { λ c. c.moment < year_10000 };
 
     ghost inverse = { λ m. record { moment = m } };
 }
@@ -46,7 +47,7 @@ impl Model for MemClock {
 impl MemClock {
     /// A clock that stands at `now`, in Unix seconds.
     pub fn new(now: u64) -> MemClock
-        requires { now < MOMENT_LIMIT }
+        requires { now < year_10000 }
         ensures { result ≡ now }
     {
         MemClock { moment: now }
@@ -57,7 +58,7 @@ impl Clock for MemClock {
     ghost moment = { λ c. Some c };
 
     fn now(&self) -> u64
-        ensures range { result < MOMENT_LIMIT }
+        ensures range { result < year_10000 }
         ensures told { result ≡ self.now }
     {
         self.moment

@@ -4,6 +4,7 @@ use Rattle.std.specs.List.{AllByRecursion}
 use Rattle.field_reader.specs.Spelling.{IsBytes}
 use Rattle.manifest_file.specs.declared.manifest.Manifest.{Manifest}
 use Rattle.manifest_file.specs.declared.manifest.ManifestPart.{ManifestPart}
+use Rattle.manifest_file.specs.Limits.{most_parts, most_part_bytes}
 
 -- A name's length fits two bytes.
 abbrev pub IsName : List ℕ → Type 0
@@ -15,7 +16,7 @@ IsRoot root = (length root ≡ 32) × IsBytes root
 
 -- a part on so many drives: at most as long as S3 lets a PUT be, with a root for each drive
 pub record IsCanonicalPart (drives : ℕ) (part : ManifestPart) : Type 0 where
-  pub size : part.length ≤ 5368709120
+  pub size : part.length ≤ most_part_bytes
   pub counted : length part.roots ≡ drives
   pub roots : AllByRecursion IsRoot part.roots
 
@@ -26,5 +27,5 @@ pub record IsCanonical (manifest : Manifest) : Type 0 where
   pub drives : manifest.drives < 2 ^ 8
   pub parity : manifest.parity < 2 ^ 8
   pub some : 1 ≤ length manifest.parts
-  pub few : length manifest.parts ≤ 10000
+  pub few : length manifest.parts ≤ most_parts
   pub parts : AllByRecursion (IsCanonicalPart manifest.drives) manifest.parts

@@ -5,14 +5,15 @@ use Rattle.field_reader.specs.Format.{Format, ◌>>=◌, done, field, number, wi
 use Rattle.sealed_record.specs.Fields.{format_number, counted}
 use Rattle.stamp_id.specs.IdField.{id_field}
 use Rattle.manifest_file.specs.Rows.{PartRow, ManifestRow}
+use Rattle.manifest_file.specs.Limits.{most_parts, most_part_bytes}
 
 -- 1 to 10,000 parts
 abbrev pub is_count : ℕ → Bool
-is_count count = nat_lt 0 count && nat_le count 10000
+is_count count = nat_lt 0 count && nat_le count most_parts
 
 -- a part's length: at most 5 GiB
 abbrev pub is_length : ℕ → Bool
-is_length size = nat_le size 5368709120
+is_length size = nat_le size most_part_bytes
 
 -- the name of a register: a length of two bytes, and so many bytes
 abbrev pub name : Format (List ℕ)

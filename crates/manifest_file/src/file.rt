@@ -13,7 +13,7 @@ use crate::reading::take_manifest;
 use crate::writing::{put_manifest, spelling_size};
 use fault_base::NoMemory;
 use field_reader::{Fields, ReadFault};
-use seal_file::FileRead;
+use seal_file::RecordFault;
 use sealed_record::Record;
 use std::alloc::{AllocError, Global};
 
@@ -42,7 +42,7 @@ impl Record for Manifest {
 /// the kind and the digest: the start of the first field that breaks its rule, the number of the body's bytes where
 /// bytes are missing, or the first byte too many. The numbers of drives and of parity have no rule.
 #[tactic(auto, using(crate::proofs::LawProofs::manifest_lawful))]
-pub fn read(alloc: Global, bytes: &[u8]) -> Result<Manifest, FileRead>
+pub fn read(alloc: Global, bytes: &[u8]) -> Result<Manifest, RecordFault>
     // What is read is canonical and this is its file; what is refused is damaged, or its body has a fault there.
     ensures outcome { Reads manifest_kind manifest_table bytes.now result }
     // The file of a canonical manifest is read as that manifest.

@@ -3,7 +3,7 @@ ghost use Rattle.sealed_record.specs.Answers.{IsReadAs};
 ghost use Rattle.manifest_file.specs.Canonical.{IsCanonical};
 
 use super::*;
-use seal_file::{Damage, FileRead, seal};
+use seal_file::{Damage, RecordFault, seal};
 use stamp_id::{Ballot, ChangeId, VersionId};
 use std::alloc::{AllocError, Global};
 
@@ -94,7 +94,7 @@ fn joined(alloc: Global, fields: &[&[u8]]) -> Result<Vec<u8>, AllocError> {
 }
 
 /// What is read of this body under a right seal.
-fn read_body(alloc: Global, body: &[u8]) -> Result<Manifest, FileRead>
+fn read_body(alloc: Global, body: &[u8]) -> Result<Manifest, RecordFault>
     ensures { IfOk result (λ manifest. IsCanonical manifest) }
 {
     let file = seal(alloc, KIND, body)?;
@@ -102,7 +102,7 @@ fn read_body(alloc: Global, body: &[u8]) -> Result<Manifest, FileRead>
 }
 
 /// What is read of these fields under a right seal.
-fn read_fields(alloc: Global, fields: &[&[u8]]) -> Result<Manifest, FileRead>
+fn read_fields(alloc: Global, fields: &[&[u8]]) -> Result<Manifest, RecordFault>
     ensures { IfOk result (λ manifest. IsCanonical manifest) }
 {
     let body = joined(alloc, fields)?;
@@ -110,7 +110,7 @@ fn read_fields(alloc: Global, fields: &[&[u8]]) -> Result<Manifest, FileRead>
 }
 
 /// What is read of the file of a manifest, which is that manifest.
-fn again(alloc: Global, manifest: &Manifest) -> Result<Manifest, FileRead>
+fn again(alloc: Global, manifest: &Manifest) -> Result<Manifest, RecordFault>
     requires { IsCanonical manifest.now }
     ensures { IsReadAs manifest.now result }
 {
@@ -161,15 +161,15 @@ fn reads_what_was_written(rt: HostRuntime) {
 #[test]
 fn names_damage(rt: HostRuntime) {
     let short = read(rt.alloc(), &SMALLEST[..35]);
-    assert_eq!(rt; short.err(), Some(FileRead::Unsealed(Damage::Short(35))));
+    assert_eq!(rt; short.err(), Some(RecordFault::Unsealed(Damage::Short(35))));
     let register = seal(rt.alloc(), *b"OREG", &SMALLEST[4..]).expect(&rt, "there is memory");
     let other = read(rt.alloc(), register.as_slice());
     assert_eq!(rt;
         other.err(),
-        Some(FileRead::Unsealed(Damage::Kind(*b"OREG")))
+        Some(RecordFault::Unsealed(Damage::Kind(*b"OREG")))
     );
     let cut = read(rt.alloc(), &TWO_PARTS[1..]);
-    assert!(rt; matches!(cut, Err(FileRead::Unsealed(Damage::Digest { .. }))));
+    assert!(rt; matches!(cut, Err(RecordFault::Unsealed(Damage::Digest { .. }))));
 }
 
 #[test]
@@ -179,7 +179,7 @@ fn names_the_end_where_bytes_are_missing(rt: HostRuntime) {
         let answer = read_body(rt.alloc(), body.as_slice());
         assert_eq!(rt;
             answer.err(),
-            Some(FileRead::NotCanonical(body.len() as u64))
+            Some(RecordFault::NotCanonical(body.len() as u64))
         );
     }
 }
@@ -204,12 +204,17 @@ fn names_the_place_of_each_field(rt: HostRuntime) {
             *field = by;
         }
         let answer = read_fields(rt.alloc(), &fields);
-        assert_eq!(rt; answer.err(), Some(FileRead::NotCanonical(place)));
+        assert_eq!(rt; answer.err(), Some(RecordFault::NotCanonical(place)));
     }
 }
 
 /// What is read of a body with so many parts, of the longest length, each with these roots for so many drives.
-fn read_parts(alloc: Global, drives: u8, count: u16, roots: &[u8]) -> Result<Manifest, FileRead> {
+fn read_parts(
+    alloc: Global,
+    drives: u8,
+    count: u16,
+    roots: &[u8],
+) -> Result<Manifest, RecordFault> {
     let count_bytes = count.to_be_bytes();
     let head: [&[u8]; 5] = [&[1], &[0, 0], &[drives], &[255], count_bytes.as_slice()];
     let mut body = joined(alloc, &head)?;

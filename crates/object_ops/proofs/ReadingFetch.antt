@@ -17,8 +17,8 @@ use Rattle.drive_base.specs.declared.drive.Drive.{Ghosts}
 use Rattle.drive_base.specs.declared.plan.SetPlan.{SetPlan}
 use Rattle.get_read.specs.Account.{Account}
 use Rattle.get_read.specs.Readers.{AnswersBy, AreCalls, AreOfState, IsAccountOf, IsRefusedIn, Told, all_calls, given_after, told_after, turns}
-use Rattle.get_read.specs.declared.faults.ReadFaultKind.{ReadFaultKind}
-use Rattle.get_read.specs.declared.faults.ReadFaultKind.TheVariants.{ShardQuorum}
+use Rattle.get_read.specs.declared.faults.BodyFault.{BodyFault}
+use Rattle.get_read.specs.declared.faults.BodyFault.TheVariants.{ShardQuorum}
 use Rattle.get_read.specs.declared.reader.ReadStep.{ReadStep}
 use Rattle.get_read.specs.declared.reader.ReadStep.TheVariants.{Done, More, Piece}
 use Rattle.get_read.specs.declared.state.Asked.{Asked}
@@ -224,7 +224,7 @@ module _ (set : SetPlan) (at : Key) (pick : Pick) (ask : RangeAsk) (now : ℕ) w
     }
 
     -- how far the op is then, by what the reader answered
-    stands_so : (answer : Result ReadStep ReadFaultKind) (stepped : Stepped) (told : Told) (later : Log) (pin : Option Pin) (claim : Claim) → IsStepped answer stepped
+    stands_so : (answer : Result ReadStep BodyFault) (stepped : Stepped) (told : Told) (later : Log) (pin : Option Pin) (claim : Claim) → IsStepped answer stepped
         → HasRead new told (given_after answer new.reader.piece.items x.given) x.given later
         → AnswersBy answer new.reader.asked new.reader.state new.reader.piece.items told (given_after answer new.reader.piece.items x.given)
         → (answer ≡ Ok Piece → told.since ≡ []) → HasPin (key_slot at) pin claim
@@ -242,13 +242,13 @@ module _ (set : SetPlan) (at : Key) (pick : Pick) (ask : RangeAsk) (now : ℕ) w
     stands_so (Err fault) Gives told later pin claim is r answers turned has = absurd is
     stands_so (Err fault) (Refused whys) told later pin claim is r answers turned has =
         few new told later whys x.given pin claim new.told r refl
-        (subst (λ (f : ReadFaultKind). IsRefusedIn new.reader.asked f told (length x.given)) is answers) has
+        (subst (λ (f : BodyFault). IsRefusedIn new.reader.asked f told (length x.given)) is answers) has
     stands_so (Err fault) LacksMemory told later pin claim is r answers turned has = (has, lacks new told later x.given r)
 
 -- a reader turns where it gives a piece
-turned_so : (answer : Result ReadStep ReadFaultKind) (old new : State) (told : Told) (calls : Account) → answer ≡ Ok Piece
+turned_so : (answer : Result ReadStep BodyFault) (old new : State) (told : Told) (calls : Account) → answer ≡ Ok Piece
     → (told_after (turns answer old new) told calls).since ≡ []
-turned_so answer old new told calls is = subst (λ (a : Result ReadStep ReadFaultKind). (told_after (turns a old new) told calls).since ≡ []) (sym is) refl
+turned_so answer old new told calls is = subst (λ (a : Result ReadStep BodyFault). (told_after (turns a old new) told calls).since ≡ []) (sym is) refl
 
 module _ {D : Type 0} (ghosts : Ghosts D) (set : SetPlan) (at : Key) (pick : Pick) (ask : RangeAsk) (now : ℕ) where
   -- one step of a reading

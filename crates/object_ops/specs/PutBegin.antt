@@ -1,7 +1,7 @@
 -- A PutObject that has done nothing yet.
 use Rattle.std.specs.Prelude.{◌≡◌, ◌≤◌, ℕ, List, Option, length}
 use Rattle.call_types.specs.declared.names.Key.{Key}
-use Rattle.desk_base.specs.Calls.{IsKey, most_body}
+use Rattle.desk_base.specs.Calls.{IsKey, most_body, longest_kind}
 use Rattle.desk_base.specs.declared.call.Call.{Call}
 use Rattle.desk_base.specs.declared.call.Call.TheVariants.{ListBuckets, CreateBucket, HeadBucket, GetVersioning, PutVersioning, Put, Get, Head, Delete, List2, ListVersions, Create, Part, Complete, Abort}
 use Rattle.drive_base.specs.declared.plan.SetPlan.{SetPlan}
@@ -16,7 +16,7 @@ IsPut (CreateBucket bucket) = ⊥
 IsPut (HeadBucket bucket) = ⊥
 IsPut (GetVersioning bucket) = ⊥
 IsPut (PutVersioning bucket long) = ⊥
-IsPut (Put at kind md5 long) = IsKey at × (length kind ≤ 255) × (long ≤ most_body)
+IsPut (Put at kind md5 long) = IsKey at × (length kind ≤ longest_kind) × (long ≤ most_body)
 IsPut (Get at pick ask) = ⊥
 IsPut (Head at pick) = ⊥
 IsPut (Delete at pick) = ⊥

@@ -4,8 +4,8 @@ use Rattle.desk_base.specs.Telling.{Telling}
 use Rattle.desk_base.specs.Telling.Telling.{Head as TheHead, Piece as PieceTold}
 use Rattle.drive_base.specs.declared.drive.Drive.{Ghosts}
 use Rattle.get_read.specs.Readers.{Steps}
-use Rattle.get_read.specs.declared.faults.ReadFaultKind.{ReadFaultKind}
-use Rattle.get_read.specs.declared.faults.ReadFaultKind.TheVariants.{ShardQuorum}
+use Rattle.get_read.specs.declared.faults.BodyFault.{BodyFault}
+use Rattle.get_read.specs.declared.faults.BodyFault.TheVariants.{ShardQuorum}
 use Rattle.get_read.specs.declared.reader.ReadStep.{ReadStep}
 use Rattle.get_read.specs.declared.reader.ReadStep.TheVariants.{Done, More, Piece}
 use Rattle.object_ops.specs.declared.reading.Reading.{Reading}
@@ -28,7 +28,7 @@ StepsFall (Refused whys) old new = Unit {0}
 StepsFall LacksMemory old new = Unit {0}
 
 -- what it did by what its reader answered
-abbrev pub IsStepped : Result ReadStep ReadFaultKind → Stepped → Type 0
+abbrev pub IsStepped : Result ReadStep BodyFault → Stepped → Type 0
 IsStepped (Ok More) stepped = stepped ≡ Goes
 IsStepped (Ok Piece) stepped = stepped ≡ Gives
 IsStepped (Ok Done) stepped = stepped ≡ Goes
@@ -41,7 +41,7 @@ module _ {D : Type 0} (ghosts : Ghosts D) where
   -- its reader stepped, or for want of memory nothing was done
   abbrev pub ReadsSo : Reading → Reading → Stepped → List D → List D → Type 0
   ReadsSo old new stepped before after = ((stepped ≡ LacksMemory) × (after ≡ before))
-      ⊎ ((answer : Result ReadStep ReadFaultKind) × Steps ghosts old.reader new.reader answer before after × IsStepped answer stepped)
+      ⊎ ((answer : Result ReadStep BodyFault) × Steps ghosts old.reader new.reader answer before after × IsStepped answer stepped)
 
 -- what is told next: the head, or then the piece that is at hand
 abbrev pub next_telling : Reading → Telling

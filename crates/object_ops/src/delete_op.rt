@@ -5,6 +5,7 @@ ghost use Rattle.slot_history.specs.Names.{bucket_name, key_name, key_slot};
 ghost use Rattle.version_list.specs.State.{IsMoment};
 ghost use Rattle.object_ops.specs.Clearing.{files_left};
 ghost use Rattle.object_ops.specs.Removing.{AreDue};
+ghost use Rattle.drive_base.specs.declared.drive.TheConstants.{LONGEST_NAME};
 
 use crate::clearing::Clearing;
 use crate::delete_state::DeleteState;
@@ -30,10 +31,10 @@ pub struct DeleteOp {
     /// What is left of the trash.
     pub(crate) clearing: Clearing,
     pub ghost named: { string_bytes name ≡ bucket_name at.bucket },
-    pub ghost short: { length (string_bytes name) ≤ 1129 },
+    pub ghost short: { length (string_bytes name) ≤ LONGEST_NAME },
     pub ghost bucket_text: { ∥ IsUtf8 at.bucket ∥₁ },
     pub ghost key_text: { ∥ IsUtf8 at.key ∥₁ },
-    pub ghost key_short: { length (key_name at) ≤ 1129 },
+    pub ghost key_short: { length (key_name at) ≤ LONGEST_NAME },
     pub ghost moment: { IsMoment now },
     pub ghost due: { AreDue set (key_slot at) (files_left clearing) },
 }

@@ -3,6 +3,7 @@
 ghost use Rattle.std.specs.Prelude.{◌≡◌, ◌≤◌, IfOk, IsUtf8, length};
 ghost use Rattle.slot_history.specs.Names.{key_name};
 ghost use Rattle.object_ops.specs.Deletes.{AfterCommit, AfterLook, barred_state, delete_deed};
+ghost use Rattle.drive_base.specs.declared.drive.TheConstants.{LONGEST_NAME};
 
 use crate::delete_state::DeleteState;
 use crate::deletion::Deletion;
@@ -18,7 +19,7 @@ use std::alloc::Global;
 fn deletion(alloc: Global, at: &Key, mode: Mode, pick: Pick) -> Result<Deletion, NoMemory>
     requires bucket { IsUtf8 at.now.bucket }
     requires key { IsUtf8 at.now.key }
-    requires short { length (key_name at.now) ≤ 1129 }
+    requires short { length (key_name at.now) ≤ LONGEST_NAME }
     ensures { IfOk result (λ deletion. deletion.commit ≡ delete_deed at.now pick mode) }
 {
     let key = at.clone()?;
@@ -34,7 +35,7 @@ fn deletion(alloc: Global, at: &Key, mode: Mode, pick: Pick) -> Result<Deletion,
 pub(crate) fn after_look(alloc: Global, at: &Key, pick: Pick, looked: Looked) -> DeleteState
     requires bucket { IsUtf8 at.now.bucket }
     requires key { IsUtf8 at.now.key }
-    requires short { length (key_name at.now) ≤ 1129 }
+    requires short { length (key_name at.now) ≤ LONGEST_NAME }
     ensures { AfterLook at.now pick looked result }
 {
     match looked {

@@ -3,6 +3,7 @@
 ghost use Rattle.std.specs.Prelude.{◌≡◌, ◌≤◌, IsUtf8, length, true};
 ghost use Rattle.slot_core.specs.Committing.{name_of};
 ghost use Rattle.object_ops.specs.Deletions.{bucket_in, is_deletion, key_in};
+ghost use Rattle.drive_base.specs.declared.drive.TheConstants.{LONGEST_NAME};
 
 use slot_core::Commit;
 
@@ -14,5 +15,5 @@ pub struct Deletion {
     pub ghost deletes: { is_deletion commit ≡ true },
     pub ghost bucket_text: { ∥ IsUtf8 (bucket_in commit) ∥₁ },
     pub ghost key_text: { ∥ IsUtf8 (key_in commit) ∥₁ },
-    pub ghost short: { length (name_of commit) ≤ 1129 },
+    pub ghost short: { length (name_of commit) ≤ LONGEST_NAME },
 }

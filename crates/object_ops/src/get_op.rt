@@ -4,6 +4,7 @@ ghost use Rattle.std.specs.Prelude.{◌≡◌, ◌≤◌, IsUtf8, false, length,
 ghost use Rattle.slot_history.specs.Names.{bucket_name, key_name};
 ghost use Rattle.object_ops.specs.Get.{lacks_pin};
 ghost use Rattle.object_ops.specs.ReadingPlan.{drives_of};
+ghost use Rattle.drive_base.specs.declared.drive.TheConstants.{LONGEST_NAME};
 
 use crate::get_state::GetState;
 use crate::reading::Reading;
@@ -36,8 +37,8 @@ pub struct GetOp {
     pub ghost named: { string_bytes name ≡ bucket_name at.bucket },
     pub ghost held: { lacks_pin state pin ≡ false },
     pub ghost same_drives: { drives_of set reading ≡ set.drives },
-    pub ghost short: { length (string_bytes name) ≤ 1129 },
+    pub ghost short: { length (string_bytes name) ≤ LONGEST_NAME },
     pub ghost bucket_text: { ∥ IsUtf8 at.bucket ∥₁ },
     pub ghost key_text: { ∥ IsUtf8 at.key ∥₁ },
-    pub ghost key_short: { length (key_name at) ≤ 1129 },
+    pub ghost key_short: { length (key_name at) ≤ LONGEST_NAME },
 }

@@ -16,6 +16,7 @@ ghost use Rattle.object_ops.specs.declared.get_state.GetState.TheVariants as sta
 use crate::get_op::GetOp;
 use crate::get_state::GetState;
 use crate::looking::{Looked, look_at_bucket};
+use crate::pins::pin_out;
 use crate::reading::Reading;
 use crate::reading_plan::{Planned, planned_of};
 use crate::reading_start::{Started, started_of};
@@ -84,13 +85,6 @@ fn begun_of(alloc: Global, set: &SetPlan, ask: &RangeAsk, started: Started) -> B
             reading: None,
         },
     }
-}
-
-/// Takes the pin out.
-fn pin_out(pin: &mut Option<Pin>) -> Option<Pin>
-    ensures { result ≡ pin.old }
-{
-    pin.take()
 }
 
 impl GetOp {

@@ -14,6 +14,7 @@ ghost use Rattle.object_ops.specs.declared.head_state.HeadState.TheVariants as s
 use crate::head_op::HeadOp;
 use crate::head_state::HeadState;
 use crate::looking::{Looked, look_at_bucket};
+use crate::pins::pin_out;
 use crate::reading_start::{Started, length_of, started_of};
 use crate::telling::tell_head;
 use audit_trail::Audit;
@@ -87,13 +88,6 @@ fn ending_of(pin: &Option<Pin>, cut: Option<Cut>) -> HeadState
     }
 }
 
-/// Takes the pin out.
-fn taken(pin: &mut Option<Pin>) -> Option<Pin>
-    ensures { result ≡ pin.old }
-{
-    pin.take()
-}
-
 impl HeadOp {
     /// Looks at the bucket.
     fn look<D: Drive, A: Audit>(
@@ -159,7 +153,7 @@ impl HeadOp {
             (slot_seen A.entries A.count slot.old) (slot_seen A.entries A.count slot.new) disks disks }
     {
         self.state = HeadState::Over(cut);
-        match taken(&mut self.pin) {
+        match pin_out(&mut self.pin) {
             Some(pin) => slot.end_read(pin).stub,
             None => None,
         }

@@ -3,6 +3,7 @@
 ghost use Rattle.std.specs.Prelude.{◌≡◌, ◌≤◌, IsUtf8, false, length, string_bytes};
 ghost use Rattle.slot_history.specs.Names.{bucket_name, key_name};
 ghost use Rattle.object_ops.specs.Head.{lacks_pin};
+ghost use Rattle.drive_base.specs.declared.drive.TheConstants.{LONGEST_NAME};
 
 use crate::head_state::HeadState;
 use call_types::{Key, Pick};
@@ -28,8 +29,8 @@ pub struct HeadOp {
     pub(crate) pin: Option<Pin>,
     pub ghost named: { string_bytes name ≡ bucket_name at.bucket },
     pub ghost held: { lacks_pin state pin ≡ false },
-    pub ghost short: { length (string_bytes name) ≤ 1129 },
+    pub ghost short: { length (string_bytes name) ≤ LONGEST_NAME },
     pub ghost bucket_text: { ∥ IsUtf8 at.bucket ∥₁ },
     pub ghost key_text: { ∥ IsUtf8 at.key ∥₁ },
-    pub ghost key_short: { length (key_name at) ≤ 1129 },
+    pub ghost key_short: { length (key_name at) ≤ LONGEST_NAME },
 }

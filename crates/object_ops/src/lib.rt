@@ -26,6 +26,7 @@ mod head_begin;
 mod head_op;
 mod head_state;
 mod looking;
+mod pins;
 mod put;
 mod put_begin;
 mod put_feeding;

@@ -7,6 +7,7 @@ ghost use Rattle.slot_core.specs.Numbers.{NumbersMove};
 ghost use Rattle.slot_core.specs.Views.{numbers_of};
 ghost use Rattle.op_steps.specs.Store.{slot_seen};
 ghost use Rattle.object_ops.specs.Looking.{LooksSo, ShowsLook};
+ghost use Rattle.drive_base.specs.declared.drive.TheConstants.{LONGEST_NAME};
 
 use audit_trail::Audit;
 use bucket_book::read;
@@ -47,7 +48,7 @@ pub(crate) fn look_at_bucket<D: Drive, A: Audit>(
     requires turns { (numbers_of slot.old).turns + 1 < 2 ^ 64 }
     requires disks { length disks.old ≡ (numbers_of slot.old).set.drives }
     requires named { (bucket : List ℕ) × (name.now ≡ bucket_name bucket) }
-    requires short { length name.now ≤ 1129 }
+    requires short { length name.now ≤ LONGEST_NAME }
     ensures disks { length disks.new ≡ length disks.old }
     ensures numbers { NumbersMove (numbers_of slot.old) (numbers_of slot.new) }
     ensures looks { LooksSo D.Drive name.now (slot_seen A.entries A.count slot.old) (slot_seen A.entries A.count slot.new) result

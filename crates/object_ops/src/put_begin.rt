@@ -1,7 +1,7 @@
 //! How the op of a PutObject begins.
 
 ghost use Rattle.std.specs.Prelude.{◌≡◌, ◌<◌, ◌≤◌, ℕ, [], IfOk, length};
-ghost use Rattle.desk_base.specs.Calls.{IsKey};
+ghost use Rattle.desk_base.specs.Calls.{IsKey, longest_kind, most_body};
 ghost use Rattle.version_list.specs.State.{IsMoment};
 ghost use Rattle.op_steps.specs.Claims.{no_claim};
 ghost use Rattle.object_ops.specs.PutBegin.{IsNewPut, IsPut};
@@ -50,8 +50,8 @@ impl PutOp {
         now: u64,
     ) -> Result<PutOp, NoMemory>
         requires key { IsKey at.now }
-        requires kind { length kind.now ≤ 255 }
-        requires few { long ≤ 5368709120 }
+        requires kind { length kind.now ≤ longest_kind }
+        requires few { long ≤ most_body }
         requires moment { IsMoment now }
         ensures { IfOk result (IsNewPut set at.now kind.now md5 long now) }
     {

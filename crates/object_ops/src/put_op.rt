@@ -6,6 +6,8 @@ ghost use Rattle.version_list.specs.State.{IsMoment};
 ghost use Rattle.object_ops.specs.Clearing.{files_left};
 ghost use Rattle.object_ops.specs.Put.{drives_by, long_by, reach_by};
 ghost use Rattle.object_ops.specs.Removing.{AreDue};
+ghost use Rattle.drive_base.specs.declared.drive.TheConstants.{LONGEST_NAME};
+ghost use Rattle.desk_base.specs.Calls.{most_body, longest_kind};
 
 use crate::clearing::Clearing;
 use crate::put_state::PutState;
@@ -41,12 +43,12 @@ pub struct PutOp {
     pub(crate) clearing: Clearing,
     pub ghost named: { string_bytes name ≡ bucket_name at.bucket },
     pub ghost registered: { string_bytes register ≡ key_name at },
-    pub ghost short: { length (string_bytes name) ≤ 1129 },
+    pub ghost short: { length (string_bytes name) ≤ LONGEST_NAME },
     pub ghost bucket_text: { ∥ IsUtf8 at.bucket ∥₁ },
     pub ghost key_text: { ∥ IsUtf8 at.key ∥₁ },
-    pub ghost key_short: { length (key_name at) ≤ 1129 },
-    pub ghost kind_short: { length kind ≤ 255 },
-    pub ghost few: { long ≤ 5368709120 },
+    pub ghost key_short: { length (key_name at) ≤ LONGEST_NAME },
+    pub ghost kind_short: { length kind ≤ longest_kind },
+    pub ghost few: { long ≤ most_body },
     pub ghost moment: { IsMoment now },
     pub ghost counted: { long_by long read state ≡ long },
     pub ghost reached: { reach_by read state ≤ long },

@@ -8,6 +8,7 @@ ghost use Rattle.object_ops.specs.PutStands.{IsSamePut, PutStands, left_of};
 ghost use Rattle.object_ops.specs.PutWork.{BeginsTo, BeginsWork, IsWorkOf, StepsWork};
 ghost use Rattle.object_ops.specs.declared.put_state.PutState.TheVariants as state;
 ghost use Rattle.object_ops.specs.declared.put_work.Work.{Work as WorkSpec};
+ghost use Rattle.desk_base.specs.Calls.{most_body};
 
 use crate::put_op::PutOp;
 use crate::put_state::PutState;
@@ -58,7 +59,7 @@ fn staged(
     mode: Mode,
     flight: Flight,
 ) -> PutState
-    requires few { long ≤ 5368709120 }
+    requires few { long ≤ most_body }
     requires short { length register.now < 2 ^ 16 }
     ensures { BeginsWork set register.now long md5 mode flight result }
 {
@@ -78,7 +79,7 @@ pub(crate) fn begun(
     mode: Mode,
     answer: Result<Flight, SlotFault>,
 ) -> PutState
-    requires few { long ≤ 5368709120 }
+    requires few { long ≤ most_body }
     requires short { length register.now < 2 ^ 16 }
     ensures { BeginsTo set register.now long md5 mode answer result }
 {

@@ -11,7 +11,7 @@ use crate::telling::tell_head;
 use call_types::{Cut, Reply, Span, Whys};
 use desk_base::Teller;
 use drive_base::Drive;
-use get_read::{ReadFaultKind, ReadStep, Reader};
+use get_read::{BodyFault, ReadStep, Reader};
 use std::alloc::Global;
 
 /// The reading of a span of a version's body.
@@ -45,16 +45,16 @@ pub(crate) enum Stepped {
 }
 
 /// What a reader's step is to a reading.
-fn stepped_of(answer: &Result<ReadStep, ReadFaultKind>) -> Stepped
+fn stepped_of(answer: &Result<ReadStep, BodyFault>) -> Stepped
     ensures { IsStepped answer.now result }
 {
     match answer {
         Ok(ReadStep::Piece) => Stepped::Gives,
         Ok(ReadStep::More) => Stepped::Goes,
         Ok(ReadStep::Done) => Stepped::Goes,
-        Err(ReadFaultKind::ShardQuorum(whys)) => Stepped::Refused(*whys),
-        Err(ReadFaultKind::InvalidRange(_)) => Stepped::LacksMemory,
-        Err(ReadFaultKind::NoMemory) => Stepped::LacksMemory,
+        Err(BodyFault::ShardQuorum(whys)) => Stepped::Refused(*whys),
+        Err(BodyFault::InvalidRange(_)) => Stepped::LacksMemory,
+        Err(BodyFault::NoMemory) => Stepped::LacksMemory,
     }
 }
 

@@ -31,7 +31,7 @@ pub fn coded_window(alloc: Global, set: &SetPlan, bytes: Vec<u8>) -> Result<Wind
 
 /// Codes a stripe: its bytes are filled up with zeros to the data blocks, and the parity is made behind them.
 fn coded(alloc: Global, set: &SetPlan, stripe: Vec<u8>) -> Result<Stripe, AllocError>
-    requires { length stripe.items ≤ 1048576 }
+    requires { length stripe.items ≤ stripe_size }
     ensures { IfOk result (λ coded. IsCoded set.now.drives (data_drives set.now.drives set.now.parity) stripe.items coded) }
 {
     let size = block_len(set, stripe.len() as u64) as usize;

@@ -13,6 +13,7 @@ ghost use Rattle.put_stage.specs.Finishing.{IsOfManifest};
 ghost use Rattle.put_stage.specs.Taking.{IsMadeOf};
 ghost use Rattle.md5.specs.Md5.{md5};
 ghost use Rattle.sha2.specs.Sha256.{sha256};
+ghost use Rattle.manifest_file.specs.Limits.{most_part_bytes};
 
 use crate::dues::Due;
 use crate::manifests::{manifest_of, total_size};
@@ -39,7 +40,7 @@ impl Stage {
         size: u64,
         md5: Option<[u8; 16]>,
     ) -> Result<Stage, NoMemory>
-        requires few { size ≤ 5368709120 }
+        requires few { size ≤ most_part_bytes }
         requires name { length name.now < 2 ^ 16 }
         ensures { IfOk result (λ stage. BeginsBody set id name.now size md5 stage) }
     {
@@ -104,7 +105,7 @@ fn load_of_body(
     size: u64,
     md5: Option<[u8; 16]>,
 ) -> Result<Load, NoMemory>
-    requires few { size ≤ 5368709120 }
+    requires few { size ≤ most_part_bytes }
     requires name { length name.now < 2 ^ 16 }
     ensures { IfOk result (λ load. IsFirstLoad set id name.now size md5 load) }
 {

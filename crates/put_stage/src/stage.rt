@@ -4,6 +4,7 @@ ghost use Rattle.std.specs.Prelude.{◌≡◌, ◌+◌, ◌*◌, ◌<◌, ◌≤
 ghost use Rattle.std.specs.Int.{IsBitSet};
 ghost use Rattle.call_types.specs.Good.{is_good};
 ghost use Rattle.call_types.specs.declared.why.Why.TheVariants.{Good};
+ghost use Rattle.manifest_file.specs.Limits.{most_part_bytes};
 
 use crate::dues::Due;
 use crate::names::Names;
@@ -50,7 +51,7 @@ pub struct Load {
     pub made: Made,
     pub ghost tables_of_all: { length tables.items ≡ set.drives },
     pub ghost blocks_of_all: { length window.blocks.items ≡ window.size * set.drives },
-    pub ghost few: { alone ≡ false → long ≤ 5368709120 },
+    pub ghost few: { alone ≡ false → long ≤ most_part_bytes },
     pub ghost none_left: { alone ≡ true → left ≡ 0 },
     pub ghost short_name: { length (string_bytes name) < 2 ^ 16 },
 }

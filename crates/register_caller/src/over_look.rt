@@ -14,6 +14,7 @@ ghost use Rattle.register_core.specs.OnLanes.{AllTell, AreUnused};
 ghost use Rattle.register_core.specs.Serving.{AllServe};
 ghost use Rattle.register_caller.specs.Putting.{IsNotRefused, PutsOnSeen};
 ghost use Rattle.register_caller.specs.Steps.{GoesOn};
+ghost use Rattle.drive_base.specs.declared.drive.TheConstants.{LONGEST_NAME};
 
 use crate::changes::{Numbers, draft_both, draft_own};
 use crate::place::Place;
@@ -36,7 +37,7 @@ pub(crate) fn put_settled<D: Drive>(
     count: &mut u64,
 ) -> Result<Whys, PutFault>
     requires lanes { length lanes.old ≡ looked.now.set.drives }
-    requires named { string_len looked.now.name ≤ 1129 }
+    requires named { string_len looked.now.name ≤ LONGEST_NAME }
     requires room { count.old + 2 * looked.now.set.drives < 2 ^ 64 }
     requires settled { looked.now.pending ≡ None }
     requires base { IsContent looked.now.base.content }
@@ -77,7 +78,7 @@ pub(crate) fn put_over_pending<D: Drive>(
 ) -> Result<Whys, PutFault>
     requires lanes { length lanes.old ≡ looked.now.set.drives }
     requires letters { length looked.now.whys ≡ looked.now.set.drives }
-    requires named { string_len looked.now.name ≤ 1129 }
+    requires named { string_len looked.now.name ≤ LONGEST_NAME }
     requires room { count.old + 4 * looked.now.set.drives < 2 ^ 64 }
     requires pending { (found : Next) × (looked.now.pending ≡ Some found) }
     requires on { map is_good looked.now.whys ≡ map is_good_row looked.now.rows.items }

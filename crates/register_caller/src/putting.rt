@@ -12,6 +12,7 @@ ghost use Rattle.register_core.specs.OnLanes.{AllTell, AreHonest, AreLanes, AreU
 ghost use Rattle.register_core.specs.Serving.{AllServe};
 ghost use Rattle.register_caller.specs.Putting.{AreDrawn, IsNotRefused, Puts};
 ghost use Rattle.register_caller.specs.Steps.{FilesStay, PutCalls};
+ghost use Rattle.drive_base.specs.declared.drive.TheConstants.{LONGEST_NAME};
 
 use crate::changes::Numbers;
 use crate::over_look::{put_over_pending, put_settled};
@@ -47,7 +48,7 @@ pub fn put<D: Drive, R: ContentRule>(
 ) -> Result<Whys, PutFault>
     requires lanes { length lanes.old ≡ at.now.set.drives }
     requires disks { length disks.old ≡ at.now.set.drives }
-    requires named { length at.now.name.now ≤ 1129 }
+    requires named { length at.now.name.now ≤ LONGEST_NAME }
     requires room { count.old + 4 * at.now.set.drives < 2 ^ 64 }
     requires content { IsContent content.now }
     requires within { length content.now ≤ R.most_bytes rule.old }

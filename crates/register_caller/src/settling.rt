@@ -17,6 +17,7 @@ ghost use Rattle.register_core.specs.OnLanes.{AllTell, AreHonest, AreLanes, AreU
 ghost use Rattle.register_core.specs.Serving.{AllServe};
 ghost use Rattle.register_caller.specs.Settling.{AllShow, SettleCalls, Settles, SettlesOn, SettlesOnSeen, WritesAreTaken};
 ghost use Rattle.register_caller.specs.Steps.{FilesStay};
+ghost use Rattle.drive_base.specs.declared.drive.TheConstants.{LONGEST_NAME};
 
 use crate::changes::draft_again;
 use crate::place::Place;
@@ -44,7 +45,7 @@ pub fn settle<D: Drive, R: ContentRule>(
 ) -> Result<Base, QuorumFault>
     requires lanes { length lanes.old ≡ at.now.set.drives }
     requires disks { length disks.old ≡ at.now.set.drives }
-    requires named { length at.now.name.now ≤ 1129 }
+    requires named { length at.now.name.now ≤ LONGEST_NAME }
     requires room { count.old + 2 * at.now.set.drives < 2 ^ 64 }
     ensures settles { (recorded : List Lane) (last c : ℕ) (content : List ℕ) → AllTell D.tells at.now.out lanes.old → AreHonest D.files at.now.out at.now.name.now lanes.old
         → AreUnused D.files at.now.out at.now.term count.old lanes.old → AreLanes D.files at.now.out at.now.name.now lanes.old recorded
@@ -92,7 +93,7 @@ fn complete<D: Drive>(
 ) -> Result<Base, QuorumFault>
     requires lanes { length lanes.old ≡ looked.now.set.drives }
     requires letters { length looked.now.whys ≡ looked.now.set.drives }
-    requires named { string_len looked.now.name ≤ 1129 }
+    requires named { string_len looked.now.name ≤ LONGEST_NAME }
     requires room { count.old + 2 * looked.now.set.drives < 2 ^ 64 }
     requires pending { (found : Next) × (looked.now.pending ≡ Some found) }
     requires on { map is_good looked.now.whys ≡ map is_good_row looked.now.rows.items }

@@ -13,6 +13,7 @@ ghost use Rattle.register_core.specs.OnLanes.{AllTell, AreLanes, AreUnused};
 ghost use Rattle.register_core.specs.Serving.{AllServe};
 ghost use Rattle.register_caller.specs.Calling.{WroteBoth};
 ghost use Rattle.register_caller.specs.Steps.{WritesBoth};
+ghost use Rattle.drive_base.specs.declared.drive.TheConstants.{LONGEST_NAME};
 
 use call_types::Whys;
 use drive_base::{Drive, DriveSet};
@@ -31,7 +32,7 @@ pub fn write_both<D: Drive>(
 ) -> Result<Whys, QuorumFault>
     requires drives { length lanes.old ≡ draft.old.set.drives }
     requires letters { length draft.old.letters ≡ draft.old.set.drives }
-    requires named { string_len draft.old.name ≤ 1129 }
+    requires named { string_len draft.old.name ≤ LONGEST_NAME }
     requires room { count.old + 2 * draft.old.set.drives < 2 ^ 64 }
     ensures wrote { (base : Base) (next : Next) (recorded : List Lane) → IsDraftOf draft.old base next → AllTell D.tells out lanes.old
         → AreUnused D.files out term count.old lanes.old → AreLanes D.files out (string_bytes draft.old.name) lanes.old recorded

@@ -1,23 +1,11 @@
 -- What holds of each lane after one of them was called.
-use Rattle.std.proofs.Common.{◌≡◌, ℕ, ◌+◌, ◌<◌, ◌≤◌, ◌∙◌, List, length, slice_index_or, set, subst, sym, get_or-set_other, get_or-set_same, inl, inr, arith}
+use Rattle.std.proofs.Common.{ℕ, ◌+◌, ◌<◌, List, length, slice_index_or, set, subst, sym, get_or-set_other, get_or-set_same, inl, inr, arith}
 use Rattle.std.proofs.lemmas.Bool.{cases_eq}
-use Rattle.std.proofs.lemmas.Grind.{get_or-set_at}
-use Rattle.std.proofs.lemmas.List.{length-set}
 use Rattle.call_types.specs.declared.why.FileKind.TheVariants.{Format}
 use Rattle.call_types.specs.declared.why.Why.{Why}
 use Rattle.call_types.specs.declared.why.Why.TheVariants.{Good, Lacks}
+use Rattle.file_access.proofs.EachLemmas.{AreGoodFrom}
 use Rattle.register_core.specs.Loops.{letter_at}
-
--- one drive stands in the relation of its index to what it was, and the others do
-pub set_each : (D : Type 0) (R : ℕ → D → D → Type 0) (old now : List D) (i : ℕ) (x : D) → i < length now
-    → ((d : D) → R i (slice_index_or old i d) x)
-    → ((k : ℕ) (d : D) → R k (slice_index_or old k d) (slice_index_or now k d))
-    → (k : ℕ) (d : D) → R k (slice_index_or old k d) (slice_index_or (set now i x) k d)
-set_each D R old now i x low one others k d = elim (cases_eq k i) [
-  | inl same ↦ subst (λ (v : D). R k (slice_index_or old k d) v) (sym (get_or-set_at now i k x d same low))
-      (subst (λ (m : ℕ). R m (slice_index_or old m d) x) (sym same) (one d))
-  | inr other ↦ subst (λ (v : D). R k (slice_index_or old k d) v) (sym (get_or-set_other now i k x d other)) (others k d)
-]
 
 -- a drive that was called has its letter, and those before it have theirs
 pub letters_more : (D : Type 0) (P : ℕ → Why → D → D → Type 0) (whys : List Why) (old now : List D) (i : ℕ) (why : Why) (x : D)
@@ -35,10 +23,6 @@ letters_more D P whys old now i why x low inside one before k d below = elim (ca
       (before k d (omega arith)))
 ]
 
--- the letters from a place on are good
-abbrev pub AreGoodFrom : ℕ → List Why → Type 0
-AreGoodFrom i whys = (k : ℕ) → i ≤ k → k < length whys → letter_at whys k ≡ Good
-
 -- a drive that was called keeps a good letter, and those before it have theirs
 pub letters_same : (D : Type 0) (P : ℕ → Why → D → D → Type 0) (whys : List Why) (old now : List D) (i : ℕ) (x : D)
     → i < length whys → i < length now → AreGoodFrom i whys
@@ -53,9 +37,3 @@ letters_same D P whys old now i x low inside good one before k d below = elim (c
   | inr other ↦ subst (λ (y : D). P k (letter_at whys k) (slice_index_or old k d) y) (sym (get_or-set_other now i k x d other))
       (before k d (omega arith))
 ]
-
--- the letters from the next place on stay good
-pub good_after : (whys : List Why) (i : ℕ) (why : Why) → AreGoodFrom i whys → AreGoodFrom (i + 1) (set whys i why)
-good_after whys i why good k from low =
-    get_or-set_other whys i k why (Lacks Format) (omega arith)
-    ∙ good k (omega arith) (omega (arith, length-set whys i why))

@@ -1,12 +1,15 @@
 -- Loose names: their text, and that those of one term and different numbers differ.
-use Rattle.std.proofs.Common.{◌≡◌, ◌≢◌, ℕ, zero, suc, ◌^◌, ◌<◌, Bool, true, false, List, ◌∷◌, [], ◌++◌, length, drop, take, Result, Ok, refl, sym, ap, ◌∙◌, arith, lit<, codes}
+use Rattle.std.proofs.Common.{◌≡◌, ◌≢◌, ℕ, zero, suc, ◌^◌, ◌<◌, Bool, true, false, List, ◌∷◌, [], ◌++◌, length, drop, take, nat_lt, Result, Ok, refl, sym, ap, ◌∙◌, arith, lit<, codes}
 use Rattle.std.specs.Prelude.{IsTrue}
 use Rattle.std.specs.Int.{w64, to_be_bytes, from_be_bytes}
 use Rattle.std.specs.Str.{IsAscii, bytes_eq, is_utf8}
+use Rattle.std.proofs.lemmas.Bool.{ltb-true}
 use Rattle.std.proofs.lemmas.Str.{IsAscii-append, IsUtf8-from_ascii, is_utf8-from_IsUtf8}
-use Rattle.std.proofs.lemmas.Str.Ascii.{IsAscii-cons}
+use Rattle.std.proofs.lemmas.Str.Ascii.{IsAscii-cons, IsAscii-from_all}
 use Rattle.std.proofs.lemmas.Nat.{from_be_bytes-to_be_bytes_8}
 use Rattle.std.proofs.lemmas.Slice.Eq.{bytes_eq-Decides}
+use Rattle.std.proofs.lemmas.List.Elements.{All-weaker}
+use Rattle.std.proofs.lemmas.List.Sums.{AllPass-from_list_all}
 use Rattle.std.proofs.lemmas.List.{append-nil, drop_all, drop_at, length-append, length-drop, take_all, take_at}
 use Rattle.hex.specs.Hex.{encode_lower, lower_digits, decode_of, IsBytes}
 use Rattle.hex.proofs.HexLemmas.{IsAscii-encode_with, decode_of-encode_lower, length-encode_with}
@@ -37,23 +40,9 @@ room_after a rest twelve left = ap (λ (xs : List ℕ). length (take 16 xs)) (dr
 
 -- the digits are ASCII
 IsAscii-lower_digits : IsAscii lower_digits
-IsAscii-lower_digits zero = lit< tt
-IsAscii-lower_digits (suc zero) = lit< tt
-IsAscii-lower_digits (suc (suc zero)) = lit< tt
-IsAscii-lower_digits (suc (suc (suc zero))) = lit< tt
-IsAscii-lower_digits (suc (suc (suc (suc zero)))) = lit< tt
-IsAscii-lower_digits (suc (suc (suc (suc (suc zero))))) = lit< tt
-IsAscii-lower_digits (suc (suc (suc (suc (suc (suc zero)))))) = lit< tt
-IsAscii-lower_digits (suc (suc (suc (suc (suc (suc (suc zero))))))) = lit< tt
-IsAscii-lower_digits (suc (suc (suc (suc (suc (suc (suc (suc zero)))))))) = lit< tt
-IsAscii-lower_digits (suc (suc (suc (suc (suc (suc (suc (suc (suc zero))))))))) = lit< tt
-IsAscii-lower_digits (suc (suc (suc (suc (suc (suc (suc (suc (suc (suc zero)))))))))) = lit< tt
-IsAscii-lower_digits (suc (suc (suc (suc (suc (suc (suc (suc (suc (suc (suc zero))))))))))) = lit< tt
-IsAscii-lower_digits (suc (suc (suc (suc (suc (suc (suc (suc (suc (suc (suc (suc zero)))))))))))) = lit< tt
-IsAscii-lower_digits (suc (suc (suc (suc (suc (suc (suc (suc (suc (suc (suc (suc (suc zero))))))))))))) = lit< tt
-IsAscii-lower_digits (suc (suc (suc (suc (suc (suc (suc (suc (suc (suc (suc (suc (suc (suc zero)))))))))))))) = lit< tt
-IsAscii-lower_digits (suc (suc (suc (suc (suc (suc (suc (suc (suc (suc (suc (suc (suc (suc (suc zero))))))))))))))) = lit< tt
-IsAscii-lower_digits (suc (suc (suc (suc (suc (suc (suc (suc (suc (suc (suc (suc (suc (suc (suc (suc i)))))))))))))))) = lit< tt
+IsAscii-lower_digits =
+    IsAscii-from_all lower_digits (All-weaker (λ b. IsTrue (nat_lt b 128)) (λ b. b < 128) (λ b. ltb-true b 128) lower_digits
+    (AllPass-from_list_all (λ (b : ℕ). nat_lt b 128) lower_digits refl))
 
 -- a loose name is text
 pub loose_name-IsUtf8 : (term number : ℕ) → IsTrue (is_utf8 (loose_name term number))

@@ -12,9 +12,9 @@ ghost use Rattle.register_core.specs.declared.faults.QuorumFault.TheVariants.{No
 use crate::faults::QuorumFault;
 use call_types::{FileKind, Why, Whys};
 use drive_base::{Drive, DriveSet};
-use file_access::{NotGiven, file_on};
+use file_access::{FetchFault, file_on};
 use register_file::{Base, RegFile, read};
-use seal_file::{Bytes, Damage, FileRead};
+use seal_file::{Bytes, Damage, RecordFault};
 use stamp_id::{Ballot, ChangeId};
 use std::alloc::{AllocError, Global};
 use vote_core::{NextRow, Row};
@@ -49,11 +49,11 @@ pub fn read_lanes<D: Drive>(
     for (index, lane) in lanes.iter_mut().enumerate() {
         match read_lane(alloc, lane, is_out(out, index), name, most) {
             Ok(file) => files.push(Some(file))?,
-            Err(NotGiven::Because(why)) => {
+            Err(FetchFault::Because(why)) => {
                 files.push(None)?;
                 whys.set(index, why);
             }
-            Err(NotGiven::NoMemory) => return Err(QuorumFault::NoMemory),
+            Err(FetchFault::NoMemory) => return Err(QuorumFault::NoMemory),
         }
     }
     Ok(Found { files, whys })
@@ -74,7 +74,7 @@ fn read_lane<D: Drive>(
     is_out: bool,
     name: &str,
     most: u64,
-) -> Result<RegFile, NotGiven>
+) -> Result<RegFile, FetchFault>
     ensures outcome { ReadsLane most name.now result (IsTrue is_out) (D.tells lane.old) (D.files lane.old) (D.count lane.old) (D.count lane.new) }
     ensures alone { IsTrue is_out → lane.new ≡ lane.old }
     ensures files { IsTrue (D.tells lane.old) → D.files lane.new ≡ D.files lane.old }
@@ -82,27 +82,27 @@ fn read_lane<D: Drive>(
     ensures count { D.count lane.old ≤ D.count lane.new }
 {
     if is_out {
-        return Err(NotGiven::Because(Why::Lacks(FileKind::Format)));
+        return Err(FetchFault::Because(Why::Lacks(FileKind::Format)));
     }
     match file_on(alloc, lane, FileKind::Register, name, most) {
         Ok(bytes) => open_file(alloc, bytes.as_slice(), most),
-        Err(NotGiven::Because(Why::Lacks(_))) => Ok(blank_file(alloc)),
+        Err(FetchFault::Because(Why::Lacks(_))) => Ok(blank_file(alloc)),
         Err(refused) => Err(refused),
     }
 }
 
 /// The record whose file these bytes are, of which there are at most `most`.
-fn open_file(alloc: Global, bytes: &[u8], most: u64) -> Result<RegFile, NotGiven>
+fn open_file(alloc: Global, bytes: &[u8], most: u64) -> Result<RegFile, FetchFault>
     requires { length bytes.now ≤ most }
     ensures { OpensFile most bytes.now result }
 {
     match read(alloc, bytes) {
         Ok(file) => Ok(file),
-        Err(FileRead::Unsealed(damage)) => Err(NotGiven::Because(Why::Damaged(damage))),
-        Err(FileRead::NotCanonical(place)) => {
-            Err(NotGiven::Because(Why::Damaged(Damage::Spelling(place))))
+        Err(RecordFault::Unsealed(damage)) => Err(FetchFault::Because(Why::Damaged(damage))),
+        Err(RecordFault::NotCanonical(place)) => {
+            Err(FetchFault::Because(Why::Damaged(Damage::Spelling(place))))
         }
-        Err(FileRead::NoMemory) => Err(NotGiven::NoMemory),
+        Err(RecordFault::NoMemory) => Err(FetchFault::NoMemory),
     }
 }
 

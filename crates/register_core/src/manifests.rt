@@ -14,10 +14,10 @@ use crate::faults::QuorumFault;
 use body_print::name_of_manifest;
 use call_types::{FileKind, Why, Whys};
 use drive_base::{Drive, SetPlan};
-use file_access::{NotGiven, file_on};
+use file_access::{FetchFault, file_on};
 use manifest_file::{LONGEST_FILE, Manifest, print_of, read};
 use register_file::Adds;
-use seal_file::{Damage, FileRead};
+use seal_file::{Damage, RecordFault};
 use std::alloc::Global;
 
 /// Looks on every data drive for the manifest of the data that a change adds, and tells of each drive whether its manifest
@@ -41,8 +41,8 @@ pub fn look_for_data<D: Drive>(
     for disk in disks.iter_mut() {
         match manifest_on(alloc, &set, index, disk, adds, name.as_str()) {
             Ok(()) => {}
-            Err(NotGiven::Because(why)) => whys.set(index as usize, why),
-            Err(NotGiven::NoMemory) => return Err(QuorumFault::NoMemory),
+            Err(FetchFault::Because(why)) => whys.set(index as usize, why),
+            Err(FetchFault::NoMemory) => return Err(QuorumFault::NoMemory),
         }
         index += 1;
     }
@@ -57,7 +57,7 @@ fn manifest_on<D: Drive>(
     disk: &mut D,
     adds: &Adds,
     name: &str,
-) -> Result<(), NotGiven>
+) -> Result<(), FetchFault>
     requires { index < set.now.drives }
     ensures outcome { name.now ≡ manifest_name adds.now.id → ReadsManifest set.now adds.now (IsBitSet set.now.out index) result (D.tells disk.old) (D.files disk.old) (D.count disk.old) (D.count disk.new) }
     ensures alone { IsBitSet set.now.out index → disk.new ≡ disk.old }
@@ -66,29 +66,29 @@ fn manifest_on<D: Drive>(
     ensures count { D.count disk.old ≤ D.count disk.new }
 {
     if set.is_out(index) {
-        return Err(NotGiven::Because(Why::Lacks(FileKind::Format)));
+        return Err(FetchFault::Because(Why::Lacks(FileKind::Format)));
     }
     let file = file_on(alloc, disk, FileKind::Manifest, name, LONGEST_FILE)?;
     verified(alloc, set, adds.print, file.as_slice())
 }
 
 /// Whether a file is a manifest that verifies.
-fn verified(alloc: Global, set: &SetPlan, print: [u8; 32], file: &[u8]) -> Result<(), NotGiven>
+fn verified(alloc: Global, set: &SetPlan, print: [u8; 32], file: &[u8]) -> Result<(), FetchFault>
     requires { length file.now ≤ LONGEST_FILE }
     ensures { LettersOf set.now print file.now result }
 {
     match read(alloc, file) {
         Ok(manifest) => checked(set, print, &manifest, file.len() as u64),
-        Err(FileRead::Unsealed(damage)) => Err(NotGiven::Because(Why::Damaged(damage))),
-        Err(FileRead::NotCanonical(place)) => {
-            Err(NotGiven::Because(Why::Damaged(Damage::Spelling(place))))
+        Err(RecordFault::Unsealed(damage)) => Err(FetchFault::Because(Why::Damaged(damage))),
+        Err(RecordFault::NotCanonical(place)) => {
+            Err(FetchFault::Because(Why::Damaged(Damage::Spelling(place))))
         }
-        Err(FileRead::NoMemory) => Err(NotGiven::NoMemory),
+        Err(RecordFault::NoMemory) => Err(FetchFault::NoMemory),
     }
 }
 
 /// Whether a manifest verifies. Its file has so many bytes.
-fn checked(set: &SetPlan, print: [u8; 32], manifest: &Manifest, long: u64) -> Result<(), NotGiven>
+fn checked(set: &SetPlan, print: [u8; 32], manifest: &Manifest, long: u64) -> Result<(), FetchFault>
     requires canonical { IsCanonical manifest.now }
     requires long { long ≡ length (file_of manifest.now) }
     requires within { long ≤ LONGEST_FILE }
@@ -97,10 +97,10 @@ fn checked(set: &SetPlan, print: [u8; 32], manifest: &Manifest, long: u64) -> Re
     let computed = print_of(manifest);
     if computed != print {
         let stored = print;
-        return Err(NotGiven::Because(Why::Damaged(Damage::Digest { stored, computed })));
+        return Err(FetchFault::Because(Why::Damaged(Damage::Digest { stored, computed })));
     }
     if !names_set(set, manifest) {
-        return Err(NotGiven::Because(Why::Damaged(Damage::Spelling(long - 36))));
+        return Err(FetchFault::Because(Why::Damaged(Damage::Spelling(long - 36))));
     }
     Ok(())
 }

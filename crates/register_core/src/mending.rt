@@ -9,6 +9,7 @@ ghost use Rattle.call_types.specs.declared.why.Why.TheVariants.{Good};
 ghost use Rattle.register_core.specs.Loops.{KeepsDrives, TellsStay, CountsRise, letter_at};
 ghost use Rattle.register_core.specs.OnLanes.{AllTell, AreLanes, AreUnused};
 ghost use Rattle.register_core.specs.Proposing.{Mends, MendKeeps, CountsWritten};
+ghost use Rattle.drive_base.specs.declared.drive.TheConstants.{LONGEST_NAME};
 
 use crate::drafts::Draft;
 use crate::lanes::is_out;
@@ -37,7 +38,7 @@ pub fn mend<D: Drive>(
     count: &mut u64,
 ) -> Mended
     requires drives { length lanes.old ≡ draft.now.set.drives }
-    requires named { string_len draft.now.name ≤ 1129 }
+    requires named { string_len draft.now.name ≤ LONGEST_NAME }
     requires room { count.old + draft.now.set.drives < 2 ^ 64 }
     ensures outcome { Mends D.tells D.files D.count draft.now out term count.old count.new result lanes.old lanes.new }
     ensures keeps { (base : Base) (unknown : ℕ) (recorded : List Lane) → EndsAt draft.now base

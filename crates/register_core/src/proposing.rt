@@ -14,6 +14,7 @@ ghost use Rattle.register_core.specs.Records.{marked_base};
 ghost use Rattle.register_core.specs.OnLanes.{AllTell, AreLanes, AreUnused};
 ghost use Rattle.register_core.specs.Proposing.{Proposes, ProposeKeeps, Marks, MarkKeeps};
 ghost use Rattle.register_core.specs.Serving.{AllServe};
+ghost use Rattle.drive_base.specs.declared.drive.TheConstants.{LONGEST_NAME};
 
 use crate::drafts::Draft;
 use crate::faults::QuorumFault;
@@ -43,7 +44,7 @@ pub fn propose<D: Drive>(
 ) -> Result<Prepared, QuorumFault>
     requires drives { length lanes.old ≡ draft.now.set.drives }
     requires letters { length draft.now.letters ≡ draft.now.set.drives }
-    requires named { string_len draft.now.name ≤ 1129 }
+    requires named { string_len draft.now.name ≤ LONGEST_NAME }
     requires room { count.old + draft.now.set.drives < 2 ^ 64 }
     ensures outcome { Proposes D.tells D.files D.count draft.now out term count.old count.new result lanes.old lanes.new }
     ensures enough { (serving : ℕ) → AllServe D.tells D.count out serving draft.now.letters lanes.old lanes.new
@@ -87,7 +88,7 @@ pub fn mark<D: Drive>(
 ) -> Result<Whys, QuorumFault>
     requires drives { length lanes.old ≡ draft.old.set.drives }
     requires letters { length prepared.whys ≡ draft.old.set.drives }
-    requires named { string_len draft.old.name ≤ 1129 }
+    requires named { string_len draft.old.name ≤ LONGEST_NAME }
     requires room { count.old + draft.old.set.drives < 2 ^ 64 }
     ensures outcome { Marks D.tells D.files D.count draft.old prepared term count.old count.new result draft.new lanes.old lanes.new }
     ensures enough { (serving : ℕ) → AllServe D.tells D.count prepared.out serving prepared.whys lanes.old lanes.new

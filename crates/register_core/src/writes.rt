@@ -3,6 +3,7 @@
 ghost use Rattle.std.specs.Prelude.{◌≡◌, ◌+◌, ◌<◌, ◌≤◌, ◌^◌, length};
 ghost use Rattle.register_core.specs.Loops.{WritesEach, Writes, OnLane, KeepsDrives, TellsStay, CountsRise};
 ghost use Rattle.register_core.specs.OnLanes.{AllTell, AreUnused};
+ghost use Rattle.drive_base.specs.declared.drive.TheConstants.{LONGEST_NAME};
 
 use crate::lanes::is_out;
 use crate::loose::LooseName;
@@ -34,7 +35,7 @@ pub fn write_each<D: Drive>(
 ) -> Whys
     requires few { length lanes.old ≤ 16 }
     requires letters { length letters ≡ length lanes.old }
-    requires named { length writing.now.name.now ≤ 1129 }
+    requires named { length writing.now.name.now ≤ LONGEST_NAME }
     requires room { count.old + length lanes.old < 2 ^ 64 }
     ensures wrote { WritesEach D.tells D.files D.count out passed writing.now.name.now writing.now.bytes.now writing.now.term count.old count.new letters result lanes.old lanes.new }
     ensures drives { AllTell D.tells out lanes.old → AreUnused D.files out writing.now.term count.old lanes.old
@@ -64,7 +65,7 @@ fn write_lane<D: Drive>(
 ) -> Why
     requires few { length letters.now ≤ 16 }
     requires inside { index < length letters.now }
-    requires named { length writing.now.name.now ≤ 1129 }
+    requires named { length writing.now.name.now ≤ LONGEST_NAME }
     requires room { count.old + 1 < 2 ^ 64 }
     ensures wrote { OnLane D.tells D.files D.count out passed writing.now.name.now writing.now.bytes.now writing.now.term count.old count.new letters.now index result lane.old lane.new }
     ensures later { count.old ≤ count.new }
@@ -86,7 +87,7 @@ fn write_lane<D: Drive>(
 
 /// Writes a file of a register on one lane.
 fn write_on<D: Drive>(lane: &mut D, writing: &Writing, number: u64) -> Why
-    requires { length writing.now.name.now ≤ 1129 }
+    requires { length writing.now.name.now ≤ LONGEST_NAME }
     ensures wrote { Writes D.tells D.files D.count writing.now.name.now writing.now.bytes.now writing.now.term number (number + 1) result lane.old lane.new }
     ensures tells { D.tells lane.new ≡ D.tells lane.old }
     ensures count { D.count lane.old ≤ D.count lane.new }

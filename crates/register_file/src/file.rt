@@ -14,7 +14,7 @@ use crate::record::{KIND, RegFile};
 use crate::writing::{put_record, spelling_size};
 use fault_base::NoMemory;
 use field_reader::{Fields, ReadFault};
-use seal_file::FileRead;
+use seal_file::RecordFault;
 use sealed_record::Record;
 use std::alloc::{AllocError, Global};
 
@@ -43,7 +43,7 @@ impl Record for RegFile {
 /// the kind and the digest: the start of the first field that breaks its rule, the number of the body's bytes where
 /// bytes are missing, or the first byte too many.
 #[tactic(auto, using(crate::proofs::Lawful::register_lawful))]
-pub fn read(alloc: Global, bytes: &[u8]) -> Result<RegFile, FileRead>
+pub fn read(alloc: Global, bytes: &[u8]) -> Result<RegFile, RecordFault>
     // What is read is canonical and this is its file; what is refused is damaged, or its body has a fault there.
     ensures outcome { Reads register_kind register_table bytes.now result }
     // The file of a canonical record is read as that record.

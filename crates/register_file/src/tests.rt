@@ -5,7 +5,7 @@ ghost use Rattle.register_file.specs.Record.{IsCanonical};
 use super::*;
 use fault_base::NoMemory;
 use field_reader::ReadFault;
-use seal_file::{Bytes, Damage, FileRead, seal};
+use seal_file::{Bytes, Damage, RecordFault, seal};
 use sealed_record::{read_body, write_body};
 use stamp_id::{Ballot, ChangeId, VersionId};
 use std::alloc::{AllocError, Global};
@@ -88,14 +88,14 @@ fn joined(alloc: Global, fields: &[&[u8]]) -> Result<Vec<u8>, AllocError> {
 }
 
 /// What is read of these fields under a right seal.
-fn read_fields(alloc: Global, fields: &[&[u8]]) -> Result<RegFile, FileRead> {
+fn read_fields(alloc: Global, fields: &[&[u8]]) -> Result<RegFile, RecordFault> {
     let body = joined(alloc, fields)?;
     let file = seal(alloc, KIND, body.as_slice())?;
     read(alloc, file.as_slice())
 }
 
 /// What is read of the file of a record, which is that record.
-fn again(alloc: Global, file: &RegFile) -> Result<RegFile, FileRead>
+fn again(alloc: Global, file: &RegFile) -> Result<RegFile, RecordFault>
     requires { IsCanonical file.now }
     ensures { IsReadAs file.now result }
 {
@@ -149,7 +149,7 @@ fn full(alloc: Global, print: [u8; 32]) -> Result<RegFile, NoMemory>
 }
 
 /// Whether these bytes are the file of a record, and are read as that record.
-fn is_file_of(alloc: Global, bytes: &[u8], file: &RegFile) -> Result<bool, FileRead>
+fn is_file_of(alloc: Global, bytes: &[u8], file: &RegFile) -> Result<bool, RecordFault>
     requires { IsCanonical file.now }
 {
     let written = write(alloc, file)?;
@@ -198,16 +198,16 @@ fn tells_the_longest_file(rt: HostRuntime) {
 fn names_damage(rt: HostRuntime) {
     assert_eq!(rt;
         read(rt.alloc(), &SMALLEST[..35]),
-        Err(FileRead::Unsealed(Damage::Short(35)))
+        Err(RecordFault::Unsealed(Damage::Short(35)))
     );
     let manifest = seal(rt.alloc(), *b"OMAN", &SMALLEST[4..42]).expect(&rt, "there is memory");
     let damage = Damage::Kind(*b"OMAN");
     assert_eq!(rt;
         read(rt.alloc(), manifest.as_slice()),
-        Err(FileRead::Unsealed(damage))
+        Err(RecordFault::Unsealed(damage))
     );
     let cut = read(rt.alloc(), &FULL[..179]);
-    assert!(rt; matches!(cut, Err(FileRead::Unsealed(Damage::Digest { .. }))));
+    assert!(rt; matches!(cut, Err(RecordFault::Unsealed(Damage::Digest { .. }))));
 }
 
 #[test]
@@ -216,7 +216,7 @@ fn names_the_end_where_bytes_are_missing(rt: HostRuntime) {
         let front = &FIELDS[..count];
         let body = joined(rt.alloc(), front).expect(&rt, "there is memory");
         let answer = read_fields(rt.alloc(), front);
-        assert_eq!(rt; answer, Err(FileRead::NotCanonical(body.len() as u64)));
+        assert_eq!(rt; answer, Err(RecordFault::NotCanonical(body.len() as u64)));
     }
 }
 
@@ -250,6 +250,6 @@ fn names_the_place_of_each_field(rt: HostRuntime) {
             *field = by;
         }
         let answer = read_fields(rt.alloc(), &fields);
-        assert_eq!(rt; answer, Err(FileRead::NotCanonical(place)));
+        assert_eq!(rt; answer, Err(RecordFault::NotCanonical(place)));
     }
 }

@@ -8,6 +8,7 @@ use Rattle.s3_docs.specs.declared.prologue.Root.{Root}
 use Rattle.s3_docs.specs.declared.prologue.Root.TheVariants.{CompleteMultipartUpload, VersioningConfiguration}
 use Rattle.s3_docs.specs.Bytes.{is_blank, is_digit, is_letter, is_name_byte}
 use Rattle.s3_docs.specs.Machine.{Quotation, quote_text, root_name, md5_of}
+use Rattle.s3_docs.specs.Limits.{most_parts}
 
 -- a text, and what follows it
 infixr 20 ◌·◌
@@ -65,7 +66,7 @@ pub record IsNumber (digits : List ℕ) : Type 0 where
   pub decimal : Every is_digit digits
   pub few : length digits ≤ 5
   pub least : 1 ≤ number_of digits
-  pub most : number_of digits ≤ 10000
+  pub most : number_of digits ≤ most_parts
 
 -- 32 hex digits
 pub record IsDigest (digits : List ℕ) : Type 0 where

@@ -5,3 +5,4 @@ pub mod Documents
 pub mod Reads
 pub mod Answers
 pub mod Grammar
+pub mod Limits

@@ -7,6 +7,7 @@ use Rattle.call_types.specs.declared.version.PartRef.{PartRef}
 use Rattle.s3_docs.specs.declared.prologue.Root.{Root}
 use Rattle.s3_docs.specs.declared.prologue.Root.TheVariants.{CompleteMultipartUpload, VersioningConfiguration}
 use Rattle.s3_docs.specs.Bytes.{is_blank, is_digit, is_letter, is_name_byte}
+use Rattle.s3_docs.specs.Limits.{most_parts}
 
 -- what a whole document says
 pub data Value : Type 0 where
@@ -161,7 +162,7 @@ behind_name Other holder name b =
 -- One more digit of a number: there are at most five, and its value is from 1 to 10,000.
 abbrev pub one_digit_more : Holder → ℕ → ℕ → Option State
 one_digit_more holder count value =
-    if nat_le count 5 && nat_le value 10000 && (nat_lt count 5 || nat_lt 0 value) then Some (Digits holder count value)
+    if nat_le count 5 && nat_le value most_parts && (nat_lt count 5 || nat_lt 0 value) then Some (Digits holder count value)
     else None
 
 -- the first byte of a field's value

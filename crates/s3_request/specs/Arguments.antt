@@ -11,6 +11,7 @@ use Rattle.base64.specs.declared.decode.DecodeError.{DecodeError}
 use Rattle.s3_request.specs.Names.{id_of}
 use Rattle.s3_request.specs.Refusing.{and_then}
 use Rattle.stamp_id.specs.declared.version.VersionId.{VersionId}
+use Rattle.desk_base.specs.Calls.{most_parts}
 use Rattle.call_types.specs.declared.names.Pick.{Pick}
 use Rattle.call_types.specs.declared.names.Pick.TheVariants as pick
 use Rattle.call_types.specs.declared.names.VersionName.{VersionName}
@@ -119,7 +120,7 @@ range_of None (Some value) = range_in value
 -- a part's number, from 1 to 10,000
 abbrev pub part_within : Option ℕ → Option ℕ
 part_within None = None
-part_within (Some number) = cond (nat_le number 10000) (Some number) None
+part_within (Some number) = cond (nat_le number most_parts) (Some number) None
 
 -- the number of a part: digits alone, without a zero at their front
 abbrev pub part_number_of : List ℕ → Option ℕ

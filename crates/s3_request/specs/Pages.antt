@@ -7,6 +7,7 @@ use Rattle.hex.specs.declared.error.FromHexError.{FromHexError}
 use Rattle.call_types.specs.declared.names.VersionName.{VersionName}
 use Rattle.call_types.specs.declared.refusal.Refusal.{Refusal}
 use Rattle.call_types.specs.declared.refusal.Refusal.TheVariants.{InvalidArgument}
+use Rattle.desk_base.specs.Calls.{most_rows}
 use Rattle.desk_base.specs.declared.asks.ListAsk.{ListAsk}
 use Rattle.desk_base.specs.declared.asks.VersionsAsk.{VersionsAsk}
 use Rattle.s3_request.specs.Query.{Pairs, value_of}
@@ -19,11 +20,11 @@ text_or_empty value = unwrap_or value []
 -- at most 1,000 rows of a number of 31 bits
 abbrev pub rows_within : Option ℕ → Option ℕ
 rows_within None = None
-rows_within (Some number) = cond (nat_le number 2147483647) (Some (min number 1000)) None
+rows_within (Some number) = cond (nat_le number 2147483647) (Some (min number most_rows)) None
 
 -- `max-keys`: how many rows at most, and none where the value is wrong
 abbrev pub most_of : Option (List ℕ) → Option ℕ
-most_of None = Some 1000
+most_of None = Some most_rows
 most_of (Some text) = rows_within (number_of text)
 
 -- `encoding-type`: whether names are percent-encoded, and none where the value is wrong

@@ -8,7 +8,7 @@ use Rattle.call_types.specs.declared.names.Key.{Key}
 use Rattle.call_types.specs.declared.names.Pick.{Pick}
 use Rattle.call_types.specs.declared.refusal.Refusal.{Refusal}
 use Rattle.call_types.specs.declared.refusal.Refusal.TheVariants.{NotImplemented, InvalidBucketName, KeyTooLong, InvalidArgument}
-use Rattle.desk_base.specs.Calls.{most_document}
+use Rattle.desk_base.specs.Calls.{longest_key, most_document}
 use Rattle.desk_base.specs.declared.call.Call.{Call}
 use Rattle.desk_base.specs.declared.call.Call.TheVariants as call
 use Rattle.s3_request.specs.Arguments.{kind_of, md5_of, length_of, range_of, part_number_in, id_in, pick_of}
@@ -184,7 +184,7 @@ in_bucket asked name =
 abbrev pub in_key : Asked → Key → Result Call Refusal
 in_key asked at =
     and_then (or_refusal NotImplemented (key_row asked.method asked.pairs)) (λ row. and_then (named at.bucket) (λ _.
-    and_then (unless (nat_le (length at.key) 1024) KeyTooLong) (λ _. key_call asked at row)))
+    and_then (unless (nat_le (length at.key) longest_key) KeyTooLong) (λ _. key_call asked at row)))
 
 -- a call of a place
 abbrev pub call_at : Asked → Place → Result Call Refusal

@@ -1,7 +1,7 @@
 //! What can be wrong with a stored file.
 
 ghost use Rattle.std.specs.Prelude.{◌≡◌};
-ghost use Rattle.seal_file.specs.declared.damage.FileRead.TheVariants.{NoMemory, Unsealed};
+ghost use Rattle.seal_file.specs.declared.damage.RecordFault.TheVariants.{NoMemory, Unsealed};
 
 use fault_base::NoMemory;
 use std::alloc::{AllocError, AllocFailed};
@@ -31,7 +31,7 @@ pub enum Damage {
 
 /// Why no record was read from a file.
 #[derive(Clone, Copy, Debug, PartialEq, Eq)]
-pub enum FileRead {
+pub enum RecordFault {
     /// The file is damaged.
     Unsealed(Damage),
     /// The body spells no record: the place of its first fault, from 0 at the body's first byte.
@@ -40,34 +40,34 @@ pub enum FileRead {
     NoMemory,
 }
 
-impl From<Damage> for FileRead {
+impl From<Damage> for RecordFault {
     ghost from_gives = { λ damage error. error ≡ Unsealed damage };
 
-    fn from(damage: Damage) -> FileRead {
-        FileRead::Unsealed(damage)
+    fn from(damage: Damage) -> RecordFault {
+        RecordFault::Unsealed(damage)
     }
 }
 
-impl From<NoMemory> for FileRead {
+impl From<NoMemory> for RecordFault {
     ghost from_gives = { λ _ error. error ≡ NoMemory };
 
-    fn from(_error: NoMemory) -> FileRead {
-        FileRead::NoMemory
+    fn from(_error: NoMemory) -> RecordFault {
+        RecordFault::NoMemory
     }
 }
 
-impl From<AllocError> for FileRead {
+impl From<AllocError> for RecordFault {
     ghost from_gives = { λ _ error. error ≡ NoMemory };
 
-    fn from(_error: AllocError) -> FileRead {
-        FileRead::NoMemory
+    fn from(_error: AllocError) -> RecordFault {
+        RecordFault::NoMemory
     }
 }
 
-impl<T: Drop> From<AllocFailed<T>> for FileRead {
+impl<T: Drop> From<AllocFailed<T>> for RecordFault {
     ghost from_gives = { λ _ error. error ≡ NoMemory };
 
-    fn from(_refused: AllocFailed<T>) -> FileRead {
-        FileRead::NoMemory
+    fn from(_refused: AllocFailed<T>) -> RecordFault {
+        RecordFault::NoMemory
     }
 }

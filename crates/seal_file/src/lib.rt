@@ -13,7 +13,7 @@ mod damage;
 mod octets;
 mod sealing;
 
-pub use damage::{Damage, FileRead};
+pub use damage::{Damage, RecordFault};
 pub use octets::{Bytes, Text};
 pub use sealing::{seal, sealing_laws, unseal};
 

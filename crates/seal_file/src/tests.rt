@@ -75,6 +75,6 @@ fn owns_texts_and_bytes(rt: HostRuntime) {
 #[test]
 fn converts_errors(rt: HostRuntime) {
     let damage = Damage::Spelling(9);
-    assert_eq!(rt; FileRead::from(damage), FileRead::Unsealed(damage));
-    assert_eq!(rt; FileRead::from(NoMemory), FileRead::NoMemory);
+    assert_eq!(rt; RecordFault::from(damage), RecordFault::Unsealed(damage));
+    assert_eq!(rt; RecordFault::from(NoMemory), RecordFault::NoMemory);
 }

@@ -9,7 +9,7 @@ use crate::body::{take_whole, write_body};
 use crate::record::Record;
 use fault_base::NoMemory;
 use field_reader::ReadFault;
-use seal_file::{FileRead, seal, unseal};
+use seal_file::{RecordFault, seal, unseal};
 use std::alloc::Global;
 
 /// The record of a file of this kind.
@@ -17,7 +17,7 @@ use std::alloc::Global;
 /// Bytes that are no sealed file of the kind are `Unsealed`, with their first damage. A body that spells no record is
 /// `NotCanonical`, at the place of its first fault, counted from 0 in the body, which is what stands between the kind
 /// and the digest.
-pub fn read<T: Record>(alloc: Global, kind: [u8; 4], bytes: &[u8]) -> Result<T, FileRead>
+pub fn read<T: Record>(alloc: Global, kind: [u8; 4], bytes: &[u8]) -> Result<T, RecordFault>
     requires { IsLawful T.table }
     ensures outcome { Reads kind T.table bytes.now result }
     ensures only { ReadsFiles kind T.table bytes.now result }
@@ -27,8 +27,8 @@ pub fn read<T: Record>(alloc: Global, kind: [u8; 4], bytes: &[u8]) -> Result<T, 
     let body = unseal(kind, bytes)?;
     match take_whole(alloc, body) {
         Ok(taken) => Ok(taken),
-        Err(ReadFault::At(place)) => Err(FileRead::NotCanonical(place)),
-        Err(ReadFault::NoMemory) => Err(FileRead::NoMemory),
+        Err(ReadFault::At(place)) => Err(RecordFault::NotCanonical(place)),
+        Err(ReadFault::NoMemory) => Err(RecordFault::NoMemory),
     }
 }
 

@@ -12,6 +12,7 @@ use Rattle.desk_base.specs.Telling.{Telling}
 use Rattle.desk_base.specs.Telling.Telling.{Head}
 use Rattle.desk_base.specs.declared.call.Call.{Call}
 use Rattle.serve_loop.specs.Exchanges.{Ask, unread, refused, asked, Asks, Exchange, IsManner, continue_of, size_of, text_of}
+use Rattle.io_base.specs.Clock.{year_10000}
 
 -- what the source and the sink show: what of the source was not taken, what was given to the sink, told or not, and both counts of faults
 pub record Wires : Type 0 where
@@ -58,7 +59,7 @@ CutSo NoMemory x ahead out old new = IsFront out (text_of x)
 pub record IsExchange (clock : Option ℕ) (number : ℕ) (x : Exchange) : Type 0 where
   pub asks : Asks x.ask x.front
   pub moment : IfSome clock (λ told. x.now ≡ told)
-  pub range : x.now < 253402300800
+  pub range : x.now < year_10000
   pub manner : IsManner number x.ask x.manner
 
 -- a request was cut: so much was given of its answer, for this cause; `ahead` are bytes that were taken behind it

@@ -10,6 +10,7 @@ ghost use Rattle.serve_loop.specs.Intakes.{IsAtRest};
 ghost use Rattle.serve_loop.specs.Seen.{open_wires, shut_wires, told_of, wire_of};
 ghost use Rattle.serve_loop.specs.Turns.{AskGoes, BreaksOff, Finishes, Goes, OnAnswered, Readies, RefuseGoes, Turns};
 ghost use Rattle.serve_loop.specs.declared.manner.Manner.{Manner};
+ghost use Rattle.io_base.specs.Clock.{year_10000};
 
 use crate::ends::{ConnectionEnd, Turn, turn_of};
 use crate::giving::{give_refusal, greet};
@@ -42,7 +43,7 @@ fn ask<R: Eprint, K: Desk, S: Source + Drop, T: Sink>(
 ) -> Result<(), Cut>
     requires fits { K.fits desk.now (K.holds pass.old) }
     requires lawful { IsLawful call.now }
-    requires moment { now < 253402300800 }
+    requires moment { now < year_10000 }
     requires states { intake.old.stated ≡ stated_length call.now }
     requires fresh { intake.old.wire.body_left ≡ intake.old.stated }
     ensures goes { AskGoes (K.answers desk.now) result
@@ -124,7 +125,7 @@ fn serve_call<R: Eprint, K: Desk, S: Source + Drop, T: Sink>(
 ) -> Result<(), Cut>
     requires fits { K.fits desk.now (K.holds pass.old) }
     requires lawful { IsLawful call.now }
-    requires moment { now < 253402300800 }
+    requires moment { now < year_10000 }
     requires states { StatesLength intake.old.stated call.now }
     requires fresh { intake.old.wire.body_left ≡ intake.old.stated }
     ensures goes { (manner : Manner) → close ≡ closes manner → Goes (K.answers desk.now) result (asked head.now intake.old.stated call.now) now manner
@@ -195,7 +196,7 @@ pub(crate) fn serve_head<R: Eprint, K: Desk, S: Source + Drop, T: Sink>(
     sink: &mut T,
 ) -> Turn
     requires fits { K.fits desk.now (K.holds pass.old) }
-    requires moment { now < 253402300800 }
+    requires moment { now < year_10000 }
     requires states { SaysLength head.now.lines intake.old.stated }
     requires fresh { intake.old.wire.body_left ≡ intake.old.stated }
     ensures turn { (clock : Option ℕ) (number : ℕ) (front : List ℕ) → IfSome clock (λ told. now ≡ told) → IsTrue is_last ↔ (number ≡ last_number)

@@ -36,8 +36,8 @@ use Rattle.slot_core.specs.declared.commit.Commit.{Commit}
 use Rattle.slot_core.specs.declared.commit.Committed.{Committed}
 use Rattle.slot_core.specs.declared.fault.SlotFault.{SlotFault}
 use Rattle.slot_core.specs.declared.fault.SlotFault.TheVariants.{AuditFailed, NoMemory as LacksMemory, NotInFlight, SeqSpent}
-use Rattle.slot_core.specs.declared.pen.Unreserved.{Unreserved}
-use Rattle.slot_core.specs.declared.pen.Unreserved.TheVariants.{Failed, NoMemory}
+use Rattle.slot_core.specs.declared.pen.ReserveFault.{ReserveFault}
+use Rattle.slot_core.specs.declared.pen.ReserveFault.TheVariants.{Failed, NoMemory}
 use Rattle.slot_core.specs.declared.site.Drawn.{Drawn}
 use Rattle.slot_core.specs.declared.site.Site.{Site}
 use Rattle.slot_core.specs.declared.stub.Stub.{Stub}
@@ -54,28 +54,28 @@ land_missing r id old new none takes = (refl, subst (λ (o : Option FlightRow). 
 
 -- ---- turns that wrote no entry
 
-pub lost_entry : (site : Site) (why : Unreserved) (turn : Turn Committed) → IsUnreserved site why turn → entry_of turn.stub ≡ None
+pub lost_entry : (site : Site) (why : ReserveFault) (turn : Turn Committed) → IsUnreserved site why turn → entry_of turn.stub ≡ None
 lost_entry site (Failed before after) turn is = ap entry_of is.stub_is ∙ is.no_entry
 lost_entry site NoMemory turn is = ap entry_of is.stub
 
-pub lost_begun : (site : Site) (why : Unreserved) (turn : Turn Committed) → IsUnreserved site why turn → NothingBegun turn.answer
+pub lost_begun : (site : Site) (why : ReserveFault) (turn : Turn Committed) → IsUnreserved site why turn → NothingBegun turn.answer
 lost_begun site (Failed before after) turn is = subst NothingBegun (sym is.answer) tt
 lost_begun site NoMemory turn is = subst NothingBegun (sym is.answer) tt
 
-pub lost_not_missing : (site : Site) (why : Unreserved) (turn : Turn Committed) (id : VersionId) → IsUnreserved site why turn → turn.answer ≡ Err (NotInFlight id) → ⊥
+pub lost_not_missing : (site : Site) (why : ReserveFault) (turn : Turn Committed) (id : VersionId) → IsUnreserved site why turn → turn.answer ≡ Err (NotInFlight id) → ⊥
 lost_not_missing site (Failed before after) turn id is same = let both = sym is.answer ∙ same in absurd cc
 lost_not_missing site NoMemory turn id is same = let both = sym is.answer ∙ same in absurd cc
 
-pub lost_gone : (site : Site) (why : Unreserved) (turn : Turn Committed) (trash : List VersionId) → IsUnreserved site why turn
+pub lost_gone : (site : Site) (why : ReserveFault) (turn : Turn Committed) (trash : List VersionId) → IsUnreserved site why turn
     → (more : List VersionId) × (trash ≡ trash ++ more) × GoneByAnswer turn.answer more
 lost_gone site (Failed before after) turn trash is =
     ([], sym (append-nil trash), subst (λ (a : Result Committed SlotFault). GoneByAnswer a []) (sym is.answer) refl)
 lost_gone site NoMemory turn trash is = ([], sym (append-nil trash), subst (λ (a : Result Committed SlotFault). GoneByAnswer a []) (sym is.answer) refl)
 
-pub lost_says : (site : Site) (why : Unreserved) (turn : Turn Committed) (What : Entry → Type 0) → IsUnreserved site why turn → Says turn.stub What
+pub lost_says : (site : Site) (why : ReserveFault) (turn : Turn Committed) (What : Entry → Type 0) → IsUnreserved site why turn → Says turn.stub What
 lost_says site why turn What is = subst (λ (e : Option Entry). MatchOption e (Unit {0}) What) (sym (lost_entry site why turn is)) tt
 
-pub lost_turns : (site : Site) (drawn : Drawn) (why : Unreserved) (turn : Turn Committed) (before after : Option (List Entry)) (old new : ℕ) → IsUnreserved site why turn
+pub lost_turns : (site : Site) (drawn : Drawn) (why : ReserveFault) (turn : Turn Committed) (before after : Option (List Entry)) (old new : ℕ) → IsUnreserved site why turn
     → after ≡ before → Reserves {T = Unit {0}} old new (Err why) → TurnsAt (numbers_at site drawn) before after old new turn.answer turn.stub
 lost_turns site drawn (Failed b a) turn before after old new is same counts = record {
   stub_is = subst (λ (x : Result Committed SlotFault). StubOfEntry (numbers_at site drawn) x turn.stub) (sym is.answer)
@@ -114,7 +114,7 @@ missing_turns site drawn id entry turn made before mid after old new is some dow
 }
 
 module _ {D : Type 0} (tells : D → Bool) (files : D → Files) (count : D → ℕ) where
-  pub lost_cause : (numbers later : SlotNumbers) (deed : Commit) (put : Option VersionId) (now : ℕ) (site : Site) (why : Unreserved) (turn : Turn Committed) (entered : Deed)
+  pub lost_cause : (numbers later : SlotNumbers) (deed : Commit) (put : Option VersionId) (now : ℕ) (site : Site) (why : ReserveFault) (turn : Turn Committed) (entered : Deed)
       (old disks disks_after : List D) → IsUnreserved site why turn → CommitCause tells files count numbers later deed put now turn.answer entered old old disks disks_after
   lost_cause numbers later deed put now site (Failed before after) turn entered old disks disks_after is =
       subst (λ (a : Result Committed SlotFault). CommitCause tells files count numbers later deed put now a entered old old disks disks_after) (sym is.answer) refl

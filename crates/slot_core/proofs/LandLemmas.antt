@@ -16,7 +16,7 @@ use Rattle.slot_data.specs.Laws.{HandsAreFreed, PutIsGivenUp, TrashIsTaken}
 use Rattle.slot_data.specs.Moves.{LanesStand, given_up, with_taken, with_trash}
 use Rattle.slot_data.specs.Standing.{DataStands, IsListed}
 use Rattle.slot_core.specs.Carrying.{Lands, kept_with}
-use Rattle.slot_core.proofs.DeedLemmas.{lands_fewer}
+use Rattle.slot_core.proofs.DeemingLemmas.{lands_fewer}
 
 -- the laws of puts that end
 pub record LandLaws : Type 0 where

@@ -21,13 +21,16 @@ pub mod TakingLemmas
 pub mod TurnLemmas
 pub mod OwnWriteLemmas
 pub mod StepLemmas
+pub mod DeemingLemmas
 pub mod DeedLemmas
 pub mod PlanLemmas
 pub mod OwnPlanLemmas
 pub mod LandLemmas
+pub mod WritingLemmas
 pub mod CarryLemmas
 pub mod CarryOutLemmas
 pub mod FinishLemmas
+pub mod CommitCauseLemmas
 pub mod ConcludeLemmas
 pub mod CommitLemmas
 pub mod AuditLemmas

@@ -2,9 +2,10 @@
 use Rattle.std.specs.Prelude.{◌≤◌, length}
 use Rattle.slot_core.specs.Committing.{IsLawfulDeed, IsNamedDeed, name_of}
 use Rattle.slot_core.specs.declared.commit.Commit.{Commit}
+use Rattle.drive_base.specs.declared.drive.TheConstants.{LONGEST_NAME}
 
 -- a deed that can be committed: its act is lawful, the texts of its register's name are UTF-8, and the name isn't too long for a file
 pub record IsCommit (deed : Commit) : Type 0 where
   pub lawful : IsLawfulDeed deed
   pub named : IsNamedDeed deed
-  pub short : length (name_of deed) ≤ 1129
+  pub short : length (name_of deed) ≤ LONGEST_NAME

@@ -25,6 +25,7 @@ use Rattle.slot_core.specs.declared.looked.Ready.{Ready}
 use Rattle.slot_core.specs.declared.plans.Plan.{Plan}
 use Rattle.slot_core.specs.declared.site.Drawn.{Drawn}
 use Rattle.slot_core.specs.declared.site.Site.{Site}
+use Rattle.drive_base.specs.declared.drive.TheConstants.{LONGEST_NAME}
 
 -- a refusal of the look, where want of memory is told as that alone
 abbrev pub IsKeptBy : QuorumFault → Outcome → Type 0
@@ -38,7 +39,7 @@ pub record ReadyFits (set : SetPlan) (deed : Commit) (ready : Ready) : Type 0 wh
   pub first : FirstFits set ready.first
   pub set_is : ready.looked.set ≡ set
   pub letters : length ready.looked.whys ≡ set.drives
-  pub named : length (string_bytes ready.looked.name) ≤ 1129
+  pub named : length (string_bytes ready.looked.name) ≤ LONGEST_NAME
   pub draftable : IsDraftable ready.looked ready.first
   pub within : most_for deed ≤ ready.looked.longest
 

@@ -13,12 +13,13 @@ use Rattle.slot_core.specs.Settling.{IsReady, numbers_at}
 use Rattle.slot_core.specs.declared.looked.Ready.{Ready}
 use Rattle.slot_core.specs.declared.site.Drawn.{Drawn}
 use Rattle.slot_core.specs.declared.site.Site.{Site}
+use Rattle.drive_base.specs.declared.drive.TheConstants.{LONGEST_NAME}
 
 -- a draft can be written on a set's lanes
 pub record DraftFits (set : SetPlan) (draft : Draft) : Type 0 where
   pub set_is : draft.set ≡ set
   pub letters : length draft.letters ≡ set.drives
-  pub named : length (string_bytes draft.name) ≤ 1129
+  pub named : length (string_bytes draft.name) ≤ LONGEST_NAME
 
 abbrev pub FirstFits : SetPlan → Option Draft → Type 0
 FirstFits set None = Unit {0}

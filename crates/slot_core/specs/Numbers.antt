@@ -1,7 +1,6 @@
 -- The numbers that a slot draws, and when they are spent.
 use Rattle.std.specs.Prelude.{◌≡◌, ◌⊎◌, ℕ, ◌+◌, ◌<◌, ◌≤◌}
 use Rattle.slot_core.specs.Views.{SlotNumbers}
-use Rattle.slot_core.specs.declared.numbers.TheConstants.{LAST_SEQ, LAST_COUNT}
 
 -- a section one turn later: the slot's set, index and term stay, and its numbers only rise. It draws three at most: a ballot for
 -- a change that it completes, and a number and a ballot for one of its own. Each of the two is written twice on 16 lanes at most, under a loose name each
@@ -16,9 +15,17 @@ pub record NumbersMove (old new : SlotNumbers) : Type 0 where
   pub count : old.count ≤ new.count
   pub few_count : new.count ≤ old.count + 64
 
+-- the last sequence number at which a section may still begin, 2^62 - 16,384: no section draws more than 16,383
+abbrev pub last_seq : ℕ
+last_seq = 4611686018427371520
+
+-- the last counter of loose names at which a section may still begin, 2^63 - 1,048,576
+abbrev pub last_count : ℕ
+last_count = 9223372036853727232
+
 -- the numbers of a slot are spent: sections that may draw some are refused
 abbrev pub AreSpent : SlotNumbers → Type 0
-AreSpent numbers = (LAST_SEQ < numbers.seq) ⊎ (LAST_COUNT < numbers.count)
+AreSpent numbers = (last_seq < numbers.seq) ⊎ (last_count < numbers.count)
 
 -- the numbers of a slot that last drew this one
 abbrev pub with_seq : SlotNumbers → ℕ → SlotNumbers

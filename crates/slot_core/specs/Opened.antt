@@ -3,8 +3,8 @@ use Rattle.std.specs.Prelude.{◌≡◌, ℕ, List, None, Err, string_bytes}
 use Rattle.slot_core.specs.Pen.{IsKeptOf, IsRefusedTurn}
 use Rattle.slot_core.specs.declared.commits.Opening.{Opening}
 use Rattle.slot_core.specs.declared.fault.SlotFault.TheVariants.{AuditFailed, NoMemory as LacksMemory}
-use Rattle.slot_core.specs.declared.pen.Unreserved.{Unreserved}
-use Rattle.slot_core.specs.declared.pen.Unreserved.TheVariants.{Failed, NoMemory}
+use Rattle.slot_core.specs.declared.pen.ReserveFault.{ReserveFault}
+use Rattle.slot_core.specs.declared.pen.ReserveFault.TheVariants.{Failed, NoMemory}
 use Rattle.slot_core.specs.declared.site.Site.{Site}
 use Rattle.slot_core.specs.declared.stub.Turn.{Turn}
 
@@ -19,6 +19,6 @@ pub record HasNoTurn {T : Type 0} (turn : Turn T) : Type 0 where
   pub stub : turn.stub ≡ None
 
 -- the turn of a section whose audit has no room
-abbrev pub IsUnreserved : {T : Type 0} → Site → Unreserved → Turn T → Type 0
+abbrev pub IsUnreserved : {T : Type 0} → Site → ReserveFault → Turn T → Type 0
 IsUnreserved site (Failed before after) turn = IsRefusedTurn site (AuditFailed before after) turn
 IsUnreserved site NoMemory turn = HasNoTurn turn

@@ -6,8 +6,8 @@ use Rattle.audit_trail.specs.declared.entry.Deed.TheVariants.{Kept}
 use Rattle.audit_trail.specs.declared.entry.Entry.{Entry}
 use Rattle.slot_core.specs.declared.fault.SlotFault.{SlotFault}
 use Rattle.slot_core.specs.declared.pen.Entries.{Entries}
-use Rattle.slot_core.specs.declared.pen.Unreserved.{Unreserved}
-use Rattle.slot_core.specs.declared.pen.Unreserved.TheVariants.{Failed, NoMemory}
+use Rattle.slot_core.specs.declared.pen.ReserveFault.{ReserveFault}
+use Rattle.slot_core.specs.declared.pen.ReserveFault.TheVariants.{Failed, NoMemory}
 use Rattle.slot_core.specs.declared.site.Site.{Site}
 use Rattle.slot_core.specs.declared.stub.Stub.{Stub}
 use Rattle.slot_core.specs.declared.stub.Turn.{Turn}
@@ -42,7 +42,7 @@ pub record IsRefusedTurn {T : Type 0} (site : Site) (fault : SlotFault) (turn : 
   pub fault_is : stub.fault ≡ Some fault
 
 -- the faults of an audit, where room was asked for
-abbrev pub Reserves : {T : Type 0} → ℕ → ℕ → Result T Unreserved → Type 0
+abbrev pub Reserves : {T : Type 0} → ℕ → ℕ → Result T ReserveFault → Type 0
 Reserves old new (Ok _) = new ≡ old
 Reserves old new (Err (Failed before after)) = (before ≡ old) × (after ≡ new) × Rose old new
 Reserves old new (Err NoMemory) = new ≡ old

@@ -20,6 +20,7 @@ ghost use Rattle.slot_core.specs.Turning.{Leaves, Turns};
 ghost use Rattle.slot_core.specs.Views.{audit_of, holding_of, lanes_of, numbers_of};
 ghost use Rattle.slot_core.specs.declared.fault.SlotFault.TheVariants.{NotInFlight};
 ghost use Rattle.slot_core.specs.declared.landing.Landing.TheVariants.{Missing};
+ghost use Rattle.drive_base.specs.declared.drive.TheConstants.{LONGEST_NAME};
 
 use crate::commit::{Commit, Committed};
 use crate::committing::commit_register;
@@ -29,7 +30,7 @@ use crate::handles::Flight;
 use crate::landing::{Landing, land};
 use crate::numbers::{LAST_COUNT, LAST_SEQ};
 use crate::pen::{
-    Entries, Unreserved, audit_failed, kept_entries, no_memory, refuse, reserve, spent_turn,
+    Entries, ReserveFault, audit_failed, kept_entries, no_memory, refuse, reserve, spent_turn,
 };
 use crate::site::{Drawn, Site};
 use crate::slot::Slot;
@@ -61,7 +62,7 @@ impl<D: Drive, A: Audit> Slot<D, A> {
         requires disks { length disks.old ≡ (numbers_of self.old).set.drives }
         requires lawful { IsLawfulDeed deed.now }
         requires named { IsNamedDeed deed.now }
-        requires short { length (name_of deed.now) ≤ 1129 }
+        requires short { length (name_of deed.now) ≤ LONGEST_NAME }
         requires moment { IsMoment now }
         ensures turns { Turns (numbers_of self.old) (numbers_of self.new) (A.entries (audit_of self.old)) (A.entries (audit_of self.new))
             (A.count (audit_of self.old)) (A.count (audit_of self.new)) result.answer result.stub }
@@ -133,7 +134,7 @@ fn open_entry<A: Audit>(
     audit: &mut A,
     site: &Site,
     deed: &Commit,
-) -> Result<Opening, Unreserved>
+) -> Result<Opening, ReserveFault>
     requires { IsNamedDeed deed.now }
     ensures opening { IfOk result (λ opening. IsOpening site.now.turns (name_of deed.now) opening) }
     ensures room { OnOk result (1 ≤ A.room audit.new) }
@@ -142,11 +143,11 @@ fn open_entry<A: Audit>(
 {
     let name = match deed_name(alloc, deed) {
         Ok(name) => name,
-        Err(_) => return Err(Unreserved::NoMemory),
+        Err(_) => return Err(ReserveFault::NoMemory),
     };
     let entries = match kept_entries(alloc, site, name.as_str()) {
         Ok(entries) => entries,
-        Err(_) => return Err(Unreserved::NoMemory),
+        Err(_) => return Err(ReserveFault::NoMemory),
     };
     match reserve(audit) {
         Ok(()) => Ok(Opening { name, entries }),
@@ -155,12 +156,12 @@ fn open_entry<A: Audit>(
 }
 
 /// The turn of a section whose audit has no room.
-fn unreserved<T>(site: &Site, why: Unreserved) -> Turn<T>
+fn unreserved<T>(site: &Site, why: ReserveFault) -> Turn<T>
     ensures { IsUnreserved site.now why result }
 {
     match why {
-        Unreserved::Failed { before, after } => audit_failed(site, before, after),
-        Unreserved::NoMemory => no_memory(),
+        ReserveFault::Failed { before, after } => audit_failed(site, before, after),
+        ReserveFault::NoMemory => no_memory(),
     }
 }
 
@@ -194,7 +195,7 @@ fn commit_landed<D: Drive, A: Audit>(
     requires disks { length disks.old ≡ site.now.set.drives }
     requires lawful { IsLawfulDeed deed.now }
     requires named { IsNamedDeed deed.now }
-    requires short { length (name_of deed.now) ≤ 1129 }
+    requires short { length (name_of deed.now) ≤ LONGEST_NAME }
     requires moment { IsMoment now }
     requires index { site.now.index < 64 }
     requires term_counts { 1 ≤ site.now.term }
@@ -265,7 +266,7 @@ fn commit_with<D: Drive, A: Audit>(
     requires disks { length disks.old ≡ site.now.set.drives }
     requires lawful { IsLawfulDeed deed.now }
     requires named { IsNamedDeed deed.now }
-    requires short { length (name_of deed.now) ≤ 1129 }
+    requires short { length (name_of deed.now) ≤ LONGEST_NAME }
     requires moment { IsMoment now }
     requires index { site.now.index < 64 }
     requires term_counts { 1 ≤ site.now.term }
@@ -337,7 +338,7 @@ fn commit_missing<D: Drive, A: Audit>(
     requires disks { length disks.old ≡ site.now.set.drives }
     requires lawful { IsLawfulDeed deed.now }
     requires named { IsNamedDeed deed.now }
-    requires short { length (name_of deed.now) ≤ 1129 }
+    requires short { length (name_of deed.now) ≤ LONGEST_NAME }
     requires moment { IsMoment now }
     requires index { site.now.index < 64 }
     requires term_counts { 1 ≤ site.now.term }

@@ -20,6 +20,7 @@ ghost use Rattle.slot_core.specs.Owning.{IsOwnId, again_takes};
 ghost use Rattle.slot_core.specs.Planning.{IsBucketDeed, IsPlanned};
 ghost use Rattle.slot_core.specs.Settling.{numbers_at};
 ghost use Rattle.slot_core.specs.declared.commit.Commit.{Commit};
+ghost use Rattle.drive_base.specs.declared.drive.TheConstants.{LONGEST_NAME};
 
 use crate::carrying::{Outcome, carry_out};
 use crate::commit::Commit;
@@ -142,7 +143,7 @@ fn commit_key<D: Drive>(
     requires lanes { length lanes.old ≡ site.now.set.drives }
     requires disks { length disks.old ≡ site.now.set.drives }
     requires named { name_of deed.now ≡ name.now }
-    requires short { length name.now ≤ 1129 }
+    requires short { length name.now ≤ LONGEST_NAME }
     requires moment { IsMoment now }
     requires lawful { IsLawful act.now }
     requires index { site.now.index < 64 }
@@ -230,7 +231,7 @@ fn commit_bucket<D: Drive>(
     requires lanes { length lanes.old ≡ site.now.set.drives }
     requires disks { length disks.old ≡ site.now.set.drives }
     requires named { name_of deed.now ≡ name.now }
-    requires short { length name.now ≤ 1129 }
+    requires short { length name.now ≤ LONGEST_NAME }
     requires moment { IsMoment now }
     requires lawful { IsLawfulBucketAct act }
     requires index { site.now.index < 64 }
@@ -294,7 +295,7 @@ pub(crate) fn commit_register<D: Drive>(
     requires lanes { length lanes.old ≡ site.now.set.drives }
     requires disks { length disks.old ≡ site.now.set.drives }
     requires named { name_of deed.now ≡ name.now }
-    requires short { length name.now ≤ 1129 }
+    requires short { length name.now ≤ LONGEST_NAME }
     requires moment { IsMoment now }
     requires index { site.now.index < 64 }
     requires counts { 1 ≤ site.now.term }

@@ -18,13 +18,14 @@ ghost use Rattle.slot_core.specs.Settling.{numbers_at};
 ghost use Rattle.slot_core.specs.Standing.{SlotStands};
 ghost use Rattle.slot_core.specs.Stubs.{Says, completed_by};
 ghost use Rattle.slot_core.specs.Turning.{Leaves};
+ghost use Rattle.drive_base.specs.declared.drive.TheConstants.{LONGEST_NAME};
 
 use crate::fault::SlotFault;
 use crate::looked::{Ready, forward, look_at};
 use crate::numbers::{LAST_COUNT, LAST_SEQ};
 use crate::peeking::{Peeked, refusal};
 use crate::pen::{
-    Entries, Unreserved, audit_failed, kept_entries, no_memory, refuse, reserve, write_down,
+    Entries, ReserveFault, audit_failed, kept_entries, no_memory, refuse, reserve, write_down,
 };
 use crate::reading::{ReadPlan, ReadStart, plan_read};
 use crate::rules::KeyRule;
@@ -64,7 +65,7 @@ fn look_and_plan<D: Drive>(
     requires lanes { length lanes.old ≡ site.now.set.drives }
     requires disks { length disks.old ≡ site.now.set.drives }
     requires named { name.now ≡ key_name at.now }
-    requires short { length name.now ≤ 1129 }
+    requires short { length name.now ≤ LONGEST_NAME }
     requires term { site.now.term < 2 ^ 48 }
     requires seq { drawn.now.seq + 1 < 2 ^ 62 }
     ensures looks { LooksForRead D.tells D.files D.count site.now drawn.now name.now at.now mode pick.now result lanes.old lanes.new disks.old disks.new }
@@ -109,7 +110,7 @@ fn read_register<D: Drive>(
     requires lanes { length lanes.old ≡ site.now.set.drives }
     requires disks { length disks.old ≡ site.now.set.drives }
     requires named { name.now ≡ key_name at.now }
-    requires short { length name.now ≤ 1129 }
+    requires short { length name.now ≤ LONGEST_NAME }
     requires term { site.now.term < 2 ^ 48 }
     requires seq { drawn.old.seq ≤ LAST_SEQ }
     requires count { drawn.old.count ≤ LAST_COUNT }
@@ -242,7 +243,7 @@ pub(crate) fn read_at<D: Drive, A: Audit>(
     requires disks { length disks.old ≡ site.now.set.drives }
     requires bucket { IsUtf8 at.now.bucket }
     requires key { IsUtf8 at.now.key }
-    requires short { length (key_name at.now) ≤ 1129 }
+    requires short { length (key_name at.now) ≤ LONGEST_NAME }
     requires term { site.now.term < 2 ^ 48 }
     requires seq { drawn.old.seq ≤ LAST_SEQ }
     requires count { drawn.old.count ≤ LAST_COUNT }
@@ -271,10 +272,10 @@ pub(crate) fn read_at<D: Drive, A: Audit>(
     };
     match reserve(audit) {
         Ok(()) => {}
-        Err(Unreserved::Failed { before, after }) => {
+        Err(ReserveFault::Failed { before, after }) => {
             return audit_failed(site, before, after);
         }
-        Err(Unreserved::NoMemory) => return no_memory(),
+        Err(ReserveFault::NoMemory) => return no_memory(),
     }
     let Prepared { name, entries } = made;
     match read_register(

@@ -7,6 +7,7 @@ ghost use Rattle.register_core.specs.declared.drafts.Draft.{Draft};
 ghost use Rattle.register_caller.specs.Steps.{FilesStay};
 ghost use Rattle.slot_core.specs.Looked.{CallsForward, FirstFits, GoesOnReading, LooksAt, late_of};
 ghost use Rattle.slot_core.specs.Settling.{SettlesAfter};
+ghost use Rattle.drive_base.specs.declared.drive.TheConstants.{LONGEST_NAME};
 
 use crate::numbers::next_ballot;
 use crate::site::{Drawn, Site};
@@ -39,7 +40,7 @@ pub(crate) fn look_at<D: Drive, R: ContentRule>(
 ) -> Result<Ready, QuorumFault>
     requires lanes { length lanes.old ≡ site.now.set.drives }
     requires disks { length disks.old ≡ site.now.set.drives }
-    requires named { length name.now ≤ 1129 }
+    requires named { length name.now ≤ LONGEST_NAME }
     requires term { site.now.term < 2 ^ 48 }
     requires seq { drawn.now.seq + 1 < 2 ^ 62 }
     ensures looks { LooksAt D.tells D.files D.count site.now drawn.now name.now (R.fault_in rule.old) (R.most_bytes rule.old) result lanes.old lanes.new disks.old disks.new }

@@ -12,6 +12,7 @@ ghost use Rattle.slot_core.specs.Sections.{ReadHolds, SaysKept, SaysRead, ShowsC
 ghost use Rattle.slot_core.specs.Stubs.{Says, completed_by};
 ghost use Rattle.slot_core.specs.Turning.{Leaves, Turns};
 ghost use Rattle.slot_core.specs.Views.{audit_of, holding_of, lanes_of, numbers_of};
+ghost use Rattle.drive_base.specs.declared.drive.TheConstants.{LONGEST_NAME};
 
 use crate::finding::read_at;
 use crate::peeking::peek_at;
@@ -32,7 +33,7 @@ impl<D: Drive, A: Audit> Slot<D, A> {
         requires turns { (numbers_of self.old).turns + 1 < 2 ^ 64 }
         requires disks { length disks.old ≡ (numbers_of self.old).set.drives }
         requires named { IsRegisterName name.now }
-        requires short { length name.now ≤ 1129 }
+        requires short { length name.now ≤ LONGEST_NAME }
         ensures turns { Turns (numbers_of self.old) (numbers_of self.new) (A.entries (audit_of self.old)) (A.entries (audit_of self.new))
             (A.count (audit_of self.old)) (A.count (audit_of self.new)) result.answer result.stub }
         ensures says { Says result.stub (SaysKept name.now) }
@@ -89,7 +90,7 @@ impl<D: Drive, A: Audit> Slot<D, A> {
         requires disks { length disks.old ≡ (numbers_of self.old).set.drives }
         requires bucket { IsUtf8 at.now.bucket }
         requires key { IsUtf8 at.now.key }
-        requires short { length (key_name at.now) ≤ 1129 }
+        requires short { length (key_name at.now) ≤ LONGEST_NAME }
         ensures turns { Turns (numbers_of self.old) (numbers_of self.new) (A.entries (audit_of self.old)) (A.entries (audit_of self.new))
             (A.count (audit_of self.old)) (A.count (audit_of self.new)) result.answer result.stub }
         ensures says { Says result.stub (SaysRead at.now mode pick.now result.answer) }

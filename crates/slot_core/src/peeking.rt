@@ -16,11 +16,14 @@ ghost use Rattle.slot_core.specs.Settling.{numbers_at};
 ghost use Rattle.slot_core.specs.Standing.{SlotStands};
 ghost use Rattle.slot_core.specs.Stubs.{Says, completed_by};
 ghost use Rattle.slot_core.specs.Turning.{Leaves};
+ghost use Rattle.drive_base.specs.declared.drive.TheConstants.{LONGEST_NAME};
 
 use crate::fault::SlotFault;
 use crate::looked::{forward, look_at};
 use crate::numbers::{LAST_COUNT, LAST_SEQ};
-use crate::pen::{Unreserved, audit_failed, kept_entries, no_memory, refuse, reserve, write_down};
+use crate::pen::{
+    ReserveFault, audit_failed, kept_entries, no_memory, refuse, reserve, write_down,
+};
 use crate::rules::LookRule;
 use crate::site::{Drawn, Site};
 use crate::stub::Turn;
@@ -90,7 +93,7 @@ fn peek_register<D: Drive>(
     requires lanes { length lanes.old ≡ site.now.set.drives }
     requires disks { length disks.old ≡ site.now.set.drives }
     requires named { IsRegisterName name.now }
-    requires short { length name.now ≤ 1129 }
+    requires short { length name.now ≤ LONGEST_NAME }
     requires term { site.now.term < 2 ^ 48 }
     requires seq { drawn.old.seq ≤ LAST_SEQ }
     requires count { drawn.old.count ≤ LAST_COUNT }
@@ -136,7 +139,7 @@ pub(crate) fn peek_at<D: Drive, A: Audit>(
     requires lanes { length lanes.old ≡ site.now.set.drives }
     requires disks { length disks.old ≡ site.now.set.drives }
     requires named { IsRegisterName name.now }
-    requires short { length name.now ≤ 1129 }
+    requires short { length name.now ≤ LONGEST_NAME }
     requires term { site.now.term < 2 ^ 48 }
     requires seq { drawn.old.seq ≤ LAST_SEQ }
     requires count { drawn.old.count ≤ LAST_COUNT }
@@ -162,10 +165,10 @@ pub(crate) fn peek_at<D: Drive, A: Audit>(
     };
     match reserve(audit) {
         Ok(()) => {}
-        Err(Unreserved::Failed { before, after }) => {
+        Err(ReserveFault::Failed { before, after }) => {
             return audit_failed(site, before, after);
         }
-        Err(Unreserved::NoMemory) => return no_memory(),
+        Err(ReserveFault::NoMemory) => return no_memory(),
     }
     match peek_register(alloc, lanes, disks, site, name, drawn) {
         Peeked::Found(content, late) => Turn {

@@ -46,7 +46,7 @@ fn kept_entry(alloc: Global, ticket: u64, name: &str) -> Result<Entry, NoMemory>
 
 /// Why an audit has no place for an entry.
 #[derive(Clone, Copy)]
-pub(crate) enum Unreserved {
+pub(crate) enum ReserveFault {
     /// It failed: its count of faults before and after.
     Failed {
         /// The count before.
@@ -59,7 +59,7 @@ pub(crate) enum Unreserved {
 }
 
 /// Makes room for an entry in an audit.
-pub(crate) fn reserve<A: Audit>(audit: &mut A) -> Result<(), Unreserved>
+pub(crate) fn reserve<A: Audit>(audit: &mut A) -> Result<(), ReserveFault>
     ensures reserves { Reserves (A.count audit.old) (A.count audit.new) result }
     ensures room { OnOk result (1 ≤ A.room audit.new) }
     ensures entries { A.entries audit.new ≡ A.entries audit.old }
@@ -67,11 +67,11 @@ pub(crate) fn reserve<A: Audit>(audit: &mut A) -> Result<(), Unreserved>
     let before = audit.faults();
     match audit.reserve() {
         Ok(()) => Ok(()),
-        Err(AuditFault::Failed) => Err(Unreserved::Failed {
+        Err(AuditFault::Failed) => Err(ReserveFault::Failed {
             before,
             after: audit.faults(),
         }),
-        Err(AuditFault::NoMemory) => Err(Unreserved::NoMemory),
+        Err(AuditFault::NoMemory) => Err(ReserveFault::NoMemory),
     }
 }
 

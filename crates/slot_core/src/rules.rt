@@ -9,7 +9,7 @@ ghost use Rattle.version_list.specs.State.{IsCanonical};
 ghost use Rattle.slot_core.specs.Rules.{IsRead, NamesNone, key_fault, named_place};
 
 use bucket_book::{BucketRecord, row_laws};
-use call_types::ListRead;
+use call_types::ListFault;
 use register_core::{ContentFault, ContentRule};
 use stamp_id::VersionId;
 use std::alloc::Global;
@@ -30,8 +30,8 @@ fn read_bucket(alloc: Global, content: &[u8]) -> Result<Option<BucketRecord>, Co
     row_laws();
     match bucket_book::read(alloc, content) {
         Ok(row) => Ok(row),
-        Err(ListRead::NotCanonical(place)) => Err(ContentFault::At(place)),
-        Err(ListRead::NoMemory) => Err(ContentFault::NoMemory),
+        Err(ListFault::NotCanonical(place)) => Err(ContentFault::At(place)),
+        Err(ListFault::NoMemory) => Err(ContentFault::NoMemory),
     }
 }
 
@@ -60,8 +60,8 @@ fn read_key(
 {
     let state = match version_list::read(alloc, content) {
         Ok(state) => state,
-        Err(ListRead::NotCanonical(place)) => return Err(ContentFault::At(place)),
-        Err(ListRead::NoMemory) => return Err(ContentFault::NoMemory),
+        Err(ListFault::NotCanonical(place)) => return Err(ContentFault::At(place)),
+        Err(ListFault::NoMemory) => return Err(ContentFault::NoMemory),
     };
     match place_in(&state, first) {
         None => {}

@@ -5,51 +5,24 @@ use Rattle.drive_base.specs.Plan.{write_drives}
 use Rattle.drive_base.specs.declared.plan.SetPlan.{SetPlan}
 use Rattle.manifest_file.specs.declared.manifest.Manifest.{Manifest}
 use Rattle.slot_history.specs.Contents.{NamedData}
-use Rattle.slot_history.specs.Names.{key_name}
 use Rattle.slot_history.specs.Standing.{Records}
 use Rattle.slot_history.specs.State.{State}
 use Rattle.slot_data.specs.DiskLaws.{ElsewhereIsWritten, OnlyUnder}
 use Rattle.slot_data.specs.Disks.{Disks, HasHolders, HasPart, IsPieceOf, Keeps}
 use Rattle.slot_data.specs.Holding.{Hands, Holding}
-use Rattle.slot_data.specs.Live.{IsHeldData, IsLiveData}
 use Rattle.slot_data.specs.Moves.{LanesStand}
 use Rattle.slot_data.specs.Standing.{DataStands, IsListed, RecordNames}
 use Rattle.slot_data.proofs.DiskLemmas.{holders_stay, keeps_before, manifest_stays, piece_before, same_or_apart, shard_stays}
 use Rattle.slot_data.proofs.NamingLemmas.{record_names_id, record_of_coming, record_of_named}
+use Rattle.slot_data.proofs.StayLemmas.{data_stays}
 
 module _ (set : SetPlan) (slot last : ℕ) (records : Records) (state : State) (holding : Holding) (old new : Disks) (hands : Hands) (other : VersionId)
     (stands : LanesStand set last holding records state) (wrong : other.slot ≢ slot) (only : OnlyUnder set other old new)
-    (parts : (m : Manifest) (id : VersionId) → Keeps set new other m → HasPart m id → id.slot ≢ slot)
+    (piece_was : (whole id : VersionId) → id.slot ≡ slot → IsPieceOf set new whole id → IsPieceOf set old whole id)
     (d : DataStands set slot last records state holding old hands) where
   -- an id of the slot is another
   apart : (id : VersionId) → id.slot ≡ slot → id ≢ other
   apart id of same = wrong (subst (λ (y : VersionId). y.slot ≡ slot) same of)
-
-  -- what is kept under it was kept
-  kept_before : (id : VersionId) (m : Manifest) → id.slot ≡ slot → Keeps set new id m → Keeps set old id m
-  kept_before id m of kept = keeps_before set other old new only id m (apart id of) kept
-
-  -- and what it is a part of it was a part of
-  piece_was : (whole id : VersionId) → id.slot ≡ slot → IsPieceOf set new whole id → IsPieceOf set old whole id
-  piece_was whole id of piece = elim (same_or_apart whole other) [
-    | inl same ↦ absurd (parts piece.manifest id (subst (λ (y : VersionId). Keeps set new y piece.manifest) same piece.kept) piece.part of)
-    | inr differ ↦ piece_before set other old new only whole id differ piece
-  ]
-
-  held_before : (id : VersionId) → id.slot ≡ slot → IsHeldData set records state holding new id → IsHeldData set records state holding old id
-  held_before id of held = elim held.2 [
-    | inl whole ↦ (held.0, held.1, inl whole)
-    | inr piece ↦ (held.0, held.1, inr (piece_was held.0 id of piece))
-  ]
-
-  live_before : (id : VersionId) → id.slot ≡ slot → IsLiveData set records state holding new id → IsLiveData set records state holding old id
-  live_before id of live = elim live [
-    | inl held ↦ inl (held_before id of held)
-    | inr read ↦ elim read.2 [
-      | inl whole ↦ inr (read.0, read.1, inl whole)
-      | inr piece ↦ inr (read.0, read.1, inr (piece_was read.0 id of piece))
-    ]
-  ]
 
   -- data of the slot keeps its holders
   stays : (named : NamedData) (name : List ℕ) → named.id.slot ≡ slot → HasHolders set old named name → HasHolders set new named name
@@ -66,75 +39,29 @@ module _ (set : SetPlan) (slot last : ℕ) (records : Records) (state : State) (
     | inr pinned ↦ d.pins.of_slot id pinned
   ]
 
-  elsewhere_stands : DataStands set slot last records state holding new hands
-  elsewhere_stands = record {
-    names = d.names;
-    files = record {
-      manifests = λ k id bytes within of is.
-          d.files.manifests k id bytes within of (sym (manifest_stays set other old new only k id within (apart id of)) ∙ is);
-      shards = λ k id bytes within of is. d.files.shards k id bytes within of (sym (shard_stays set other old new only k id within (apart id of)) ∙ is);
-      pieces = λ whole id of piece. d.files.pieces whole id of (piece_was whole id of piece);
-      of_slot = λ whole id of piece. d.files.of_slot whole id of (piece_before set other old new only whole id (apart whole of) piece);
-      joined = λ whole id m n of kept part also.
-          let was = kept_before whole m of kept in
-          d.files.joined whole id m n of was part
-          (kept_before id n (d.files.of_slot whole id of (record { manifest = m; kept = was; part = part })) also);
-      single = λ id m of kept. d.files.single id m of (kept_before id m of kept);
-    };
-    flights = record {
-      of_slot = d.flights.of_slot;
-      differ = d.flights.differ;
-      unnamed = d.flights.unnamed;
-      unpinned = d.flights.unpinned;
-      no_trash = d.flights.no_trash;
-      no_part = λ f whole there piece. d.flights.no_part f whole there (piece_was whole f.id (d.flights.of_slot f there) piece);
-      gathered = λ f id there piece.
-          d.flights.gathered f id there (piece_before set other old new only f.id id (apart f.id (d.flights.of_slot f there)) piece);
-      named = λ f m there kept. d.flights.named f m there (kept_before f.id m (d.flights.of_slot f there) kept);
-    };
-    pins = record {
-      differ = d.pins.differ;
-      of_slot = d.pins.of_slot;
-      drawn = d.pins.drawn;
-      named = λ p id m there names kept.
-          d.pins.named p id m there names (kept_before id m (d.pins.of_slot id (record { pin = p; there = there; names = names })) kept);
-      held = λ p id there names.
-          let was = d.pins.held p id there names in
-          let of : id.slot ≡ slot = d.pins.of_slot id (record { pin = p; there = there; names = names }) in
-          record {
-            named = was.named;
-            register = was.register;
-            id_is = was.id_is;
-            key = was.key;
-            holders = stays was.named was.register (subst (λ (y : VersionId). y.slot ≡ slot) (sym was.id_is) of) was.holders;
-          };
-      parts = d.pins.parts;
-    };
-    trash = record {
-      unheld = λ id there held. d.trash.unheld id there (held_before id (d.trash.of_slot id there) held);
-      no_part = λ id whole there pinned piece. d.trash.no_part id whole there pinned (piece_was whole id (d.trash.of_slot id there) piece);
-      of_slot = d.trash.of_slot;
-      drawn = d.trash.drawn;
-    };
-    in_hand = record {
-      dead = λ id there live. d.in_hand.dead id there (live_before id (d.in_hand.of_slot id there) live);
-      of_slot = d.in_hand.of_slot;
-      drawn = d.in_hand.drawn;
-      listed = d.in_hand.listed;
-      holders = λ x there. stays x.named x.name (listed_of x.named.id (d.in_hand.listed x there)) (d.in_hand.holders x there);
-    };
-    holders = record {
-      named = λ name named is. stays named name
-          (recorded_of name named.id
-          (record_of_named (write_drives set.drives set.parity) set.drives last holding.flights records state name named named.id stands is refl))
-          (d.holders.named name named is);
-      coming = λ name named is. stays named name (recorded_of name named.id (record_of_coming records state name named named.id is refl))
-          (d.holders.coming name named is);
-      adds = d.holders.adds;
-      wholes = λ whole id piece is. d.holders.wholes whole id (piece_was whole id (recorded_of (key_name is.0) id is.1) piece) is;
-    };
-  }
+  pub elsewhere_stands : DataStands set slot last records state holding new hands
+  elsewhere_stands = data_stays set slot last records state holding old new hands
+      (λ k id bytes within of is. sym (manifest_stays set other old new only k id within (apart id of)) ∙ is)
+      (λ k id bytes within of is. sym (shard_stays set other old new only k id within (apart id of)) ∙ is)
+      (λ id m of kept. keeps_before set other old new only id m (apart id of) kept)
+      piece_was
+      (λ name named is. stays named name
+      (recorded_of name named.id
+      (record_of_named (write_drives set.drives set.parity) set.drives last holding.flights records state name named named.id stands is refl)))
+      (λ name named is. stays named name (recorded_of name named.id (record_of_coming records state name named named.id is refl)))
+      (λ name named is. stays named name (listed_of named.id is))
+      d
+
+-- what an id of the slot is a part of it was a part of, where nothing of the slot is a part of what is written
+piece_was_elsewhere : (set : SetPlan) (slot : ℕ) (old new : Disks) (other : VersionId) → OnlyUnder set other old new
+    → ((m : Manifest) (id : VersionId) → Keeps set new other m → HasPart m id → id.slot ≢ slot)
+    → (whole id : VersionId) → id.slot ≡ slot → IsPieceOf set new whole id → IsPieceOf set old whole id
+piece_was_elsewhere set slot old new other only parts whole id of piece = elim (same_or_apart whole other) [
+  | inl same ↦ absurd (parts piece.manifest id (subst (λ (y : VersionId). Keeps set new y piece.manifest) same piece.kept) piece.part of)
+  | inr differ ↦ piece_before set other old new only whole id differ piece
+]
 
 pub elsewhere_is_written : ElsewhereIsWritten
 elsewhere_is_written set slot last records state holding old new hands other stands wrong only parts d =
-    elsewhere_stands set slot last records state holding old new hands other stands wrong only parts d
+    elsewhere_stands set slot last records state holding old new hands other stands wrong only
+    (piece_was_elsewhere set slot old new other only parts) d

@@ -13,5 +13,6 @@ pub mod PinLemmas
 pub mod RemovedLemmas
 pub mod RowLemmas
 pub mod SetLemmas
+mod StayLemmas
 pub mod ValueLemmas
 pub mod WriteLemmas

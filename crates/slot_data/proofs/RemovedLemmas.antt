@@ -12,17 +12,18 @@ use Rattle.slot_data.specs.DiskLaws.{IsRemoved, StaysOrGoes, TakenIsRemoved}
 use Rattle.slot_data.specs.Disks.{Disks, HasHolders, IsPieceOf, Keeps, Reaches, kept_on}
 use Rattle.slot_data.specs.Holding.{Hands, Holding, IsPinned, IsPinnedFor, Purpose}
 use Rattle.slot_data.specs.Holding.Purpose.{ForComplete, ForHeal, ForRead}
-use Rattle.slot_data.specs.Live.{IsHeldData, IsLiveData, IsWanted}
+use Rattle.slot_data.specs.Live.{IsLiveData, IsWanted}
 use Rattle.slot_data.specs.Standing.{DataStands, IsListed}
 use Rattle.slot_data.proofs.DiskLemmas.{holders_stay, keeps_before, manifest_stays, same_or_apart, shard_stays}
+use Rattle.slot_data.proofs.StayLemmas.{data_stays}
 
 -- what is kept was kept
 some_before : (was now : Option (List ℕ)) (bytes : List ℕ) → StaysOrGoes was now → now ≡ Some bytes → was ≡ Some bytes
 some_before was now bytes (inl same) is = sym same ∙ is
 some_before was now bytes (inr gone) is = (let none : None ≡ Some bytes = sym gone ∙ is in absurd cc)
 
-module _ (set : SetPlan) (slot last : ℕ) (records : Records) (state : State) (holding : Holding) (old new : Disks) (hands : Hands) (id : VersionId)
-    (taken : Contains hands.taken id) (removed : IsRemoved set id old new) (d : DataStands set slot last records state holding old hands) where
+module _ (set : SetPlan) (old new : Disks) (id : VersionId) (removed : IsRemoved set id old new) where
+  -- what is kept under any id was kept
   kept_before : (other : VersionId) (m : Manifest) → Keeps set new other m → Keeps set old other m
   kept_before other m kept = elim (same_or_apart other id) [
     | inl same ↦
@@ -55,27 +56,13 @@ module _ (set : SetPlan) (slot last : ℕ) (records : Records) (state : State) (
     | inr apart ↦ sym (shard_stays set id old new removed.only k other within apart) ∙ is
   ]
 
-  -- so parts were parts, what is held was held, and what is live was live
-  piece_was : (whole other : VersionId) → IsPieceOf set new whole other → IsPieceOf set old whole other
-  piece_was whole other piece = record { manifest = piece.manifest; kept = kept_before whole piece.manifest piece.kept; part = piece.part }
+  -- so parts were parts
+  pub piece_was_removed : (whole other : VersionId) → IsPieceOf set new whole other → IsPieceOf set old whole other
+  piece_was_removed whole other piece = record { manifest = piece.manifest; kept = kept_before whole piece.manifest piece.kept; part = piece.part }
 
-  reached_before : (whole other : VersionId) → Reaches set new whole other → Reaches set old whole other
-  reached_before whole other reaches = elim reaches [
-    | inl same ↦ inl same
-    | inr piece ↦ inr (piece_was whole other piece)
-  ]
-
-  held_before : (other : VersionId) → IsHeldData set records state holding new other → IsHeldData set records state holding old other
-  held_before other held = (held.0, held.1, reached_before held.0 other held.2)
-
-  live_before : (other : VersionId) → IsLiveData set records state holding new other → IsLiveData set records state holding old other
-  live_before other live = elim live [
-    | inl held ↦ inl (held_before other held)
-    | inr read ↦ inr (read.0, read.1, reached_before read.0 other read.2)
-  ]
-
-  -- ---- what is wanted or pinned is live, and so are its parts
-
+module _ (set : SetPlan) (slot last : ℕ) (records : Records) (state : State) (holding : Holding) (old new : Disks) (hands : Hands) (id : VersionId)
+    (taken : Contains hands.taken id) (removed : IsRemoved set id old new) (d : DataStands set slot last records state holding old hands) where
+  -- what is wanted or pinned is live, and so are its parts
   abbrev IsRoot : VersionId → Type 0
   IsRoot whole = IsWanted records state holding whole ⊎ (IsPinnedFor ForRead holding.pins whole ⊎ IsPinnedFor ForHeal holding.pins whole)
 
@@ -106,63 +93,15 @@ module _ (set : SetPlan) (slot last : ℕ) (records : Records) (state : State) (
       (λ piece. d.in_hand.dead id taken (live_of named.id id root (inr piece)))
 
   removed_stands : DataStands set slot last records state holding new hands
-  removed_stands = record {
-    names = d.names;
-    files = record {
-      manifests = λ k other bytes within of is. d.files.manifests k other bytes within of (manifest_before k other bytes within is);
-      shards = λ k other bytes within of is. d.files.shards k other bytes within of (shard_before k other bytes within is);
-      pieces = λ whole other of piece. d.files.pieces whole other of (piece_was whole other piece);
-      of_slot = λ whole other of piece. d.files.of_slot whole other of (piece_was whole other piece);
-      joined = λ whole other m n of kept part also. d.files.joined whole other m n of (kept_before whole m kept) part (kept_before other n also);
-      single = λ other m of kept. d.files.single other m of (kept_before other m kept);
-    };
-    flights = record {
-      of_slot = d.flights.of_slot;
-      differ = d.flights.differ;
-      unnamed = d.flights.unnamed;
-      unpinned = d.flights.unpinned;
-      no_trash = d.flights.no_trash;
-      no_part = λ f whole there piece. d.flights.no_part f whole there (piece_was whole f.id piece);
-      gathered = λ f other there piece. d.flights.gathered f other there (piece_was f.id other piece);
-      named = λ f m there kept. d.flights.named f m there (kept_before f.id m kept);
-    };
-    pins = record {
-      differ = d.pins.differ;
-      of_slot = d.pins.of_slot;
-      drawn = d.pins.drawn;
-      named = λ p other m there names kept. d.pins.named p other m there names (kept_before other m kept);
-      held = λ p other there names.
-          let was = d.pins.held p other there names in
-          record {
-            named = was.named;
-            register = was.register;
-            id_is = was.id_is;
-            key = was.key;
-            holders = stays was.named was.register
-                (subst (λ (y : VersionId). IsRoot y) (sym was.id_is) (pin_root other (record { pin = p; there = there; names = names }))) was.holders;
-          };
-      parts = d.pins.parts;
-    };
-    trash = record {
-      unheld = λ other there held. d.trash.unheld other there (held_before other held);
-      no_part = λ other whole there pinned piece. d.trash.no_part other whole there pinned (piece_was whole other piece);
-      of_slot = d.trash.of_slot;
-      drawn = d.trash.drawn;
-    };
-    in_hand = record {
-      dead = λ other there live. d.in_hand.dead other there (live_before other live);
-      of_slot = d.in_hand.of_slot;
-      drawn = d.in_hand.drawn;
-      listed = d.in_hand.listed;
-      holders = λ x there. stays x.named x.name (listed_root x.named.id (d.in_hand.listed x there)) (d.in_hand.holders x there);
-    };
-    holders = record {
-      named = λ name named is. stays named name (inl (inl (name, named, is, refl))) (d.holders.named name named is);
-      coming = λ name named is. stays named name (inl (inr (inl (name, named, is, refl)))) (d.holders.coming name named is);
-      adds = d.holders.adds;
-      wholes = λ whole other piece is. d.holders.wholes whole other (piece_was whole other piece) is;
-    };
-  }
+  removed_stands = data_stays set slot last records state holding old new hands
+      (λ k other bytes within of is. manifest_before set old new id removed k other bytes within is)
+      (λ k other bytes within of is. shard_before set old new id removed k other bytes within is)
+      (λ other m of kept. kept_before set old new id removed other m kept)
+      (λ whole other of piece. piece_was_removed set old new id removed whole other piece)
+      (λ name named is. stays named name (inl (inl (name, named, is, refl))))
+      (λ name named is. stays named name (inl (inr (inl (name, named, is, refl)))))
+      (λ name named is. stays named name (listed_root named.id is))
+      d
 
 pub taken_is_removed : TakenIsRemoved
 taken_is_removed set slot last records state holding old new hands id taken removed d =

@@ -18,7 +18,7 @@ use Rattle.slot_history.proofs.LawfulLemmas.{late_lawful}
 use Rattle.slot_history.proofs.MemberLemmas.{taken_after, taken_before, takes_out}
 use Rattle.slot_history.proofs.MoveLemmas.{moves_stand, put, put_changes}
 use Rattle.slot_history.proofs.StandLemmas.{spent_later}
-use Rattle.slot_history.proofs.StayLemmas.{IsItself, Stayed, stays_stand}
+use Rattle.slot_history.proofs.StayLemmas.{IsItself, stays_as_it_was}
 use Rattle.slot_history.proofs.WroteLemmas.{Setting, Wrote, made, stood}
 
 -- a change that is on its way was written again
@@ -113,29 +113,14 @@ module _ (s : Setting) (p : Waiting) (way : IsOnItsWay s.old s.state p) (again :
       → ((a : Lane) (next : Next) → Contains s.after a → HasNext a next → IsLive s.after s.now a next
       → WasLive (s.old s.name) (stood s).change next ⊎ IsWritten s.x next)
       → Stands s.w s.drives s.later s.rest s.new s.state × OnlyTheOld s.old s.state s.new s.state
-  again_stays drawing now_is shows_is lives =
+  again_stays drawing =
       let itself : IsItself s p = record {
         change_is = sym again.change_is;
         name_is = sym again.name_is;
         parent_is = again_parent ∙ ap (λ n. (s.state.registers n).change) (sym again.name_is);
         content_is = sym again.content_is;
       } in
-      let stays : Stayed s s.state.pending = record {
-        waits = λ a next live written. (p, way.waits.there, itself);
-        kept = λ q h. h;
-        before = λ q h. inl h;
-        lawful = again.stands.lawful;
-        now_is = now_is;
-        shows_is = shows_is;
-        lives = lives;
-      } in
-      let result = stays_stand drawing s again_wrote s.state.pending stays in (
-        result.0,
-        λ q on_its_way. elim (result.1 q on_its_way) [
-          | inl was ↦ was
-          | inr itself_too ↦ way_itself q on_its_way.waits.there itself_too
-        ],
-      )
+      stays_as_it_was drawing s again_wrote (λ a next live written. (p, way.waits.there, itself)) way_itself
 
   -- the state after the late step
   abbrev again_rest : List Waiting

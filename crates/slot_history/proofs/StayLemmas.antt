@@ -4,6 +4,7 @@ use Rattle.vote_core.specs.Lane.{HasNext, Lane, Next}
 use Rattle.vote_core.specs.Laws.{DrawingKeeps}
 use Rattle.vote_core.specs.Sound.{HoldsValue, IsLive}
 use Rattle.slot_history.specs.Contents.{NamesData}
+use Rattle.slot_history.specs.Laws.{OnlyTheOld}
 use Rattle.slot_history.specs.Sections.{IsOnItsWay}
 use Rattle.slot_history.specs.Standing.{IsAdded, IsSpent, Stands, StandsUnder, WaitsAs}
 use Rattle.slot_history.specs.State.{State, Waiting}
@@ -147,3 +148,29 @@ stays_stand drawing s wrote pending stays = (
   },
   way_stayed s wrote pending stays,
 )
+
+-- and where no change came to wait: what is on its way then was so before
+pub stays_as_it_was : DrawingKeeps → (s : Setting) → Wrote s
+    → ((a : Lane) (next : Next) → IsLive s.after s.now a next → IsWritten s.x next → (own : Waiting) × Contains s.state.pending own × IsItself s own)
+    → ((q : Waiting) → Contains s.state.pending q → IsItself s q → IsOnItsWay s.old s.state q)
+    → s.now ≡ (stood s).change → s.shows ≡ (stood s).content
+    → ((a : Lane) (next : Next) → Contains s.after a → HasNext a next → IsLive s.after s.now a next
+    → WasLive (s.old s.name) (stood s).change next ⊎ IsWritten s.x next)
+    → Stands s.w s.drives s.later s.rest s.new s.state × OnlyTheOld s.old s.state s.new s.state
+stays_as_it_was drawing s wrote waits way_itself now_is shows_is lives =
+    let stays : Stayed s s.state.pending = record {
+      waits = waits;
+      kept = λ q h. h;
+      before = λ q h. inl h;
+      lawful = wrote.stands.lawful;
+      now_is = now_is;
+      shows_is = shows_is;
+      lives = lives;
+    } in
+    let result = stays_stand drawing s wrote s.state.pending stays in (
+      result.0,
+      λ q way. elim (result.1 q way) [
+        | inl was ↦ was
+        | inr itself ↦ way_itself q way.waits.there itself
+      ],
+    )

@@ -14,7 +14,7 @@ use Rattle.register_caller.specs.Leaving.{IsWritten, LeavesLanes, WasLive}
 use Rattle.slot_history.specs.Writing.{WritesUnder}
 use Rattle.slot_history.proofs.NameLemmas.{bucket_not_part, key_not_part, part_names_tell}
 use Rattle.slot_history.proofs.StandLemmas.{spent_later}
-use Rattle.slot_history.proofs.StayLemmas.{Stayed, stays_stand}
+use Rattle.slot_history.proofs.StayLemmas.{stays_as_it_was}
 use Rattle.slot_history.proofs.WroteLemmas.{Setting, Wrote, stood}
 
 -- the change of the value was written again
@@ -102,23 +102,9 @@ module _ (s : Setting) (again : Rewrites s) where
       → ((a : Lane) (next : Next) → Contains s.after a → HasNext a next → IsLive s.after s.now a next
       → WasLive (s.old s.name) (stood s).change next ⊎ IsWritten s.x next)
       → Stands s.w s.drives s.later s.rest s.new s.state × OnlyTheOld s.old s.state s.new s.state
-  value_stays drawing now_is shows_is lives =
-      let stays : Stayed s s.state.pending = record {
-        waits = λ a next live written. absurd (value_marked now_is a next live written);
-        kept = λ q h. h;
-        before = λ q h. inl h;
-        lawful = again.stands.lawful;
-        now_is = now_is;
-        shows_is = shows_is;
-        lives = lives;
-      } in
-      let result = stays_stand drawing s value_wrote s.state.pending stays in (
-        result.0,
-        λ q way. elim (result.1 q way) [
-          | inl was ↦ was
-          | inr itself ↦ absurd (value_waits_not q way.waits.there itself.change_is)
-        ],
-      )
+  value_stays drawing now_is =
+      stays_as_it_was drawing s value_wrote (λ a next live written. absurd (value_marked now_is a next live written))
+      (λ q there itself. absurd (value_waits_not q there itself.change_is)) now_is
 
 pub value_stands : DrawingKeeps → ValueStands
 value_stands drawing w drives last later flights old new state name x after now shows some enough up stands held change_is content_is left writes =

@@ -1,10 +1,13 @@
 -- Loose names of formats are text, and their letters.
-use Rattle.std.proofs.Common.{◌≡◌, ℕ, zero, suc, ◌+◌, ◌<◌, ◌/◌, ◌%◌, List, ◌∷◌, [], ◌++◌, length, drop, set, ap, ◌∙◌, arith, lit<}
+use Rattle.std.proofs.Common.{◌≡◌, ℕ, ◌+◌, ◌<◌, ◌/◌, ◌%◌, List, ◌∷◌, [], ◌++◌, length, drop, nat_lt, set, refl, ap, ◌∙◌, arith, lit<}
 use Rattle.std.specs.Prelude.{IsTrue}
 use Rattle.std.specs.Int.{w64, to_be_bytes}
 use Rattle.std.specs.Str.{IsAscii, is_utf8}
+use Rattle.std.proofs.lemmas.Bool.{ltb-true}
 use Rattle.std.proofs.lemmas.Str.{IsAscii-append, IsUtf8-from_ascii, is_utf8-from_IsUtf8}
-use Rattle.std.proofs.lemmas.Str.Ascii.{IsAscii-cons}
+use Rattle.std.proofs.lemmas.Str.Ascii.{IsAscii-cons, IsAscii-from_all, IsAscii-nil}
+use Rattle.std.proofs.lemmas.List.Elements.{All-weaker}
+use Rattle.std.proofs.lemmas.List.Sums.{AllPass-from_list_all}
 use Rattle.std.proofs.lemmas.List.{set-append_right}
 use Rattle.hex.specs.Hex.{encode_lower, lower_digits}
 use Rattle.hex.proofs.HexLemmas.{IsAscii-encode_with, length-encode_with}
@@ -16,28 +19,9 @@ length_term term = length-encode_with lower_digits (drop 2 (to_be_bytes w64 term
 
 -- the digits are ASCII
 IsAscii-lower_digits : IsAscii lower_digits
-IsAscii-lower_digits zero = lit< tt
-IsAscii-lower_digits (suc zero) = lit< tt
-IsAscii-lower_digits (suc (suc zero)) = lit< tt
-IsAscii-lower_digits (suc (suc (suc zero))) = lit< tt
-IsAscii-lower_digits (suc (suc (suc (suc zero)))) = lit< tt
-IsAscii-lower_digits (suc (suc (suc (suc (suc zero))))) = lit< tt
-IsAscii-lower_digits (suc (suc (suc (suc (suc (suc zero)))))) = lit< tt
-IsAscii-lower_digits (suc (suc (suc (suc (suc (suc (suc zero))))))) = lit< tt
-IsAscii-lower_digits (suc (suc (suc (suc (suc (suc (suc (suc zero)))))))) = lit< tt
-IsAscii-lower_digits (suc (suc (suc (suc (suc (suc (suc (suc (suc zero))))))))) = lit< tt
-IsAscii-lower_digits (suc (suc (suc (suc (suc (suc (suc (suc (suc (suc zero)))))))))) = lit< tt
-IsAscii-lower_digits (suc (suc (suc (suc (suc (suc (suc (suc (suc (suc (suc zero))))))))))) = lit< tt
-IsAscii-lower_digits (suc (suc (suc (suc (suc (suc (suc (suc (suc (suc (suc (suc zero)))))))))))) = lit< tt
-IsAscii-lower_digits (suc (suc (suc (suc (suc (suc (suc (suc (suc (suc (suc (suc (suc zero))))))))))))) = lit< tt
-IsAscii-lower_digits (suc (suc (suc (suc (suc (suc (suc (suc (suc (suc (suc (suc (suc (suc zero)))))))))))))) = lit< tt
-IsAscii-lower_digits (suc (suc (suc (suc (suc (suc (suc (suc (suc (suc (suc (suc (suc (suc (suc zero))))))))))))))) = lit< tt
-IsAscii-lower_digits (suc (suc (suc (suc (suc (suc (suc (suc (suc (suc (suc (suc (suc (suc (suc (suc i)))))))))))))))) = lit< tt
-
--- no letter is ASCII too
-IsAscii-none : IsAscii []
-IsAscii-none zero = lit< tt
-IsAscii-none (suc i) = lit< tt
+IsAscii-lower_digits =
+    IsAscii-from_all lower_digits (All-weaker (λ b. IsTrue (nat_lt b 128)) (λ b. b < 128) (λ b. ltb-true b 128) lower_digits
+    (AllPass-from_list_all (λ (b : ℕ). nat_lt b 128) lower_digits refl))
 
 -- a loose name is text
 pub loose_name-IsUtf8 : (term index : ℕ) → index < 100 → IsTrue (is_utf8 (loose_format_name term index))
@@ -46,7 +30,7 @@ loose_name-IsUtf8 term index small =
     let tens : 48 + index / 10 < 128 = omega (arith, small) in
     let ones : 48 + index % 10 < 128 = omega arith in
     let last : IsAscii ((48 + index / 10) ∷ (48 + index % 10) ∷ []) =
-    IsAscii-cons (48 + index / 10) ((48 + index % 10) ∷ []) tens (IsAscii-cons (48 + index % 10) [] ones IsAscii-none) in
+    IsAscii-cons (48 + index / 10) ((48 + index % 10) ∷ []) tens (IsAscii-cons (48 + index % 10) [] ones IsAscii-nil) in
     is_utf8-from_IsUtf8 (loose_format_name term index) (IsUtf8-from_ascii (loose_format_name term index)
     (IsAscii-cons 102 (hex ++ (48 + index / 10) ∷ (48 + index % 10) ∷ []) (lit< tt)
     (IsAscii-append hex ((48 + index / 10) ∷ (48 + index % 10) ∷ []) (IsAscii-encode_with lower_digits

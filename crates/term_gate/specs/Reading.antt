@@ -5,8 +5,8 @@ use Rattle.call_types.specs.declared.why.Why.{Why}
 use Rattle.call_types.specs.declared.why.Why.TheVariants.{Good, Failed, Damaged, Behind, Lacks}
 use Rattle.drive_base.specs.View.{AllOnlyRead, AtEach, DriveView}
 use Rattle.file_access.specs.Reading.{FailedWhile}
-use Rattle.file_access.specs.declared.cause.NotGiven.{NotGiven}
-use Rattle.file_access.specs.declared.cause.NotGiven.TheVariants.{Because, NoMemory}
+use Rattle.file_access.specs.declared.fault.FetchFault.{FetchFault}
+use Rattle.file_access.specs.declared.fault.FetchFault.TheVariants.{Because, NoMemory}
 use Rattle.term_gate.specs.Formats.{IsFormatDamage, format_name}
 use Rattle.term_gate.specs.Table.{IsCanonical, format_file}
 use Rattle.term_gate.specs.declared.record.Format.{Format as DriveFormat}
@@ -38,7 +38,7 @@ DriveIsRead (Some f) why old new = (why ≡ Good) × (new.count ≡ old.count) �
 DriveIsRead None why old new = NoFormat why old new
 
 -- what reading one drive answers; memory was wanting only where no count rose
-abbrev pub ReadsDrive : Result DriveFormat NotGiven → DriveView → DriveView → Type 0
+abbrev pub ReadsDrive : Result DriveFormat FetchFault → DriveView → DriveView → Type 0
 ReadsDrive (Ok f) old new = DriveIsRead (Some f) Good old new
 ReadsDrive (Err (Because why)) old new = DriveIsRead None why old new
 ReadsDrive (Err NoMemory) old new = new.count ≡ old.count
@@ -52,7 +52,7 @@ IsDamagedSo bytes (Behind _) = ⊥
 IsDamagedSo bytes (Lacks _) = ⊥
 
 -- the format whose file the bytes are, or what is wrong with them
-abbrev pub OpensFormat : List ℕ → Result DriveFormat NotGiven → Type 0
+abbrev pub OpensFormat : List ℕ → Result DriveFormat FetchFault → Type 0
 OpensFormat bytes (Ok f) = IsCanonical f × (bytes ≡ format_file f)
 OpensFormat bytes (Err (Because why)) = IsDamagedSo bytes why
 OpensFormat bytes (Err NoMemory) = Unit {0}

@@ -10,7 +10,7 @@ ghost use Rattle.term_gate.specs.Table.{IsCanonical, Row, format_file, format_ki
 use crate::record::Format;
 use fault_base::NoMemory;
 use field_reader::{Fields, Misspelled, ReadFault, put_bytes, put_u8, put_u64, refuse_unless};
-use seal_file::FileRead;
+use seal_file::RecordFault;
 use sealed_record::{Record, take_format};
 use std::alloc::{AllocError, Global};
 
@@ -69,7 +69,7 @@ impl Record for Format {
 /// Bytes that are no sealed file of the kind `OFMT` are `Unsealed`, with their first damage. A body that spells no
 /// format is `NotCanonical`, at the place of its first fault, counted from 0 in the body.
 #[tactic(auto, using(crate::proofs::FormatLemmas::format_lawful))]
-pub fn read(alloc: Global, bytes: &[u8]) -> Result<Format, FileRead>
+pub fn read(alloc: Global, bytes: &[u8]) -> Result<Format, RecordFault>
     ensures outcome { Reads format_kind format_table bytes.now result }
     ensures only { ReadsFiles format_kind format_table bytes.now result }
     ensures damaged { NamesDamage format_kind bytes.now result }

@@ -9,8 +9,8 @@ use crate::record::Format;
 use call_types::{FileKind, Why, Whys};
 use drive_base::Drive;
 use fault_base::NoMemory;
-use file_access::{NotGiven, file_on};
-use seal_file::{Damage, FileRead};
+use file_access::{FetchFault, file_on};
+use seal_file::{Damage, RecordFault};
 use std::alloc::Global;
 
 /// The name of a drive's format file.
@@ -40,18 +40,18 @@ pub fn read_formats<D: Drive>(alloc: Global, disks: &mut [D]) -> Result<Reading,
     for (index, disk) in disks.iter_mut().enumerate() {
         match read_on(alloc, disk) {
             Ok(format) => formats.push(Some(format))?,
-            Err(NotGiven::Because(why)) => {
+            Err(FetchFault::Because(why)) => {
                 formats.push(None)?;
                 whys.set(index, why);
             }
-            Err(NotGiven::NoMemory) => return Err(NoMemory),
+            Err(FetchFault::NoMemory) => return Err(NoMemory),
         }
     }
     Ok(Reading { formats, whys })
 }
 
 /// The format of a drive.
-fn read_on<D: Drive>(alloc: Global, disk: &mut D) -> Result<Format, NotGiven>
+fn read_on<D: Drive>(alloc: Global, disk: &mut D) -> Result<Format, FetchFault>
     ensures outcome { ReadsDrive result (view D.Drive disk.old) (view D.Drive disk.new) }
     ensures only { OnlyRead (view D.Drive disk.old) (view D.Drive disk.new) }
 {
@@ -62,15 +62,15 @@ fn read_on<D: Drive>(alloc: Global, disk: &mut D) -> Result<Format, NotGiven>
 }
 
 /// The format whose file these bytes are.
-fn open_format(alloc: Global, bytes: &[u8]) -> Result<Format, NotGiven>
+fn open_format(alloc: Global, bytes: &[u8]) -> Result<Format, FetchFault>
     ensures { OpensFormat bytes.now result }
 {
     match read(alloc, bytes) {
         Ok(format) => Ok(format),
-        Err(FileRead::Unsealed(damage)) => Err(NotGiven::Because(Why::Damaged(damage))),
-        Err(FileRead::NotCanonical(place)) => {
-            Err(NotGiven::Because(Why::Damaged(Damage::Spelling(place))))
+        Err(RecordFault::Unsealed(damage)) => Err(FetchFault::Because(Why::Damaged(damage))),
+        Err(RecordFault::NotCanonical(place)) => {
+            Err(FetchFault::Because(Why::Damaged(Damage::Spelling(place))))
         }
-        Err(FileRead::NoMemory) => Err(NotGiven::NoMemory),
+        Err(RecordFault::NoMemory) => Err(FetchFault::NoMemory),
     }
 }

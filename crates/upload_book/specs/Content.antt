@@ -2,8 +2,8 @@
 use Rattle.std.specs.Prelude.{◌≡◌, ℕ, List, [], length, Option, Some, None, Result, Ok, Err, ◌==◌, if◌then◌else◌}
 use Rattle.field_reader.specs.Format.{fault_at}
 use Rattle.call_types.specs.declared.version.PartRecord.{PartRecord}
-use Rattle.call_types.specs.declared.refusal.ListRead.{ListRead}
-use Rattle.call_types.specs.declared.refusal.ListRead.TheVariants.{NotCanonical, NoMemory}
+use Rattle.call_types.specs.declared.refusal.ListFault.{ListFault}
+use Rattle.call_types.specs.declared.refusal.ListFault.TheVariants.{NotCanonical, NoMemory}
 use Rattle.upload_book.specs.Table.{IsCanonical, part, row_of, bytes_of}
 
 -- the content of a register
@@ -21,17 +21,17 @@ abbrev pub content_fault : List ℕ → Option ℕ
 content_fault content = if length content == 0 then None else fault_at part content
 
 -- What each answer says of a content: it is that of a register, or it has its first fault there.
-abbrev pub ReadsContent : List ℕ → Result (Option PartRecord) ListRead → Type 0
+abbrev pub ReadsContent : List ℕ → Result (Option PartRecord) ListFault → Type 0
 ReadsContent content (Ok row) = IsCanonicalRow row × (content ≡ content_of row)
 ReadsContent content (Err (NotCanonical place)) = content_fault content ≡ Some place
 ReadsContent content (Err NoMemory) = Unit {0}
 
 -- The answer is this row, unless memory was missing.
-abbrev pub IsReadAs : Option PartRecord → Result (Option PartRecord) ListRead → Type 0
+abbrev pub IsReadAs : Option PartRecord → Result (Option PartRecord) ListFault → Type 0
 IsReadAs row (Ok read) = read ≡ row
 IsReadAs row (Err (NotCanonical place)) = ⊥
 IsReadAs row (Err NoMemory) = Unit {0}
 
 -- The content of a row is read as that row.
-abbrev pub ReadsRows : List ℕ → Result (Option PartRecord) ListRead → Type 0
+abbrev pub ReadsRows : List ℕ → Result (Option PartRecord) ListFault → Type 0
 ReadsRows content result = (row : Option PartRecord) → IsCanonicalRow row → content ≡ content_of row → IsReadAs row result

@@ -13,6 +13,7 @@ use Rattle.upload_book.specs.declared.gathering.ListedPart.{ListedPart}
 use Rattle.upload_book.specs.declared.gathering.GatherFault.{GatherFault}
 use Rattle.upload_book.specs.declared.gathering.GatherFault.TheVariants as fault
 use Rattle.upload_book.specs.Storing.{is_open}
+use Rattle.upload_book.specs.Limits.{part_least}
 
 -- whether each number is above the one before it, and the first above this one
 abbrev pub is_rising_above : ℕ → List ℕ → Bool
@@ -45,7 +46,7 @@ is_found listed = has_md5 listed.part.md5 listed.found
 
 -- whether a part may stand before others
 abbrev pub is_large : PartRecord → Bool
-is_large part = nat_le 5242880 part.length
+is_large part = nat_le part_least part.length
 
 -- all parts other than the last
 abbrev pub all_but_last : List PartRecord → List PartRecord

@@ -8,6 +8,7 @@ use Rattle.stamp_id.specs.VersionId.{id_bytes}
 use Rattle.stamp_id.specs.IdField.{id_field}
 use Rattle.call_types.specs.declared.version.PartRecord.{PartRecord}
 use Rattle.upload_book.specs.declared.record.Spelled.{Spelled}
+use Rattle.version_list.specs.Limits.{moment_limit}
 
 -- what is spelled of a record: the id stands as its 16 bytes
 pub record PartRow : Type 0 where
@@ -23,7 +24,7 @@ row_of p = record { data_id = id_bytes p.data_id; print = p.print; size = p.leng
 
 -- whether a number is a moment: Unix seconds before the year 10000
 abbrev pub is_moment : ℕ → Bool
-is_moment moment = nat_lt moment 253402300800
+is_moment moment = nat_lt moment moment_limit
 
 -- the format of records: the fields in their order, each with its rule
 unfoldable pub part : Format PartRow
@@ -44,7 +45,7 @@ pub record IsCanonical (p : PartRecord) : Type 0 where
   pub print_sized : length p.print ≡ 32
   pub size_fits : p.length < 2 ^ 64
   pub md5_sized : length p.md5 ≡ 16
-  pub modified : p.modified < 253402300800
+  pub modified : p.modified < moment_limit
 
 -- the table of records
 abbrev pub part_table : Table Spelled PartRow

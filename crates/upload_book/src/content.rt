@@ -5,7 +5,7 @@ ghost use Rattle.upload_book.specs.Content.{content_of, IsCanonicalRow, ReadsCon
 ghost use Rattle.upload_book.specs.Laws.{ContentsHaveNoFault, FaultlessIsContent, ContentIsInjective};
 
 use crate::record::Spelled;
-use call_types::{ListRead, PartRecord};
+use call_types::{ListFault, PartRecord};
 use fault_base::NoMemory;
 use field_reader::ReadFault;
 use sealed_record::{read_body, write_body};
@@ -15,7 +15,7 @@ use std::alloc::Global;
 /// `NotCanonical`, at the place of its first fault: the start of the first field that breaks its rule, the number of its
 /// bytes where bytes are missing, or the first byte too many.
 #[tactic(auto, using(crate::proofs::Lawful::part_lawful))]
-pub fn read(alloc: Global, content: &[u8]) -> Result<Option<PartRecord>, ListRead>
+pub fn read(alloc: Global, content: &[u8]) -> Result<Option<PartRecord>, ListFault>
     // What is read is canonical, and this is its content; a refusal names the first fault.
     ensures outcome { ReadsContent content.now result }
     // The content of a canonical row is read as that row.
@@ -26,8 +26,8 @@ pub fn read(alloc: Global, content: &[u8]) -> Result<Option<PartRecord>, ListRea
     }
     match read_body(alloc, content) {
         Ok(Spelled(there)) => Ok(Some(there)),
-        Err(ReadFault::At(place)) => Err(ListRead::NotCanonical(place)),
-        Err(ReadFault::NoMemory) => Err(ListRead::NoMemory),
+        Err(ReadFault::At(place)) => Err(ListFault::NotCanonical(place)),
+        Err(ReadFault::NoMemory) => Err(ListFault::NoMemory),
     }
 }
 

@@ -3,6 +3,7 @@
 ghost use Rattle.std.specs.Prelude.{◌≡◌, ◌≤◌, length};
 ghost use Rattle.md5.specs.Md5.{md5};
 ghost use Rattle.upload_book.specs.Joining.{joined_length, joined_md5s, Joins};
+ghost use Rattle.version_list.specs.Limits.{most_parts};
 
 use call_types::{Etag, PartRecord};
 use md5::{Digest, Md5};
@@ -19,7 +20,7 @@ pub struct Joined {
 /// The object of these parts, in their order, of which there are 1 to 10,000. A length that fits no `u64` stands still at its last value.
 pub fn join(parts: &[PartRecord]) -> Joined
     requires some { 1 ≤ length parts.now }
-    requires few { length parts.now ≤ 10000 }
+    requires few { length parts.now ≤ most_parts }
     ensures { Joins parts.now result }
 {
     Joined {

@@ -2,7 +2,7 @@ ghost use Rattle.std.specs.Prelude.{IfSome};
 ghost use Rattle.upload_book.specs.Content.{IsCanonicalRow};
 
 use super::*;
-use call_types::{Etag, KeyRefusal, ListRead, Listing, PartRecord, PartRef, Reply, Upload};
+use call_types::{Etag, KeyRefusal, ListFault, Listing, PartRecord, PartRef, Reply, Upload};
 use seal_file::Text;
 use stamp_id::{Ballot, ChangeId, VersionId};
 use std::alloc::Global;
@@ -146,13 +146,13 @@ fn refuses_other_contents(rt: HostRuntime) -> Result<(), Fail> {
         }
         content.truncate(kept);
         assert!(rt;
-            read(rt.alloc(), content.as_slice()) == Err(ListRead::NotCanonical(place)),
+            read(rt.alloc(), content.as_slice()) == Err(ListFault::NotCanonical(place)),
             "at {place}"
         );
     }
     let mut content = Vec::from_slice(rt.alloc(), PART.as_slice())?;
     content.push(0)?;
-    assert!(rt; read(rt.alloc(), content.as_slice()) == Err(ListRead::NotCanonical(80)));
+    assert!(rt; read(rt.alloc(), content.as_slice()) == Err(ListFault::NotCanonical(80)));
     Ok(())
 }
 

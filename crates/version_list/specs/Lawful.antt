@@ -2,6 +2,7 @@
 use Rattle.std.specs.Prelude.{◌≡◌, ℕ, ◌<◌, ◌≤◌, ◌^◌, length, List}
 use Rattle.call_types.specs.declared.act.Act.{Act}
 use Rattle.call_types.specs.declared.act.Act.TheVariants as act
+use Rattle.version_list.specs.Limits.{most_parts}
 use Rattle.version_list.specs.State.{IsKind}
 
 -- A content type has at most 255 bytes, and a Complete has 1 to 10,000 parts.
@@ -9,7 +10,7 @@ abbrev pub IsLawful : Act → Type 0
 IsLawful (act.Put data_id print size md5 kind) = IsKind kind
 IsLawful (act.Delete pick) = Unit {0}
 IsLawful (act.Create kind) = IsKind kind
-IsLawful (act.Complete upload parts data_id print size md5) = (1 ≤ parts) × (parts ≤ 10000)
+IsLawful (act.Complete upload parts data_id print size md5) = (1 ≤ parts) × (parts ≤ most_parts)
 IsLawful (act.Abort upload) = Unit {0}
 
 -- The print has 32 bytes and the MD5 16, and the numbers fit.

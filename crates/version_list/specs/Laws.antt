@@ -1,7 +1,7 @@
 -- What reading and writing promise of each other.
 use Rattle.std.specs.Prelude.{◌≡◌, ℕ, List, Option, Some, None, Result, Ok, Err}
-use Rattle.call_types.specs.declared.refusal.ListRead.{ListRead}
-use Rattle.call_types.specs.declared.refusal.ListRead.TheVariants.{NotCanonical, NoMemory}
+use Rattle.call_types.specs.declared.refusal.ListFault.{ListFault}
+use Rattle.call_types.specs.declared.refusal.ListFault.TheVariants.{NotCanonical, NoMemory}
 use Rattle.field_reader.specs.Format.{fault_at}
 use Rattle.field_reader.specs.Spelling.{IsBytes}
 use Rattle.version_list.specs.declared.state.KeyState.{KeyState}
@@ -10,13 +10,13 @@ use Rattle.version_list.specs.Spelling.{spelling}
 use Rattle.version_list.specs.Layout.{key_state}
 
 -- The answer is this state, unless memory was missing.
-abbrev pub IsReadAs : KeyState → Result KeyState ListRead → Type 0
+abbrev pub IsReadAs : KeyState → Result KeyState ListFault → Type 0
 IsReadAs state (Ok read) = read ≡ state
 IsReadAs state (Err (NotCanonical place)) = ⊥
 IsReadAs state (Err NoMemory) = Unit {0}
 
 -- A state is answered where there is no fault, and a refusal names the fault's place. Memory may be missing.
-abbrev pub TellsFault : Result KeyState ListRead → Option ℕ → Type 0
+abbrev pub TellsFault : Result KeyState ListFault → Option ℕ → Type 0
 TellsFault (Ok read) fault = fault ≡ None
 TellsFault (Err (NotCanonical place)) fault = fault ≡ Some place
 TellsFault (Err NoMemory) fault = Unit {0}

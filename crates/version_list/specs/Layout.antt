@@ -6,6 +6,7 @@ use Rattle.std.specs.Int.{w8, w16, w32, w64}
 use Rattle.field_reader.specs.Format.{Format, ◌>>=◌, done, field, number, short_text, with_rule, series}
 use Rattle.stamp_id.specs.IdField.{is_id, id_field}
 use Rattle.version_list.specs.Rows.{ObjectRow, VersionRow, UploadRow, StateRows}
+use Rattle.version_list.specs.Limits.{most_versions, most_uploads, moment_limit}
 
 -- whether bytes are zeros, as where there is no id
 unfoldable pub is_no_id : List ℕ → Bool
@@ -17,7 +18,7 @@ is_among names bytes = list_any (λ name. bytes_eq name bytes) names
 
 -- whether a number is a moment: Unix seconds before the year 10000
 abbrev pub is_moment : ℕ → Bool
-is_moment moment = nat_lt moment 253402300800
+is_moment moment = nat_lt moment moment_limit
 
 -- whether a number is a class of versions: 0 for a marker, 1 for an object
 abbrev pub is_class : ℕ → Bool
@@ -86,11 +87,11 @@ uploads is_used count = series count (λ before. upload (λ id. is_used id || is
 
 -- A key has at most 10,000 versions.
 abbrev pub is_version_count : ℕ → Bool
-is_version_count count = nat_le count 10000
+is_version_count count = nat_le count most_versions
 
 -- Where there is no version, the number of uploads is not 0.
 abbrev pub is_upload_count : ℕ → ℕ → Bool
-is_upload_count versions count = nat_le count 1000 && (nat_lt 0 versions || nat_lt 0 count)
+is_upload_count versions count = nat_le count most_uploads && (nat_lt 0 versions || nat_lt 0 count)
 
 -- a state with a version or an upload
 unfoldable pub long_state : Format StateRows

@@ -4,8 +4,9 @@ pub mod Known
 pub mod Lawful
 pub mod Laws
 pub mod Layout
-pub mod Naming
+pub mod Limits
 pub mod NamesId
+pub mod Naming
 pub mod Places
 pub mod Reads
 pub mod Rows

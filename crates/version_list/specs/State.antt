@@ -9,6 +9,7 @@ use Rattle.call_types.specs.declared.version.Upload.{Upload}
 use Rattle.call_types.specs.declared.version.What.{What}
 use Rattle.call_types.specs.declared.version.What.TheVariants.{Marker, Object}
 use Rattle.version_list.specs.declared.state.KeyState.{KeyState}
+use Rattle.version_list.specs.Limits.{most_versions, most_uploads, longest_kind, moment_limit}
 
 -- no item stands twice
 abbrev pub AreDistinct : {A : Type 0} → List A → Type 0
@@ -21,11 +22,11 @@ names_of state = map (λ v. v.id) state.versions ++ map (λ u. Id u.id) state.up
 
 -- Unix seconds before the year 10000
 abbrev pub IsMoment : ℕ → Type 0
-IsMoment moment = moment < 253402300800
+IsMoment moment = moment < moment_limit
 
--- A content type has at most 255 bytes.
+-- a content type isn't too long
 abbrev pub IsKind : List ℕ → Type 0
-IsKind kind = length kind ≤ 255
+IsKind kind = length kind ≤ longest_kind
 
 -- An object's fields have the sizes of their types, and it has parts exactly where an upload made it.
 pub record IsObject (print : List ℕ) (size : ℕ) (md5 : List ℕ) (parts : ℕ) (upload : Option VersionId) (kind : List ℕ) : Type 0 where
@@ -53,8 +54,8 @@ pub record IsCanonicalUpload (upload : Upload) : Type 0 where
 
 -- A state that is written: few versions and uploads, all names distinct, and each version and upload in order.
 pub record IsCanonical (state : KeyState) : Type 0 where
-  pub few_versions : length state.versions ≤ 10000
-  pub few_uploads : length state.uploads ≤ 1000
+  pub few_versions : length state.versions ≤ most_versions
+  pub few_uploads : length state.uploads ≤ most_uploads
   pub distinct : AreDistinct (names_of state)
   pub versions : AllByRecursion IsCanonicalVersion state.versions
   pub uploads : AllByRecursion IsCanonicalUpload state.uploads

@@ -20,6 +20,7 @@ use Rattle.call_types.specs.declared.refusal.Refusal.{Refusal}
 use Rattle.call_types.specs.declared.refusal.Refusal.TheVariants.{VersionLimit, UploadLimit, NoSuchUpload}
 use Rattle.version_list.specs.declared.state.KeyState.{KeyState}
 use Rattle.version_list.specs.Naming.{has_name, kept, is_marker, is_upload, still_open}
+use Rattle.version_list.specs.Limits.{most_versions, most_uploads}
 
 -- A new version is named by the call's id in mode Enabled, and `null` else.
 abbrev pub new_name : Mode → VersionId → VersionName
@@ -51,8 +52,8 @@ Does done versions uploads reply new = (reply ≡ done) × (new ≡ record { ver
 abbrev pub AddsVersion : KeyState → Mode → Version → List Upload → Reply → Reply → KeyState → Type 0
 AddsVersion old mode v uploads done reply new =
     let stay = kept (replaced mode) old.versions in
-    ((10000 ≤ length stay) × Refuses VersionLimit old reply new)
-    ⊎ ((length stay < 10000) × Does done (v ∷ stay) uploads reply new)
+    ((most_versions ≤ length stay) × Refuses VersionLimit old reply new)
+    ⊎ ((length stay < most_versions) × Does done (v ∷ stay) uploads reply new)
 
 -- The versions of this name go for good. A name that is not there changes nothing.
 abbrev pub RemovesVersion : KeyState → Mode → VersionName → Reply → KeyState → Type 0
@@ -75,8 +76,8 @@ Deletes old Suspended id now reply new = AddsMarker old Suspended id now reply n
 -- An upload is opened, if fewer than 1,000 are open.
 abbrev pub OpensUpload : KeyState → Upload → Reply → KeyState → Type 0
 OpensUpload old opened reply new =
-    ((1000 ≤ length old.uploads) × Refuses UploadLimit old reply new)
-    ⊎ ((length old.uploads < 1000) × Does (Opened opened.id) old.versions (old.uploads ++ opened ∷ []) reply new)
+    ((most_uploads ≤ length old.uploads) × Refuses UploadLimit old reply new)
+    ⊎ ((length old.uploads < most_uploads) × Does (Opened opened.id) old.versions (old.uploads ++ opened ∷ []) reply new)
 
 -- Where no open upload has this id the call is refused; else what it does with the upload.
 abbrev pub WithUpload : KeyState → VersionId → (Upload → Reply → KeyState → Type 0) → Reply → KeyState → Type 0

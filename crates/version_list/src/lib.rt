@@ -31,7 +31,7 @@ pub use outcome::{ActFault, Applied};
 pub use places::{place_laws, place_of_id};
 pub use reading::{read, state_laws};
 pub use reads::find;
-pub use state::{KeyState, MOMENT_LIMIT, MOST_KIND_BYTES, MOST_UPLOADS, MOST_VERSIONS};
+pub use state::{KeyState, MOMENT_LIMIT, MOST_UPLOADS, MOST_VERSIONS};
 pub use step::apply;
 pub use uploads::find_upload;
 pub use writing::write;

@@ -8,6 +8,7 @@ ghost use Rattle.version_list.specs.Places.{version_parts, object_parts, upload_
 ghost use Rattle.version_list.specs.Rows.{object_row, version_row, upload_row};
 ghost use Rattle.version_list.specs.Spelling.{spelling};
 ghost use Rattle.version_list.specs.State.{IsCanonicalWhat, IsCanonicalVersion, IsCanonicalUpload, IsCanonical};
+ghost use Rattle.version_list.specs.Limits.{most_versions, most_uploads};
 
 use crate::edit::is_named;
 use crate::naming::is_made_by;
@@ -63,7 +64,7 @@ fn place_in_version(version: &Version, id: VersionId, at: usize) -> Option<usize
 
 /// The same of versions.
 fn place_in_versions(versions: &[Version], id: VersionId, at: usize) -> Option<usize>
-    requires few { length versions.now ≤ 10000 }
+    requires few { length versions.now ≤ most_versions }
     requires canonical { AllByRecursion IsCanonicalVersion versions.now }
     requires at { at ≤ 4 }
     ensures { result ≡ place_from at (id_bytes id) (flat_map (λ v. version_parts (version_row v)) versions.now) }
@@ -81,7 +82,7 @@ fn place_in_versions(versions: &[Version], id: VersionId, at: usize) -> Option<u
 
 /// The same of uploads.
 fn place_in_uploads(uploads: &[Upload], id: VersionId, at: usize) -> Option<usize>
-    requires few { length uploads.now ≤ 1000 }
+    requires few { length uploads.now ≤ most_uploads }
     requires canonical { AllByRecursion IsCanonicalUpload uploads.now }
     requires at { at ≤ 5000000 }
     ensures { result ≡ place_from at (id_bytes id) (flat_map (λ u. upload_parts (upload_row u)) uploads.now) }

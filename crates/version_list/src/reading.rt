@@ -15,7 +15,7 @@ ghost use Rattle.version_list.specs.declared.state.KeyState.{KeyState};
 use crate::ids::{take_name, take_new_id, take_upload_id};
 use crate::names::Names;
 use crate::state::{KeyState, MOMENT_LIMIT, MOST_UPLOADS, MOST_VERSIONS};
-use call_types::{ListRead, Upload, Uploads, Version, Versions, What};
+use call_types::{ListFault, Upload, Uploads, Version, Versions, What};
 use field_reader::{Fields, Misspelled, ReadFault, refuse_unless};
 use seal_file::Text;
 use stamp_id::take_id;
@@ -211,7 +211,7 @@ fn whole_state(alloc: Global, content: &[u8]) -> Result<KeyState, ReadFault>
 /// The state that a content spells. A content that spells none is `NotCanonical`, at the place of its first fault:
 /// the start of the first field that breaks its rule, the number of its bytes where bytes are missing, or the first
 /// byte too many.
-pub fn read(alloc: Global, content: &[u8]) -> Result<KeyState, ListRead>
+pub fn read(alloc: Global, content: &[u8]) -> Result<KeyState, ListFault>
     // What is read is canonical, and the content is its spelling.
     ensures found { IfOk result (λ state. IsCanonical state × (content.now ≡ spelling state)) }
     // The spelling of a canonical state is read as that state.
@@ -221,8 +221,8 @@ pub fn read(alloc: Global, content: &[u8]) -> Result<KeyState, ListRead>
 {
     match whole_state(alloc, content) {
         Ok(state) => Ok(state),
-        Err(ReadFault::At(place)) => Err(ListRead::NotCanonical(place)),
-        Err(ReadFault::NoMemory) => Err(ListRead::NoMemory),
+        Err(ReadFault::At(place)) => Err(ListFault::NotCanonical(place)),
+        Err(ReadFault::NoMemory) => Err(ListFault::NoMemory),
     }
 }
 

@@ -5,6 +5,7 @@ ghost use Rattle.std.specs.List.{AllByRecursion, flat_map};
 ghost use Rattle.version_list.specs.Rows.{version_row, upload_row, rows_of};
 ghost use Rattle.version_list.specs.Spelling.{version_bytes, upload_bytes, long_form};
 ghost use Rattle.version_list.specs.State.{IsCanonicalVersion, IsCanonicalUpload, IsCanonical};
+ghost use Rattle.version_list.specs.Limits.{most_versions, most_uploads};
 
 use crate::state::KeyState;
 use call_types::{Upload, Version, What};
@@ -32,7 +33,7 @@ pub fn version_size(version: &Version) -> usize
 
 /// The bytes of versions.
 pub fn versions_size(versions: &[Version]) -> usize
-    requires few { length versions.now ≤ 10000 }
+    requires few { length versions.now ≤ most_versions }
     requires canonical { AllByRecursion IsCanonicalVersion versions.now }
     ensures value { result ≡ length (flat_map version_bytes (map version_row versions.now)) }
     ensures bound { result ≤ 4000000 }
@@ -55,7 +56,7 @@ pub fn upload_size(upload: &Upload) -> usize
 
 /// The bytes of uploads.
 fn uploads_size(uploads: &[Upload]) -> usize
-    requires few { length uploads.now ≤ 1000 }
+    requires few { length uploads.now ≤ most_uploads }
     requires canonical { AllByRecursion IsCanonicalUpload uploads.now }
     ensures value { result ≡ length (flat_map upload_bytes (map upload_row uploads.now)) }
     ensures bound { result ≤ 400000 }

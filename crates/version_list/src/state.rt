@@ -8,9 +8,6 @@ pub const MOST_VERSIONS: usize = 10_000;
 /// The most open uploads that a key has.
 pub const MOST_UPLOADS: usize = 1_000;
 
-/// The most bytes of a content type.
-pub const MOST_KIND_BYTES: usize = 255;
-
 /// The first second of the year 10000, in Unix seconds. Each moment of a state is before it.
 pub const MOMENT_LIMIT: u64 = 253_402_300_800;
 

@@ -1,5 +1,5 @@
 use super::*;
-use call_types::{ListRead, VersionName, What};
+use call_types::{ListFault, VersionName, What};
 use field_reader::{put_u8, put_u32, put_u64};
 use stamp_id::{Ballot, ChangeId, VersionId};
 use std::alloc::{AllocError, Global};
@@ -221,7 +221,7 @@ fn refuses_what_spells_nothing(rt: HostRuntime) -> Result<(), Fail> {
     for (pieces, place) in REFUSED {
         let content = bytes(rt.alloc(), pieces)?;
         assert!(rt;
-            read(rt.alloc(), content.as_slice()).err() == Some(ListRead::NotCanonical(place)),
+            read(rt.alloc(), content.as_slice()).err() == Some(ListFault::NotCanonical(place)),
             "at {place}"
         );
     }
@@ -306,8 +306,8 @@ fn reads_the_most(rt: HostRuntime) -> Result<(), Fail> {
     let written = write(rt.alloc(), &state)?;
     assert!(rt; written.as_slice() == content.as_slice());
     let versions = crowd(rt.alloc(), 10_001, 0)?;
-    assert!(rt; read(rt.alloc(), versions.as_slice()).err() == Some(ListRead::NotCanonical(0)));
+    assert!(rt; read(rt.alloc(), versions.as_slice()).err() == Some(ListFault::NotCanonical(0)));
     let uploads = crowd(rt.alloc(), 0, 1_001)?;
-    assert!(rt; read(rt.alloc(), uploads.as_slice()).err() == Some(ListRead::NotCanonical(4)));
+    assert!(rt; read(rt.alloc(), uploads.as_slice()).err() == Some(ListFault::NotCanonical(4)));
     Ok(())
 }

@@ -6,7 +6,7 @@ use super::golden::{COMPUTED, HELLO_PRINT, STORED, TWICE_MANIFEST, TWICE_PRINT};
 use super::made::{
     MANIFEST, Run, damage, fresh_drives, gave, id, lose, place, plan, read_by_steps, run_to, stage,
 };
-use crate::{ReadFaultKind, Reader};
+use crate::{BodyFault, Reader};
 use call_types::{FileKind, Span, Why, Whys};
 use drive_base::{Drive, DriveSet, SetPlan};
 use drive_memory::MemDrive;
@@ -40,20 +40,20 @@ fn read_of(
     print: [u8; 32],
     long: u32,
     drives: &mut [MemDrive],
-) -> Result<Run, ReadFaultKind>
+) -> Result<Run, BodyFault>
     ensures { length drives.new ≡ length drives.old }
 {
     read_by_steps(alloc, four(out), print, (0, long), drives)
 }
 
 /// The cause for each of four drives.
-fn because(first: Why, second: Why, third: Why, fourth: Why) -> Option<ReadFaultKind> {
+fn because(first: Why, second: Why, third: Why, fourth: Why) -> Option<BodyFault> {
     let mut whys = Whys::all_good(4);
     whys.set(0, first);
     whys.set(1, second);
     whys.set(2, third);
     whys.set(3, fourth);
-    Some(ReadFaultKind::ShardQuorum(whys))
+    Some(BodyFault::ShardQuorum(whys))
 }
 
 /// A drive whose block isn't the one that its digest table has.

@@ -3,7 +3,7 @@
 ghost use Rattle.std.specs.Prelude.{◌≡◌, ◌+◌, ◌<◌, ◌≤◌, ◌^◌, IfOk, length};
 
 use super::feeds::{Repeats, put_on};
-use crate::{ReadFaultKind, ReadStep, Reader};
+use crate::{BodyFault, ReadStep, Reader};
 use call_types::Span;
 use drive_base::{Drive, LONGEST_NAME, SetPlan};
 use drive_memory::MemDrive;
@@ -96,11 +96,11 @@ pub fn step_on<D: Drive>(
     alloc: Global,
     reader: &mut Reader,
     drives: &mut [D],
-) -> Result<ReadStep, ReadFaultKind>
+) -> Result<ReadStep, BodyFault>
     ensures { length drives.new ≡ length drives.old }
 {
     if drives.len() != usize::from(reader.asked.wanted.set.drives) {
-        return Err(ReadFaultKind::InvalidRange(0));
+        return Err(BodyFault::InvalidRange(0));
     }
     reader.step(alloc, drives)
 }
@@ -111,7 +111,7 @@ pub fn run_to<D: Drive>(
     reader: &mut Reader,
     pieces: u32,
     drives: &mut [D],
-) -> Result<Run, ReadFaultKind>
+) -> Result<Run, BodyFault>
     ensures { length drives.new ≡ length drives.old }
 {
     let mut run = Run {
@@ -143,7 +143,7 @@ pub fn read_by_steps<D: Drive>(
     print: [u8; 32],
     part: (u32, u32),
     drives: &mut [D],
-) -> Result<Run, ReadFaultKind>
+) -> Result<Run, BodyFault>
     ensures { length drives.new ≡ length drives.old }
 {
     let (at, length) = part;
@@ -205,7 +205,7 @@ pub fn lose(drives: &mut [MemDrive], at: usize)
 }
 
 /// Whether the steps of a reader gave these bytes.
-pub fn gave(answer: Result<Run, ReadFaultKind>, due: &[u8]) -> bool {
+pub fn gave(answer: Result<Run, BodyFault>, due: &[u8]) -> bool {
     match answer {
         Ok(run) => run.bytes.as_slice() == due,
         Err(_) => false,

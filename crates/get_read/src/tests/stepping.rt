@@ -7,7 +7,7 @@ use super::made::{
     MANIFEST, SHARD, damage_byte, fresh_drives, id, lose, place, plan, read_by_steps, run_to,
     some_body, stage, step_on,
 };
-use crate::{ReadFaultKind, ReadStep, Reader};
+use crate::{BodyFault, ReadStep, Reader};
 use call_types::{Span, Why, Whys};
 use drive_memory::MemDrive;
 use std::alloc::Global;
@@ -140,10 +140,10 @@ fn the_second_part_is_refused_with_its_own_letters(rt: HostRuntime) -> Result<()
     whys.set(0, failed(2));
     whys.set(2, failed(0));
     whys.set(3, failed(0));
-    assert_eq!(rt; answer.err(), Some(ReadFaultKind::ShardQuorum(whys)));
+    assert_eq!(rt; answer.err(), Some(BodyFault::ShardQuorum(whys)));
     assert_eq!(rt;
         step_on(rt.alloc(), &mut reader, &mut drives).err(),
-        Some(ReadFaultKind::ShardQuorum(whys))
+        Some(BodyFault::ShardQuorum(whys))
     );
     Ok(())
 }

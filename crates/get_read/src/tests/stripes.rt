@@ -5,7 +5,7 @@ ghost use Rattle.std.specs.Prelude.{◌≡◌, length};
 use super::made::{
     SHARD, damage_byte, fresh_drives, plan, read_by_steps, some_body, stage, steps_give,
 };
-use crate::ReadFaultKind;
+use crate::BodyFault;
 use call_types::{Why, Whys};
 use drive_base::Drive;
 use drive_memory::MemDrive;
@@ -107,7 +107,7 @@ fn answers(
         return Ok(steps_give(alloc, plan(4, 2), print, &due, &mut drives));
     }
     let answer = read_by_steps(alloc, plan(4, 2), print, (0, LONG as u32), &mut drives);
-    Ok(answer.err() == Some(ReadFaultKind::ShardQuorum(causes)))
+    Ok(answer.err() == Some(BodyFault::ShardQuorum(causes)))
 }
 
 #[test]

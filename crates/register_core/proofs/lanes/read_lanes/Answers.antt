@@ -9,8 +9,8 @@ use Rattle.register_file.specs.declared.record.RegFile.{RegFile}
 use Rattle.register_core.specs.Loops.{letter_at}
 use Rattle.register_core.specs.Found.{found_at}
 use Rattle.register_core.specs.Looking.{LaneIsRead}
-use Rattle.register_core.proofs.EachLemmas.{AreGoodFrom, good_after, set_each}
-use Rattle.register_core.proofs.ReadLemmas.{found_more, out_same, read_err, read_ok}
+use Rattle.file_access.proofs.EachLemmas.{AreGoodFrom, found_more, good_after, set_each}
+use Rattle.register_core.proofs.ReadLemmas.{out_same, read_err, read_ok}
 use Rattle.register_core.proofs.SeenLemmas.{letters_on}
 use Rattle.register_core.proofs.lanes.read_lanes.Goals as goal
 use Rattle.register_core.proofs.lanes.read_lanes.Goals.{in-Ok+in_ok-push-in-Ok, in-Err-Because+in_ok-push-in-Err-Because}

@@ -4,7 +4,7 @@ use Rattle.std.specs.Int.{IsBitSet}
 use Rattle.register_core.specs.Loops.{letter_at}
 use Rattle.register_core.specs.Found.{found_at}
 use Rattle.register_core.specs.Looking.{LaneIsRead}
-use Rattle.register_core.proofs.EachLemmas.{AreGoodFrom}
+use Rattle.file_access.proofs.EachLemmas.{AreGoodFrom}
 use Rattle.register_core.proofs.lanes.read_lanes.Given as goal
 
 -- the lanes so far were read, the letters of the others are good, those that are out stay, each lane tells what it told, and the others are as they were

@@ -6,7 +6,8 @@ use Rattle.call_types.specs.declared.why.Why.{Why}
 use Rattle.call_types.specs.declared.why.Why.TheVariants.{Good}
 use Rattle.register_core.specs.Loops.{letter_at}
 use Rattle.register_core.specs.Manifests.{ManifestLetter}
-use Rattle.register_core.proofs.EachLemmas.{AreGoodFrom, good_after, letters_more, letters_same, set_each}
+use Rattle.file_access.proofs.EachLemmas.{AreGoodFrom, good_after, set_each}
+use Rattle.register_core.proofs.EachLemmas.{letters_more, letters_same}
 use Rattle.register_core.proofs.ManifestLemmas.{letter_err, letter_ok}
 use Rattle.register_core.proofs.manifests.look_for_data.Goals as goal
 use Rattle.register_core.proofs.manifests.look_for_data.Goals.{in-Ok, in-Err-Because}

@@ -3,7 +3,7 @@ use Rattle.std.specs.Prelude.{IsTrue}
 use Rattle.std.specs.Int.{IsBitSet}
 use Rattle.register_core.specs.Loops.{letter_at}
 use Rattle.register_core.specs.Manifests.{ManifestLetter}
-use Rattle.register_core.proofs.EachLemmas.{AreGoodFrom}
+use Rattle.file_access.proofs.EachLemmas.{AreGoodFrom}
 use Rattle.register_core.proofs.manifests.look_for_data.Given as goal
 
 -- the drives so far have their letters, the letters of the others are good, those that are out stay, each drive tells what it told, and the others are as they were

@@ -16,7 +16,7 @@ use Rattle.slot_core.specs.declared.site.Drawn.{Drawn}
 use Rattle.register_caller.proofs.StepLemmas.{tells_twice}
 use Rattle.slot_core.proofs.CarryLemmas.{entry_leaves, finds_leaves, kept_leaves}
 use Rattle.slot_core.proofs.CarryOutLemmas.{gone_none, mid_low, none_told, own_over, plan_fits, plan_none, plan_own, writes_calls, writes_entry, writes_told}
-use Rattle.slot_core.proofs.DeedLemmas.{deed_named}
+use Rattle.slot_core.proofs.DeemingLemmas.{deed_named}
 use Rattle.slot_core.proofs.LandLemmas.{LandLaws}
 use Rattle.slot_core.proofs.TurnLemmas.{forward_has_memory}
 use Rattle.slot_core.proofs.carrying.carry_out.Goals as goal

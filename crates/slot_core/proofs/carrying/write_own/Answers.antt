@@ -11,9 +11,10 @@ use Rattle.register_caller.specs.Calling.{BothLeave}
 use Rattle.slot_core.specs.Committing.{name_of}
 use Rattle.slot_core.specs.Settling.{numbers_at}
 use Rattle.slot_core.specs.declared.site.Drawn.{Drawn}
-use Rattle.slot_core.proofs.CarryLemmas.{IsWriting, Writing, begun_leaves, done_leaves, entry_leaves, owned, owned_may}
+use Rattle.slot_core.proofs.CarryLemmas.{begun_leaves, done_leaves, entry_leaves}
 use Rattle.slot_core.proofs.LaneLemmas.{have_after_write}
 use Rattle.slot_core.proofs.OwnWriteLemmas.{OwnLaws, own_begun, own_done}
+use Rattle.slot_core.proofs.WritingLemmas.{IsWriting, Writing, owned, owned_may}
 use Rattle.slot_core.proofs.carrying.write_own.Goals as goal
 
 pub returns-in-Ok-clause-leaves : goal.returns-in-Ok-clause-leaves

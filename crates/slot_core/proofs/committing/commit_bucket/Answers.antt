@@ -17,7 +17,8 @@ use Rattle.slot_core.specs.declared.carrying.Outcome.TheVariants.{LacksMemory}
 use Rattle.slot_core.specs.declared.commit.Commit.{Commit}
 use Rattle.slot_core.specs.declared.site.Drawn.{Drawn}
 use Rattle.slot_core.proofs.CarryOutLemmas.{gone_none}
-use Rattle.slot_core.proofs.FinishLemmas.{bucket_most, bucket_rule, finish_cause, id_drawn, kept_cases, lacks_leaves, look_leaves, look_refused, ready_fits}
+use Rattle.slot_core.proofs.CommitCauseLemmas.{finish_cause, look_refused}
+use Rattle.slot_core.proofs.FinishLemmas.{bucket_most, bucket_rule, id_drawn, kept_cases, lacks_leaves, look_leaves, ready_fits}
 use Rattle.slot_core.proofs.LandLemmas.{LandLaws}
 use Rattle.slot_core.proofs.committing.commit_bucket.Goals as goal
 

@@ -17,7 +17,8 @@ use Rattle.slot_core.specs.declared.carrying.Outcome.TheVariants.{LacksMemory}
 use Rattle.slot_core.specs.declared.commit.Commit.{Commit}
 use Rattle.slot_core.specs.declared.site.Drawn.{Drawn}
 use Rattle.slot_core.proofs.CarryOutLemmas.{gone_none}
-use Rattle.slot_core.proofs.FinishLemmas.{finish_cause, id_drawn, id_unnamed, kept_cases, key_rule, lacks_leaves, look_leaves, look_refused, ready_fits}
+use Rattle.slot_core.proofs.CommitCauseLemmas.{finish_cause, look_refused}
+use Rattle.slot_core.proofs.FinishLemmas.{id_drawn, id_unnamed, kept_cases, key_rule, lacks_leaves, look_leaves, ready_fits}
 use Rattle.slot_core.proofs.LandLemmas.{LandLaws}
 use Rattle.slot_core.proofs.committing.commit_key.Goals as goal
 

@@ -4,7 +4,8 @@ use Rattle.std.specs.BTreeMap.{get_by_text}
 use Rattle.std.specs.Int.{IsBitSet}
 use Rattle.std.proofs.lemmas.List.{get_or_default, length-set}
 use Rattle.call_types.specs.declared.why.Why.{Why}
-use Rattle.register_core.proofs.EachLemmas.{letters_more, set_each}
+use Rattle.file_access.proofs.EachLemmas.{set_each}
+use Rattle.register_core.proofs.EachLemmas.{letters_more}
 use Rattle.register_core.specs.Loops.{letter_at}
 use Rattle.slot_core.proofs.GatherLemmas.{gathered_more, letter_same, names_of_gathered}
 use Rattle.slot_core.specs.Gathering.{AreGathered}

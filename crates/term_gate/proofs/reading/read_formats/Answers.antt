@@ -8,7 +8,8 @@ use Rattle.drive_base.specs.View.{OnlyRead, view}
 use Rattle.drive_base.proofs.ViewLemmas.{at_each_view, length-views}
 use Rattle.term_gate.specs.declared.record.Format.{Format as DriveFormat}
 use Rattle.term_gate.specs.Reading.{DriveIsRead, format_at, why_at}
-use Rattle.term_gate.proofs.EachLemmas.{AreGoodFrom, found_more, good_after, only_more, read_err, read_ok, set_each}
+use Rattle.file_access.proofs.EachLemmas.{AreGoodFrom, found_more, good_after, set_each}
+use Rattle.term_gate.proofs.EachLemmas.{only_more, read_err, read_ok}
 use Rattle.term_gate.proofs.reading.read_formats.Goals as goal
 use Rattle.term_gate.proofs.reading.read_formats.Goals.{in-Ok+in_ok-push-in-Ok, in-Err-Because+in_ok-push-in-Err-Because}
 

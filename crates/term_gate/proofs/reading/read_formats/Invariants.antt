@@ -1,7 +1,7 @@
 use Rattle.std.proofs.Common.{◌≡◌, ◌<◌, ◌≤◌, ℕ, length, slice_index_or}
 use Rattle.drive_base.specs.View.{OnlyRead, view}
 use Rattle.term_gate.specs.Reading.{DriveIsRead, format_at, why_at}
-use Rattle.term_gate.proofs.EachLemmas.{AreGoodFrom}
+use Rattle.file_access.proofs.EachLemmas.{AreGoodFrom}
 use Rattle.term_gate.proofs.reading.read_formats.Given as goal
 
 -- the drives so far were read, the letters of the others are good, each drive was only read, and the others are as they were

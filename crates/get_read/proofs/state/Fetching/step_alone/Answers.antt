@@ -4,7 +4,7 @@ use Rattle.shard_file.specs.Stripes.{stripe_count, stripe_length}
 use Rattle.get_read.specs.Advancing.{next_table}
 use Rattle.get_read.specs.Measure.{one_held}
 use Rattle.get_read.specs.Readers.{set_of}
-use Rattle.get_read.specs.declared.faults.ReadFaultKind.TheVariants.{NoMemory}
+use Rattle.get_read.specs.declared.faults.BodyFault.TheVariants.{NoMemory}
 use Rattle.get_read.proofs.MeasureLemmas.{falls_plus, held_most, held_some, less_plus, no_window, over_falls, saved_now, table_long, table_some, tried_more}
 use Rattle.get_read.proofs.OneCallLemmas.{again, only_read_at}
 use Rattle.get_read.proofs.StepLemmas.{any_part, fetch_added, fetch_holds, fetch_idle, fetch_over, fetch_passed, fetch_unkept}
