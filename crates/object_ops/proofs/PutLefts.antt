@@ -11,13 +11,12 @@ use Rattle.call_types.specs.declared.reply.Reply.TheVariants.{Refused}
 use Rattle.drive_base.specs.View.{DriveView}
 use Rattle.drive_base.specs.declared.plan.SetPlan.{SetPlan}
 use Rattle.call_types.specs.Good.{is_good}
-use Rattle.put_stage.specs.Left.{calls_from, calls_if, calls_left, calls_on, sum_below}
+use Rattle.put_stage.specs.Left.{calls_left, calls_on}
 use Rattle.put_stage.specs.Working.{due_at, why_at}
-use Rattle.put_stage.specs.declared.dues.Due.{Due}
-use Rattle.put_stage.specs.declared.dues.Due.TheVariants.{Block, Table, SyncShard, Manifest, SyncManifest, PlaceManifest, PlaceShard, Nothing}
 use Rattle.put_stage.specs.declared.stage.Stage.{Stage}
 use Rattle.put_stage.specs.declared.stage.StageNext.{StageNext}
 use Rattle.put_stage.specs.declared.stage.StageNext.TheVariants.{Fill, Finish, Step}
+use Rattle.put_stage.proofs.LeftLemmas.{few_calls, sum_most}
 use Rattle.receipts.specs.Registers.{key_slot}
 use Rattle.receipts.specs.declared.barred.Barred.{Barred}
 use Rattle.receipts.specs.declared.barred.Barred.TheVariants as barred
@@ -78,22 +77,6 @@ look_left set long read clearing one later seen is zero_read after =
     by looked.LacksMemory x = subst (λ (s : PutState). left_at set long read clearing s < left_at set long read clearing state.Looking) (sym x) (omega arith)
 
 -- ---- the calls of a stage
-
-sum_most : (f : ℕ → ℕ) (n : ℕ) → ((j : ℕ) → f j ≤ 7) → sum_below f n ≤ 7 * n
-unfolding sum_below
-sum_most f zero most = omega arith
-sum_most f (suc n) most = omega (arith, sum_most f n most, most n)
-
-few_calls : (serves : Bool) (due : Due) → calls_if serves (calls_from due) ≤ 7
-few_calls false due = omega arith
-few_calls true Block = omega arith
-few_calls true Table = omega arith
-few_calls true SyncShard = omega arith
-few_calls true Manifest = omega arith
-few_calls true SyncManifest = omega arith
-few_calls true PlaceManifest = omega arith
-few_calls true PlaceShard = omega arith
-few_calls true Nothing = omega arith
 
 -- it makes no more than so many
 stage_left : (stage : Stage) (set : SetPlan) (long : ℕ) → stage.load.set ≡ set → stage.load.left ≡ long → calls_left stage ≤ most_calls set long

@@ -21,6 +21,7 @@ use Rattle.slot_core.specs.declared.stub.Stub.{Stub}
 use Rattle.receipts.specs.Events.Shown.{NoneShown}
 use Rattle.op_steps.specs.Claims.{AllApart, Claim, HoldsAt, IsMet, among, claims_at, disks_of, hands_of}
 use Rattle.op_steps.specs.Moves.{TurnLeaves}
+use Rattle.op_steps.proofs.CommitLemmas.{met_on}
 use Rattle.op_steps.proofs.DataLemmas.{last_rises}
 use Rattle.op_steps.specs.Store.{LanesStand, SlotSeen}
 use Rattle.object_ops.specs.Clearing.{IsPlannedOf, TakesTrash, taken_of, with_taken}
@@ -39,17 +40,6 @@ same_pins : (most : ℕ) (rows : List PinRow) (old new : Holding) (answer : Resu
     → new.pins ≡ old.pins
 same_pins most rows old new (Ok ids) x = ap (λ (h : Holding). h.pins) x.left
 same_pins most rows old new (Err fault) x = ap (λ (h : Holding). h.pins) x
-
-met_on : (set : SetPlan) (old new : Holding) (unseen : Disks) (disks : List DriveView) (claim : Claim) → new.flights ≡ old.flights → new.pins ≡ old.pins
-    → IsMet set old unseen disks claim → IsMet set new unseen disks claim
-met_on set old new unseen disks claim flights pins x = record {
-  flight = λ f is. subst (λ (l : List Flying). Contains l f) (sym flights) (x.flight f is);
-  pin = λ p is. subst (λ (l : List Pinned). Contains l p) (sym pins) (x.pin p is);
-  staged = x.staged;
-  works = x.works;
-  known = x.known;
-  unwritten = x.unwritten;
-}
 
 pub met_taken : (set : SetPlan) (holding : Holding) (unseen : Disks) (disks : List DriveView) (claim : Claim) (ids : List VersionId)
     → IsMet set holding unseen disks claim → IsMet set holding unseen disks (with_taken claim ids)

@@ -64,7 +64,8 @@ listed_on : (old new : Holding) (id : VersionId) → new.flights ≡ old.flights
 listed_on old new id flights pins (inl there) = inl (subst (λ (l : List Flying). IsInFlight l id) (sym flights) there)
 listed_on old new id flights pins (inr there) = inr (subst (λ (l : List Pinned). IsPinned l id) (sym pins) there)
 
-met_on : (set : SetPlan) (old new : Holding) (unseen : Disks) (disks : List DriveView) (claim : Claim) → new.flights ≡ old.flights → new.pins ≡ old.pins
+-- a claim that is met is met where the puts and the pins stay
+pub met_on : (set : SetPlan) (old new : Holding) (unseen : Disks) (disks : List DriveView) (claim : Claim) → new.flights ≡ old.flights → new.pins ≡ old.pins
     → IsMet set old unseen disks claim → IsMet set new unseen disks claim
 met_on set old new unseen disks claim flights pins x = record {
   flight = λ f is. subst (λ (l : List Flying). Contains l f) (sym flights) (x.flight f is);

@@ -13,6 +13,7 @@ pub mod LeadingLemmas
 pub mod LetterLemmas
 pub mod LiveFileLemmas
 pub mod LookLemmas
+pub mod LookLogLemmas
 pub mod ManifestLemmas
 pub mod MomentLemmas
 pub mod NamesLemmas

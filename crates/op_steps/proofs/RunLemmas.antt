@@ -1,21 +1,21 @@
 -- Logs of steps that go on by one step.
-use Rattle.std.proofs.Common.{◌≡◌, ◌∙◌, List, [], ◌∷◌, ◌++◌, map, append-nil, append_assoc, ap, refl, subst, sym}
-use Rattle.std.proofs.lemmas.Grind.{flat_map-append}
-use Rattle.std.proofs.lemmas.List.{map-append}
+use Rattle.std.proofs.Common.{◌∙◌, List, [], ◌∷◌, ◌++◌, append-nil, append_assoc, ap, refl, subst, sym}
 use Rattle.desk_base.specs.Telling.{Effect}
 use Rattle.drive_base.specs.declared.drive.Drive.{Ghosts}
 use Rattle.drive_base.specs.declared.plan.SetPlan.{SetPlan}
 use Rattle.slot_core.specs.declared.stub.Stub.{Stub}
-use Rattle.receipts.specs.Events.{Event, Log, Section, notes_of, section_in, sections_of}
+use Rattle.receipts.specs.Events.{Event, Log, notes_of}
+use Rattle.receipts.proofs.JoinLemmas.{notes_join}
 use Rattle.op_steps.specs.Claims.{Claim}
-use Rattle.op_steps.specs.Going.{RanSo, StepsSo}
+use Rattle.op_steps.specs.Going.{AddsNotes, RanSo, StepsSo}
 use Rattle.op_steps.specs.Notes.{notes_by}
 use Rattle.op_steps.specs.Steps.{Ran, StepMoves}
 use Rattle.op_steps.specs.Store.{Store}
 
-notes_join : (log more : Log) → notes_of (log ++ more) ≡ notes_of log ++ notes_of more
-notes_join log more = ap (map (λ (section : Section). section.note)) (flat_map-append section_in log more)
-    ∙ map-append (λ (section : Section). section.note) (sections_of log) (sections_of more)
+-- a log's notes and those of one event more are those of the log that goes on by it
+pub notes_more : (log : Log) (event : Event) (s t u : List Stub) → AddsNotes log s t → AddsNotes (event ∷ []) t u → AddsNotes (log ++ event ∷ []) s u
+notes_more log event s t u some one = one ∙ (ap (λ notes. notes ++ notes_of (event ∷ [])) some
+    ∙ (append_assoc (notes_by s) (notes_of log) (notes_of (event ∷ [])) ∙ ap (λ notes. notes_by s ++ notes) (sym (notes_join log (event ∷ [])))))
 
 module _ {D T : Type 0} (ghosts : Ghosts D) (takes breaks : Effect T) (set : SetPlan) where
   -- a log goes on by one step
@@ -40,6 +40,5 @@ module _ {D T : Type 0} (ghosts : Ghosts D) (takes breaks : Effect T) (set : Set
         one.1 ++ event ∷ [],
         subst (λ l. New two.0 l) (append_assoc log one.1 (event ∷ [])) two.2,
         ran_more one.1 event (old claim) (mid one.0) (new two.0) one.3 two.3,
-        two.4 ∙ (ap (λ notes. notes ++ notes_of (event ∷ [])) one.4
-            ∙ (append_assoc (notes_by s) (notes_of one.1) (notes_of (event ∷ [])) ∙ ap (λ notes. notes_by s ++ notes) (sym (notes_join one.1 (event ∷ []))))),
+        notes_more one.1 event s t u one.4 two.4,
       )

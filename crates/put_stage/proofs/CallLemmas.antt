@@ -99,14 +99,19 @@ module _ (id : VersionId) (first : DataCells) (old new : Files) where
       ∙ ap (λ (cells : DataCells). cells_of cells.manifest cells.shard (Some (synced_file is.file.bytes)) cells.loose_shard) was
       ∙ ap (λ (f : LooseFile). writing first (Some (synced_file f.bytes)) shard) same
 
+  -- the bytes that are put in place are those that were synced
+  placed_bytes : (loose name bytes : List ℕ) (is : Placed old loose name new) → old.loose loose ≡ Some (synced_file bytes) → is.bytes ≡ bytes
+  placed_bytes loose name bytes is had =
+      let same : is.file ≡ synced_file bytes = is_file (old.loose loose) is.file (synced_file bytes) is.was had in
+      let synced : IsTrue is.file.synced = subst (λ (f : LooseFile). IsTrue f.synced) (sym same) refl in
+      is.synced synced ∙ ap (λ (f : LooseFile). f.bytes) same
+
   -- the manifest is put in place
   placed_manifest : (loose name bytes : List ℕ) (shard : Option LooseFile) → loose ≡ loose_manifest_name id → name ≡ manifest_name id
       → data_of id old ≡ writing first (Some (synced_file bytes)) shard → Placed old loose name new → data_of id new ≡ half_placed first bytes shard
   placed_manifest loose name bytes shard loosely named was is =
       let had : old.loose loose ≡ Some (synced_file bytes) = ap old.loose loosely ∙ ap (λ (cells : DataCells). cells.loose_manifest) was in
-      let same : is.file ≡ synced_file bytes = is_file (old.loose loose) is.file (synced_file bytes) is.was had in
-      let synced : IsTrue is.file.synced = subst (λ (f : LooseFile). IsTrue f.synced) (sym same) refl in
-      let put : is.bytes ≡ bytes = is.synced synced ∙ ap (λ (f : LooseFile). f.bytes) same in
+      let put : is.bytes ≡ bytes = placed_bytes loose name bytes is had in
       let w : Option (List ℕ) = Some is.bytes in
       let mid : Files = with_loose old loose None in
       let mid_is : data_of id mid ≡ writing first None shard =
@@ -126,9 +131,7 @@ module _ (id : VersionId) (first : DataCells) (old new : Files) where
       → data_of id new ≡ cells_of (Some manifest) (Some bytes) None None
   placed_shard loose name manifest bytes loosely named was is =
       let had : old.loose loose ≡ Some (synced_file bytes) = ap old.loose loosely ∙ ap (λ (cells : DataCells). cells.loose_shard) was in
-      let same : is.file ≡ synced_file bytes = is_file (old.loose loose) is.file (synced_file bytes) is.was had in
-      let synced : IsTrue is.file.synced = subst (λ (f : LooseFile). IsTrue f.synced) (sym same) refl in
-      let put : is.bytes ≡ bytes = is.synced synced ∙ ap (λ (f : LooseFile). f.bytes) same in
+      let put : is.bytes ≡ bytes = placed_bytes loose name bytes is had in
       let w : Option (List ℕ) = Some is.bytes in
       let mid : Files = with_loose old loose None in
       let mid_is : data_of id mid ≡ half_placed first manifest None =
@@ -308,6 +311,13 @@ module _ (id : VersionId) (told : Bool) (alone : Bool) (next manifest : List ℕ
       → cells ≡ half_placed first manifest (held_shard blocks first) → HasBy Good (after alone PlaceManifest) next manifest blocks first cells
   half_is None cells none some is = subst (λ (a : Bool). HasBy Good (after a PlaceManifest) next manifest None first cells) (sym (none refl)) is
   half_is (Some blocks) cells none some is = subst (λ (a : Bool). HasBy Good (after a PlaceManifest) next manifest (Some blocks) first cells) (sym (some blocks refl)) is
+
+  -- the bytes that are put in place are those that were synced
+  placed_bytes : (loose name bytes : List ℕ) (is : Placed old loose name new) → old.loose loose ≡ Some (synced_file bytes) → is.bytes ≡ bytes
+  placed_bytes loose name bytes is had =
+      let same : is.file ≡ synced_file bytes = is_file (old.loose loose) is.file (synced_file bytes) is.was had in
+      let synced : IsTrue is.file.synced = subst (λ (f : LooseFile). IsTrue f.synced) (sym same) refl in
+      is.synced synced ∙ ap (λ (f : LooseFile). f.bytes) same
 
   -- the manifest is put in place
   pub place_manifest_call : (loose name : List ℕ) (kind : FileKind) (blocks : Blocks) (result : Result (Unit {0}) Why) → loose ≡ loose_manifest_name id → name ≡ manifest_name id

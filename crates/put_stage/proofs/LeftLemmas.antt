@@ -38,13 +38,13 @@ sum_less f g k (suc n) low less same = elim (cases_eq k n) [
 ]
 
 -- the sum of values of at most 7
-sum_most : (f : ℕ → ℕ) (n : ℕ) → ((j : ℕ) → f j ≤ 7) → sum_below f n ≤ 7 * n
+pub sum_most : (f : ℕ → ℕ) (n : ℕ) → ((j : ℕ) → f j ≤ 7) → sum_below f n ≤ 7 * n
 unfolding sum_below
 sum_most f zero most = omega arith
 sum_most f (suc n) most = omega (arith, sum_most f n most, most n)
 
 -- no drive has more calls
-few_calls : (serves : Bool) (due : Due) → calls_if serves (calls_from due) ≤ 7
+pub few_calls : (serves : Bool) (due : Due) → calls_if serves (calls_from due) ≤ 7
 few_calls false due = omega arith
 few_calls true Block = omega arith
 few_calls true Table = omega arith

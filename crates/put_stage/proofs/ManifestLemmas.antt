@@ -1,6 +1,6 @@
 -- The manifest of a body that is one part is canonical, and the parts of a canonical one have a number of bytes that fits.
 use Rattle.std.proofs.Common.{◌≡◌, ℕ, ◌+◌, ◌*◌, ◌^◌, ◌<◌, ◌≤◌, ◌∙◌, List, [], ◌∷◌, length, take, slice_index_or, subst, sym, ap, arith, refl}
-use Rattle.std.specs.Prelude.{map, sum_by}
+use Rattle.std.specs.Prelude.{false, map, sum_by}
 use Rattle.std.specs.List.{AllByRecursion}
 use Rattle.std.proofs.lemmas.List.{length-map}
 use Rattle.std.proofs.lemmas.List.Sums.{sum_by-cons, sum_by_more_le}
@@ -16,6 +16,7 @@ use Rattle.manifest_file.specs.Spelling.{file_of}
 use Rattle.md5.specs.Md5.{md5}
 use Rattle.sha2.specs.Sha256.{sha256}
 use Rattle.std.specs.String.{string_bytes}
+use Rattle.put_stage.specs.Coding.{all_bytes}
 use Rattle.put_stage.specs.Taking.{IsMadeOf}
 use Rattle.put_stage.specs.declared.stage.Load.{Load}
 use Rattle.put_stage.specs.declared.stage.Made.{Made}
@@ -73,6 +74,15 @@ canonical_of_tables set id name size tables roots m is short few roots_are count
       parts = (part, tt);
     } in
     subst IsCanonical (sym is) made
+
+-- and so is the manifest of a load of a body, with the roots of its digest tables
+pub canonical_of_load : (load : Load) (name : List ℕ) (tables roots : List (List ℕ)) (m : Manifest) → load.alone ≡ false
+    → name ≡ string_bytes load.name → tables ≡ all_bytes load.tables.items → roots ≡ map sha256 tables
+    → m ≡ manifest_of load.set load.names.id name load.long roots → IsCanonical m
+canonical_of_load load name tables roots m of_body named same roots_are is =
+    let short : length name < 2 ^ 16 = subst (λ (text : List ℕ). length text < 2 ^ 16) (sym named) load.short_name in
+    let counted : length (all_bytes load.tables.items) ≡ load.set.drives = length-map load.tables.items _ ∙ load.tables_of_all in
+    canonical_of_tables load.set load.names.id name load.long tables roots m is short (load.few of_body) roots_are (ap length same ∙ counted)
 
 -- the roots of shards that have these tables
 pub roots_of_tables : (shards : List (List (List ℕ))) → map sha256 (map table_of shards) ≡ map root_of shards

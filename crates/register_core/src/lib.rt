@@ -33,6 +33,7 @@ pub use content::{ContentFault, ContentRule};
 pub use drafting::{draft, draft_after, draft_mend};
 pub use drafts::Draft;
 pub use faults::QuorumFault;
+pub use lanes::is_out;
 pub use laws::lane_laws;
 pub use looked::Looked;
 pub use looking::look;

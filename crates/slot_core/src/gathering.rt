@@ -9,6 +9,7 @@ ghost use Rattle.slot_core.specs.Listing.{AreShownNames, LanesAreAsked};
 use call_types::{FileKind, Why, Whys};
 use drive_base::{Drive, DriveFault, DriveSet, page};
 use fault_base::NoMemory;
+use register_core::is_out;
 use std::alloc::Global;
 use std::collections::BTreeMap;
 
@@ -47,14 +48,6 @@ pub(crate) fn shown_names<D: Drive>(
     }
     let names = page(alloc, &gathered, from, most)?;
     Ok(Shown { names, whys })
-}
-
-/// Whether a set has a lane.
-fn is_out(set: DriveSet, index: usize) -> bool
-    requires { index < 16 }
-    ensures { IsTrue result ↔ IsBitSet set index }
-{
-    set.has(index as u8)
 }
 
 /// Asks a lane for its names, and gathers them.

@@ -1,28 +1,23 @@
 -- Logs of steps among others: they go on by one step, and what they do to the feed and the teller.
-use Rattle.std.proofs.Common.{◌≡◌, ◌∙◌, ℕ, List, [], ◌∷◌, ◌++◌, Option, map, append-nil, append_assoc, ap, refl, subst, sym}
-use Rattle.std.proofs.lemmas.Grind.{flat_map-append}
-use Rattle.std.proofs.lemmas.List.{map-append}
+use Rattle.std.proofs.Common.{◌≡◌, ℕ, List, [], ◌∷◌, ◌++◌, Option, append-nil, append_assoc, ap, refl, subst, sym}
 use Rattle.audit_trail.specs.declared.entry.Entry.{Entry}
 use Rattle.desk_base.specs.Telling.{Effect}
 use Rattle.drive_base.specs.View.{DriveView}
 use Rattle.drive_base.specs.declared.drive.Drive.{Ghosts}
 use Rattle.drive_base.specs.declared.plan.SetPlan.{SetPlan}
-use Rattle.receipts.specs.Events.{Event, Log, Section, notes_of, section_in, sections_of}
+use Rattle.receipts.specs.Events.{Event, Log}
 use Rattle.receipts.specs.Events.Event.{BarredFrom, Called, Fed, Told, Turned}
 use Rattle.slot_core.specs.declared.stub.Stub.{Stub}
 use Rattle.op_steps.specs.Claims.{Claim}
 use Rattle.op_steps.specs.Notes.{notes_by}
 use Rattle.op_steps.specs.Store.{FeedSeen, any_effect}
+use Rattle.op_steps.proofs.RunLemmas.{notes_more}
 use Rattle.store_shared.specs.Among.{PassSeen, Reach, reach_of, without_slots}
 use Rattle.store_shared.specs.AmongSteps.{RanAmong, RanSoAmong, StepAmong, StepsSoAmong}
 use Rattle.store_shared.specs.Answers.{any_teller}
 use Rattle.store_shared.specs.Serving.{OnlyTold}
 use Rattle.store_shared.proofs.UnitLemmas.{step_any}
 use Rattle.store_shared.proofs.WireLemmas.{Wires, WiresRan, wires, wires_of}
-
-notes_join : (log more : Log) → notes_of (log ++ more) ≡ notes_of log ++ notes_of more
-notes_join log more = ap (map (λ (section : Section). section.note)) (flat_map-append section_in log more)
-    ∙ map-append (λ (section : Section). section.note) (sections_of log) (sections_of more)
 
 -- what a call has with a teller of which only the count of faults is seen
 abbrev pub any_reach : {D A T : Type 0} → Reach D A T → Reach D A (Unit {0})
@@ -53,8 +48,7 @@ module _ {D A T : Type 0} (ghosts : Ghosts D) (entries : A → Option (List Entr
         one.1 ++ event ∷ [],
         subst (λ l. New two.0 l) (append_assoc log one.1 (event ∷ [])) two.2,
         among_more one.1 event (old claim) (mid one.0) (new two.0) one.3 two.3,
-        two.4 ∙ (ap (λ notes. notes ++ notes_of (event ∷ [])) one.4
-            ∙ (append_assoc (notes_by s) (notes_of one.1) (notes_of (event ∷ [])) ∙ ap (λ notes. notes_by s ++ notes) (sym (notes_join one.1 (event ∷ []))))),
+        notes_more one.1 event s t u one.4 two.4,
       )
 
   -- the feed and the teller go on by a log as in any store
