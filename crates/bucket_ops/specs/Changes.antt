@@ -9,7 +9,7 @@ use Rattle.call_types.specs.declared.reply.Reply.TheVariants.{Refused}
 use Rattle.desk_base.specs.Answering.{Task}
 use Rattle.desk_base.specs.Calls.{most_document, stated_length}
 use Rattle.desk_base.specs.declared.call.Call.{Call}
-use Rattle.desk_base.specs.declared.call.Call.TheVariants.{ListBuckets, CreateBucket, HeadBucket, GetVersioning, PutVersioning, Put, Get, Head, Delete, List2, ListVersions, Create, Part, Complete, Abort}
+use Rattle.desk_base.specs.declared.call.Call.TheVariants.{CreateBucket, PutVersioning}
 use Rattle.drive_base.specs.declared.plan.SetPlan.{SetPlan}
 use Rattle.s3_docs.specs.Documents.{IsDocument, IsPlace}
 use Rattle.s3_docs.specs.Machine.Value.{Versioning}
@@ -34,21 +34,9 @@ use Rattle.bucket_ops.specs.Taking.{taken_of}
 
 -- a call changes a bucket. The document of one that sets its mode isn't longer than is read
 abbrev pub IsChange : Call → Type 0
-IsChange ListBuckets = ⊥
 IsChange (CreateBucket bucket) = IsBucketName bucket
-IsChange (HeadBucket bucket) = ⊥
-IsChange (GetVersioning bucket) = ⊥
 IsChange (PutVersioning bucket long) = IsBucketName bucket × (long ≤ most_document)
-IsChange (Put at kind md5 long) = ⊥
-IsChange (Get at pick ask) = ⊥
-IsChange (Head at pick) = ⊥
-IsChange (Delete at pick) = ⊥
-IsChange (List2 bucket page) = ⊥
-IsChange (ListVersions bucket page) = ⊥
-IsChange (Create at kind) = ⊥
-IsChange (Part at upload number md5 long) = ⊥
-IsChange (Complete at upload long) = ⊥
-IsChange (Abort at upload) = ⊥
+IsChange other = ⊥
 
 -- the call that makes a bucket, or that sets its mode by a document of this length
 abbrev pub change_call : Bool → ℕ → List ℕ → Call

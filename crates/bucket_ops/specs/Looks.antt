@@ -11,7 +11,7 @@ use Rattle.call_types.specs.declared.reply.Reply.{Reply}
 use Rattle.call_types.specs.declared.reply.Reply.TheVariants.{Mode as ModeReply, Plain, Refused}
 use Rattle.desk_base.specs.Answering.{Task}
 use Rattle.desk_base.specs.declared.call.Call.{Call}
-use Rattle.desk_base.specs.declared.call.Call.TheVariants.{ListBuckets, CreateBucket, HeadBucket, GetVersioning, PutVersioning, Put, Get, Head, Delete, List2, ListVersions, Create, Part, Complete, Abort}
+use Rattle.desk_base.specs.declared.call.Call.TheVariants.{HeadBucket, GetVersioning}
 use Rattle.drive_base.specs.declared.plan.SetPlan.{SetPlan}
 use Rattle.slot_core.specs.declared.fault.SlotFault.{SlotFault}
 use Rattle.receipts.specs.declared.barred.Barred.{Barred}
@@ -29,21 +29,9 @@ use Rattle.bucket_ops.specs.declared.state.State.TheVariants.{Looking, Over, Tel
 
 -- a call only looks at a bucket
 abbrev pub IsLook : Call → Type 0
-IsLook ListBuckets = ⊥
-IsLook (CreateBucket bucket) = ⊥
 IsLook (HeadBucket bucket) = IsBucketName bucket
 IsLook (GetVersioning bucket) = IsBucketName bucket
-IsLook (PutVersioning bucket long) = ⊥
-IsLook (Put at kind md5 long) = ⊥
-IsLook (Get at pick ask) = ⊥
-IsLook (Head at pick) = ⊥
-IsLook (Delete at pick) = ⊥
-IsLook (List2 bucket page) = ⊥
-IsLook (ListVersions bucket page) = ⊥
-IsLook (Create at kind) = ⊥
-IsLook (Part at upload number md5 long) = ⊥
-IsLook (Complete at upload long) = ⊥
-IsLook (Abort at upload) = ⊥
+IsLook other = ⊥
 
 -- the call that asks for the mode of a bucket, or only whether it is there
 abbrev pub look_call : Bool → List ℕ → Call

@@ -12,7 +12,7 @@ use Rattle.call_types.specs.declared.reply.Reply.TheVariants.{Refused as Refused
 use Rattle.desk_base.specs.Answering.{Task}
 use Rattle.desk_base.specs.Calls.{IsKey}
 use Rattle.desk_base.specs.declared.call.Call.{Call}
-use Rattle.desk_base.specs.declared.call.Call.TheVariants.{ListBuckets, CreateBucket, HeadBucket, GetVersioning, PutVersioning, Put, Get, Head, Delete, List2, ListVersions, Create, Part, Complete, Abort}
+use Rattle.desk_base.specs.declared.call.Call.TheVariants.{Delete}
 use Rattle.drive_base.specs.declared.plan.SetPlan.{SetPlan}
 use Rattle.slot_core.specs.declared.commit.Commit.{Commit}
 use Rattle.slot_core.specs.declared.commit.Commit.TheVariants.{Key as KeyCommit}
@@ -40,21 +40,8 @@ use Rattle.object_ops.specs.declared.looking.Looked.TheVariants.{LacksMemory, Re
 
 -- a call deletes an object
 abbrev pub IsDelete : Call → Type 0
-IsDelete ListBuckets = ⊥
-IsDelete (CreateBucket bucket) = ⊥
-IsDelete (HeadBucket bucket) = ⊥
-IsDelete (GetVersioning bucket) = ⊥
-IsDelete (PutVersioning bucket long) = ⊥
-IsDelete (Put at kind md5 long) = ⊥
-IsDelete (Get at pick ask) = ⊥
-IsDelete (Head at pick) = ⊥
 IsDelete (Delete at pick) = IsKey at
-IsDelete (List2 bucket page) = ⊥
-IsDelete (ListVersions bucket page) = ⊥
-IsDelete (Create at kind) = ⊥
-IsDelete (Part at upload number md5 long) = ⊥
-IsDelete (Complete at upload long) = ⊥
-IsDelete (Abort at upload) = ⊥
+IsDelete other = ⊥
 
 -- what an op was asked
 abbrev pub delete_task : DeleteOp → Task

@@ -5,28 +5,15 @@ use Rattle.call_types.specs.declared.names.Pick.{Pick}
 use Rattle.call_types.specs.declared.names.RangeAsk.{RangeAsk}
 use Rattle.desk_base.specs.Calls.{IsKey}
 use Rattle.desk_base.specs.declared.call.Call.{Call}
-use Rattle.desk_base.specs.declared.call.Call.TheVariants.{ListBuckets, CreateBucket, HeadBucket, GetVersioning, PutVersioning, Put, Get, Head, Delete, List2, ListVersions, Create, Part, Complete, Abort}
+use Rattle.desk_base.specs.declared.call.Call.TheVariants.{Get}
 use Rattle.drive_base.specs.declared.plan.SetPlan.{SetPlan}
 use Rattle.object_ops.specs.declared.get_op.GetOp.{GetOp}
 use Rattle.object_ops.specs.declared.get_state.GetState.TheVariants.{Looking}
 
 -- a call is a GetObject of a key
 abbrev pub IsGet : Call → Type 0
-IsGet ListBuckets = ⊥
-IsGet (CreateBucket bucket) = ⊥
-IsGet (HeadBucket bucket) = ⊥
-IsGet (GetVersioning bucket) = ⊥
-IsGet (PutVersioning bucket long) = ⊥
-IsGet (Put at kind md5 long) = ⊥
 IsGet (Get at pick ask) = IsKey at
-IsGet (Head at pick) = ⊥
-IsGet (Delete at pick) = ⊥
-IsGet (List2 bucket page) = ⊥
-IsGet (ListVersions bucket page) = ⊥
-IsGet (Create at kind) = ⊥
-IsGet (Part at upload number md5 long) = ⊥
-IsGet (Complete at upload long) = ⊥
-IsGet (Abort at upload) = ⊥
+IsGet other = ⊥
 
 -- an op of a GetObject, made in this second
 pub record IsNewGet (set : SetPlan) (at : Key) (pick : Pick) (ask : RangeAsk) (now : ℕ) (op : GetOp) : Type 0 where

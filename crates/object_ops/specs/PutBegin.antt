@@ -3,7 +3,7 @@ use Rattle.std.specs.Prelude.{◌≡◌, ◌≤◌, ℕ, List, Option, length}
 use Rattle.call_types.specs.declared.names.Key.{Key}
 use Rattle.desk_base.specs.Calls.{IsKey, most_body, longest_kind}
 use Rattle.desk_base.specs.declared.call.Call.{Call}
-use Rattle.desk_base.specs.declared.call.Call.TheVariants.{ListBuckets, CreateBucket, HeadBucket, GetVersioning, PutVersioning, Put, Get, Head, Delete, List2, ListVersions, Create, Part, Complete, Abort}
+use Rattle.desk_base.specs.declared.call.Call.TheVariants.{Put}
 use Rattle.drive_base.specs.declared.plan.SetPlan.{SetPlan}
 use Rattle.object_ops.specs.Clearing.{HasNone}
 use Rattle.object_ops.specs.declared.put_op.PutOp.{PutOp}
@@ -11,21 +11,8 @@ use Rattle.object_ops.specs.declared.put_state.PutState.TheVariants.{Looking}
 
 -- a call is a lawful PutObject
 abbrev pub IsPut : Call → Type 0
-IsPut ListBuckets = ⊥
-IsPut (CreateBucket bucket) = ⊥
-IsPut (HeadBucket bucket) = ⊥
-IsPut (GetVersioning bucket) = ⊥
-IsPut (PutVersioning bucket long) = ⊥
 IsPut (Put at kind md5 long) = IsKey at × (length kind ≤ longest_kind) × (long ≤ most_body)
-IsPut (Get at pick ask) = ⊥
-IsPut (Head at pick) = ⊥
-IsPut (Delete at pick) = ⊥
-IsPut (List2 bucket page) = ⊥
-IsPut (ListVersions bucket page) = ⊥
-IsPut (Create at kind) = ⊥
-IsPut (Part at upload number md5 long) = ⊥
-IsPut (Complete at upload long) = ⊥
-IsPut (Abort at upload) = ⊥
+IsPut other = ⊥
 
 -- an op of a PutObject, made in this second
 pub record IsNewPut (set : SetPlan) (at : Key) (kind : List ℕ) (stated : Option (List ℕ)) (long now : ℕ) (op : PutOp) : Type 0 where

@@ -1,4 +1,4 @@
-use Rattle.std.proofs.Common.{◌≡◌, ◌+◌, ◌∙◌, List, map, refl, subst, sym}
+use Rattle.std.proofs.Common.{◌≡◌, ◌+◌, ◌∙◌, List, map, refl, sym}
 use Rattle.std.proofs.lemmas.List.{with_items_is}
 use Rattle.std.specs.Vec.{with_items}
 use Rattle.register_core.specs.Loops.{CountsRise, TellsStay}
@@ -12,6 +12,7 @@ use Rattle.slot_data.specs.Moves.{with_pins}
 use Rattle.slot_data.specs.Rows.{pinned_of}
 use Rattle.slot_core.proofs.BeginReadLemmas.{flights_drawn_on, new_ticket, pins_before_next, read_cause_turned, read_holds}
 use Rattle.slot_core.proofs.PeekLemmas.{leaves_turned}
+use Rattle.slot_core.proofs.KeptLemmas.{on_lanes}
 use Rattle.slot_core.proofs.slot.Slot.begin_read.Goals as goal
 
 pub invariant_of-self-2-clause-pins_before : goal.invariant_of-self-2-clause-pins_before
@@ -60,8 +61,8 @@ returns-clause-tells g c =
     let self = c.args.self.now in
     let lanes : List T = c.read_at-turn.new.lanes in
     let is : lanes ≡ (with_items self.lanes lanes).items = sym (with_items_is self.lanes lanes (c.read_at-turn.auto.lanes ∙ c.as_mut_slice.ensures.len)) in
-    subst (λ (l : List T). TellsStay {D = T} D.tells D.files D.count self.lanes.items l) is
-    (subst (λ (l : List T). TellsStay {D = T} D.tells D.files D.count l lanes) c.as_mut_slice.ensures.value c.read_at-turn.ensures.tells)
+    on_lanes (λ (old new : List T). TellsStay {D = T} D.tells D.files D.count old new) c.as_mut_slice.result.now self.lanes.items lanes _
+    c.as_mut_slice.ensures.value is c.read_at-turn.ensures.tells
 
 pub returns-clause-counts : goal.returns-clause-counts
 returns-clause-counts g c =
@@ -70,5 +71,5 @@ returns-clause-counts g c =
     let self = c.args.self.now in
     let lanes : List T = c.read_at-turn.new.lanes in
     let is : lanes ≡ (with_items self.lanes lanes).items = sym (with_items_is self.lanes lanes (c.read_at-turn.auto.lanes ∙ c.as_mut_slice.ensures.len)) in
-    subst (λ (l : List T). CountsRise {D = T} D.tells D.files D.count self.lanes.items l) is
-    (subst (λ (l : List T). CountsRise {D = T} D.tells D.files D.count l lanes) c.as_mut_slice.ensures.value c.read_at-turn.ensures.counts)
+    on_lanes (λ (old new : List T). CountsRise {D = T} D.tells D.files D.count old new) c.as_mut_slice.result.now self.lanes.items lanes _
+    c.as_mut_slice.ensures.value is c.read_at-turn.ensures.counts

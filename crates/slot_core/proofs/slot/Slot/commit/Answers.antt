@@ -1,4 +1,4 @@
-use Rattle.std.proofs.Common.{◌≡◌, ◌+◌, ◌∙◌, List, map, ap, subst, sym, refl}
+use Rattle.std.proofs.Common.{◌≡◌, ◌+◌, ◌∙◌, List, map, ap, sym, refl}
 use Rattle.std.proofs.lemmas.List.{with_items_is}
 use Rattle.std.specs.Vec.{with_items}
 use Rattle.stamp_id.specs.declared.version.VersionId.{VersionId}
@@ -19,6 +19,7 @@ use Rattle.slot_core.proofs.CommitLemmas.{lost_leaves}
 use Rattle.slot_core.proofs.LandLemmas.{LandLaws}
 use Rattle.slot_core.proofs.PeekLemmas.{leaves_turned}
 use Rattle.slot_core.proofs.SlotCommitLemmas.{checks_flight, checks_spent, commit_holds, commit_holds_none, commit_turned, fits_landing, handed_flight, lands_row}
+use Rattle.slot_core.proofs.KeptLemmas.{on_lanes}
 use Rattle.slot_core.proofs.slot.Slot.commit.Goals as goal
 
 pub returns-then-is_spent-clause-holds : goal.returns-then-is_spent-clause-holds
@@ -101,8 +102,8 @@ returns-clause-tells g c =
     let self = c.args.self.now in
     let lanes : List T = c.commit_landed-turn.new.lanes in
     let is : lanes ≡ (with_items self.lanes lanes).items = sym (with_items_is self.lanes lanes (c.commit_landed-turn.auto.lanes ∙ c.as_mut_slice.ensures.len)) in
-    subst (λ (l : List T). TellsStay {D = T} D.tells D.files D.count self.lanes.items l) is
-    (subst (λ (l : List T). TellsStay {D = T} D.tells D.files D.count l lanes) c.as_mut_slice.ensures.value c.commit_landed-turn.ensures.tells)
+    on_lanes (λ (old new : List T). TellsStay {D = T} D.tells D.files D.count old new) c.as_mut_slice.result.now self.lanes.items lanes _
+    c.as_mut_slice.ensures.value is c.commit_landed-turn.ensures.tells
 
 pub returns-clause-counts : goal.returns-clause-counts
 returns-clause-counts g c =
@@ -111,5 +112,5 @@ returns-clause-counts g c =
     let self = c.args.self.now in
     let lanes : List T = c.commit_landed-turn.new.lanes in
     let is : lanes ≡ (with_items self.lanes lanes).items = sym (with_items_is self.lanes lanes (c.commit_landed-turn.auto.lanes ∙ c.as_mut_slice.ensures.len)) in
-    subst (λ (l : List T). CountsRise {D = T} D.tells D.files D.count self.lanes.items l) is
-    (subst (λ (l : List T). CountsRise {D = T} D.tells D.files D.count l lanes) c.as_mut_slice.ensures.value c.commit_landed-turn.ensures.counts)
+    on_lanes (λ (old new : List T). CountsRise {D = T} D.tells D.files D.count old new) c.as_mut_slice.result.now self.lanes.items lanes _
+    c.as_mut_slice.ensures.value is c.commit_landed-turn.ensures.counts

@@ -1,4 +1,4 @@
-use Rattle.std.proofs.Common.{◌≡◌, ◌+◌, ◌∙◌, List, subst, sym}
+use Rattle.std.proofs.Common.{◌≡◌, ◌+◌, ◌∙◌, List, sym}
 use Rattle.std.proofs.lemmas.List.{with_items_is}
 use Rattle.std.specs.Vec.{with_items}
 use Rattle.register_core.specs.Loops.{CountsRise, TellsStay}
@@ -9,6 +9,7 @@ use Rattle.slot_core.specs.Stubs.{completed_by}
 use Rattle.slot_core.specs.Views.{holding_of, numbers_of}
 use Rattle.slot_core.specs.declared.site.Site.{Site}
 use Rattle.slot_core.proofs.PeekLemmas.{cause_turned, leaves_turned}
+use Rattle.slot_core.proofs.KeptLemmas.{on_lanes}
 use Rattle.slot_core.proofs.slot.Slot.peek.Goals as goal
 
 pub returns-clause-leaves : goal.returns-clause-leaves
@@ -42,8 +43,8 @@ returns-clause-tells g c =
     let self = c.args.self.now in
     let lanes : List T = c.peek_at-turn.new.lanes in
     let is : lanes ≡ (with_items self.lanes lanes).items = sym (with_items_is self.lanes lanes (c.peek_at-turn.auto.lanes ∙ c.as_mut_slice.ensures.len)) in
-    subst (λ (l : List T). TellsStay {D = T} D.tells D.files D.count self.lanes.items l) is
-    (subst (λ (l : List T). TellsStay {D = T} D.tells D.files D.count l lanes) c.as_mut_slice.ensures.value c.peek_at-turn.ensures.tells)
+    on_lanes (λ (old new : List T). TellsStay {D = T} D.tells D.files D.count old new) c.as_mut_slice.result.now self.lanes.items lanes _
+    c.as_mut_slice.ensures.value is c.peek_at-turn.ensures.tells
 
 pub returns-clause-counts : goal.returns-clause-counts
 returns-clause-counts g c =
@@ -52,5 +53,5 @@ returns-clause-counts g c =
     let self = c.args.self.now in
     let lanes : List T = c.peek_at-turn.new.lanes in
     let is : lanes ≡ (with_items self.lanes lanes).items = sym (with_items_is self.lanes lanes (c.peek_at-turn.auto.lanes ∙ c.as_mut_slice.ensures.len)) in
-    subst (λ (l : List T). CountsRise {D = T} D.tells D.files D.count self.lanes.items l) is
-    (subst (λ (l : List T). CountsRise {D = T} D.tells D.files D.count l lanes) c.as_mut_slice.ensures.value c.peek_at-turn.ensures.counts)
+    on_lanes (λ (old new : List T). CountsRise {D = T} D.tells D.files D.count old new) c.as_mut_slice.result.now self.lanes.items lanes _
+    c.as_mut_slice.ensures.value is c.peek_at-turn.ensures.counts
