@@ -3,9 +3,8 @@ use Rattle.std.proofs.Common.{◌≡◌, ℕ, zero, suc, ◌<◌, refl, sym, ap,
 use Rattle.std.proofs.lemmas.Bool.{ltb-true, lt-ltb}
 use Rattle.field_reader.proofs.Parts.{IsSpelled}
 use Rattle.field_reader.proofs.Series.{Kept}
-use Rattle.field_reader.proofs.Chains.{u8_kept, u64_kept, done_kept}
+use Rattle.field_reader.proofs.Chains.{u8_kept, u64_kept, done_kept, then_field, told, ruled}
 use Rattle.sealed_record.specs.Laws.{IsLawful}
-use Rattle.sealed_record.proofs.Chains.{then_field, told, ruled}
 use Rattle.sealed_record.proofs.Rows.{Matches, lawful_table}
 use Rattle.call_types.specs.declared.names.Mode.{Mode}
 use Rattle.call_types.specs.declared.names.Mode.TheVariants.{Never, Enabled, Suspended}

@@ -1,10 +1,10 @@
 -- How a chain of parts is spelled, where each part keeps a fact and is spelled by a function.
-use Rattle.std.proofs.Common.{◌≡◌, ℕ, ◌^◌, ◌<◌, Bool, true, List, [], ◌++◌, length, refl, sym, ap, subst, ◌∙◌}
+use Rattle.std.proofs.Common.{◌≡◌, ℕ, ◌^◌, ◌<◌, ◌≤◌, Bool, true, List, [], ◌++◌, length, refl, sym, ap, subst, ◌∙◌}
 use Rattle.std.specs.Int.{Width, w8, w16, w32, w64}
-use Rattle.field_reader.specs.Format.{Format, ◌>>=◌, done, field, number, with_rule}
-use Rattle.field_reader.specs.Spelling.{IsBytes, number_bytes}
+use Rattle.field_reader.specs.Format.{Format, ◌>>=◌, done, field, number, short_text, with_rule}
+use Rattle.field_reader.specs.Spelling.{IsBytes, number_bytes, short_text_bytes}
 use Rattle.field_reader.proofs.Parts.{IsSpelled, Then, then_spelled, Done, done_spelled, Ruled, rule_spelled, told_spelled}
-use Rattle.field_reader.proofs.Numbers.{Plain, field_spelled, Numbered, u8_spelled, u16_spelled, u32_spelled, u64_spelled}
+use Rattle.field_reader.proofs.Numbers.{Plain, field_spelled, Numbered, u8_spelled, u16_spelled, u32_spelled, u64_spelled, Short, short_text_spelled}
 use Rattle.field_reader.proofs.Series.{Kept}
 
 -- bytes stand as they are
@@ -90,3 +90,24 @@ then_kept {A} {B} part rest P p Q q first one others shows =
       whole = k.is;
     } in
     told_spelled (part >>= rest) (Then First Rest) New into out_of (then_spelled part rest First Rest one others)
+
+-- one field and then the rest, where the value shows the field
+pub then_field : {A B : Type 0} {part : Format A} {rest : A → Format B} {P : A → Type 0} {p : A → List ℕ} {Q : A → B → Type 0} {q : B → List ℕ} (first : B → A)
+    → IsSpelled part (Kept P p) → ((a : A) → IsSpelled (rest a) (Kept (Q a) q)) → ((a : A) (b : B) → P a → Q a b → a ≡ first b)
+    → IsSpelled (part >>= rest) (Kept (Both P Q first) (λ b. p (first b) ++ q b))
+then_field {A} {B} {part} {rest} {P} {p} {Q} {q} first one others shows = then_kept part rest P p Q q first one others shows
+
+-- the same spelling, told in other words
+pub told : {A : Type 0} {part : Format A} {P Q : A → Type 0} {p q : A → List ℕ} → IsSpelled part (Kept P p) → ((a : A) → P a → Q a) → ((a : A) → Q a → P a) → ((a : A) → p a ≡ q a) → IsSpelled part (Kept Q q)
+told {A} {part} {P} {Q} {p} {q} one into out_of same = retold part P Q p q into out_of same one
+
+-- a field with a rule
+pub ruled : {A : Type 0} {part : Format A} {P : A → Type 0} {p : A → List ℕ} (rule : A → Bool) → IsSpelled part (Kept P p) → IsSpelled (with_rule rule part) (Kept (λ a. P a × (rule a ≡ true)) p)
+ruled {A} {part} {P} {p} rule one = rule_kept rule part P p one
+
+-- a short text
+pub short_kept : IsSpelled short_text (Kept (λ text. length text ≤ 255) short_text_bytes)
+short_kept = told_spelled short_text Short (Kept (λ text. length text ≤ 255) short_text_bytes)
+    (λ value text bytes s. record { keeps = s.sized; is = s.is })
+    (λ value text k. record { is = k.is; sized = k.keeps })
+    short_text_spelled

@@ -9,9 +9,8 @@ use Rattle.field_reader.specs.Spelling.{IsBytes, number_bytes}
 use Rattle.field_reader.proofs.Parts.{IsSpelled}
 use Rattle.field_reader.proofs.Series.{Kept}
 use Rattle.field_reader.proofs.Whole.{whole_again}
-use Rattle.field_reader.proofs.Chains.{u8_kept, u16_kept, u64_kept, done_kept}
+use Rattle.field_reader.proofs.Chains.{u8_kept, u16_kept, u64_kept, done_kept, then_field, told}
 use Rattle.sealed_record.proofs.ByteLemmas.{bytes-none, bytes-append, bytes-w8, bytes-w16, bytes-w64, bytes-flat_map}
-use Rattle.sealed_record.proofs.Chains.{then_field, told}
 use Rattle.sealed_record.proofs.FieldProofs.{Items, items_spelled}
 use Rattle.manifest_file.specs.declared.manifest.Manifest.{Manifest}
 use Rattle.manifest_file.specs.declared.manifest.ManifestPart.{ManifestPart}

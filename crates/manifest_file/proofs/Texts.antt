@@ -6,9 +6,8 @@ use Rattle.std.proofs.lemmas.Bool.{ltb-true, leb-true, le-leb}
 use Rattle.std.proofs.lemmas.Bool.Decides.{nat_tests}
 use Rattle.field_reader.proofs.Parts.{IsSpelled}
 use Rattle.field_reader.proofs.Series.{Kept}
-use Rattle.field_reader.proofs.Chains.{u8_kept, u16_kept, u64_kept, done_kept}
+use Rattle.field_reader.proofs.Chains.{u8_kept, u16_kept, u64_kept, done_kept, then_field, told, ruled}
 use Rattle.sealed_record.proofs.ByteLemmas.{byte_field_spelled}
-use Rattle.sealed_record.proofs.Chains.{then_field, told, ruled}
 use Rattle.sealed_record.proofs.FieldProofs.{format_spelled, counted_spelled, Items, items_spelled}
 use Rattle.stamp_id.proofs.IdTests.{both_true}
 use Rattle.stamp_id.proofs.IdText.{IsIdField, id_spelled}

@@ -4,9 +4,8 @@ use Rattle.std.specs.Int.{w32}
 use Rattle.std.proofs.lemmas.Bool.{ltb-true, lt-ltb}
 use Rattle.field_reader.proofs.Parts.{IsSpelled}
 use Rattle.field_reader.proofs.Series.{Kept}
-use Rattle.field_reader.proofs.Chains.{bytes_kept, u32_kept, u64_kept, done_kept}
+use Rattle.field_reader.proofs.Chains.{bytes_kept, u32_kept, u64_kept, done_kept, then_field, told, ruled}
 use Rattle.sealed_record.specs.Fields.{IfThere}
-use Rattle.sealed_record.proofs.Chains.{then_field, told, ruled}
 use Rattle.sealed_record.proofs.FieldProofs.{format_spelled, counted_spelled, optional_spelled}
 use Rattle.stamp_id.proofs.IdText.{IsIdField, id_spelled}
 use Rattle.register_file.specs.Rows.{StampRow, BaseRow, AddsRow, NextRow, FileRow}

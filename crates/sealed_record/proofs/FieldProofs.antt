@@ -9,9 +9,8 @@ use Rattle.field_reader.specs.Format.{Format, ◌>>=◌, done, number, series}
 use Rattle.field_reader.specs.Spelling.{IsBytes, number_bytes}
 use Rattle.field_reader.proofs.Parts.{IsSpelled, Then, then_spelled, told_spelled}
 use Rattle.field_reader.proofs.Series.{Kept, AllAfter, Listed, listed_spelled}
-use Rattle.field_reader.proofs.Chains.{nothing, bytes_kept, u8_kept, done_kept, Both}
+use Rattle.field_reader.proofs.Chains.{nothing, bytes_kept, u8_kept, done_kept, Both, then_field, told, ruled}
 use Rattle.sealed_record.specs.Fields.{is_format, format_number, counted, counted_bytes, is_flag, flag_number, part_if, optional, optional_bytes, IfThere}
-use Rattle.sealed_record.proofs.Chains.{then_field, told, ruled}
 
 -- ---- a format number
 

@@ -3,9 +3,8 @@ use Rattle.std.proofs.Common.{◌≡◌, ℕ, ◌^◌, ◌<◌, List, length, re
 use Rattle.std.proofs.lemmas.Bool.{ltb-true, lt-ltb}
 use Rattle.field_reader.proofs.Parts.{IsSpelled}
 use Rattle.field_reader.proofs.Series.{Kept}
-use Rattle.field_reader.proofs.Chains.{bytes_kept, u8_kept, u64_kept, done_kept}
+use Rattle.field_reader.proofs.Chains.{bytes_kept, u8_kept, u64_kept, done_kept, then_field, told, ruled}
 use Rattle.sealed_record.specs.Laws.{IsLawful}
-use Rattle.sealed_record.proofs.Chains.{then_field, told, ruled}
 use Rattle.sealed_record.proofs.FieldProofs.{format_spelled}
 use Rattle.sealed_record.proofs.Rows.{Matches, lawful_table}
 use Rattle.term_gate.specs.Table.{Row, row_of, is_term, layout, bytes_of, IsCanonical, format_table}

@@ -6,9 +6,8 @@ use Rattle.std.specs.Int.{w64}
 use Rattle.field_reader.specs.Spelling.{number_bytes}
 use Rattle.field_reader.proofs.Parts.{IsSpelled}
 use Rattle.field_reader.proofs.Series.{Kept}
-use Rattle.field_reader.proofs.Chains.{bytes_kept, u64_kept, done_kept}
+use Rattle.field_reader.proofs.Chains.{bytes_kept, u64_kept, done_kept, then_field, told, ruled}
 use Rattle.sealed_record.specs.Laws.{IsLawful}
-use Rattle.sealed_record.proofs.Chains.{then_field, told, ruled}
 use Rattle.sealed_record.proofs.Rows.{Matches, lawful_table}
 use Rattle.stamp_id.specs.VersionId.{id_bytes}
 use Rattle.stamp_id.proofs.IdLemmas.{id_bytes-injective, length-id_bytes}

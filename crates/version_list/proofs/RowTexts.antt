@@ -3,15 +3,14 @@ use Rattle.std.proofs.Common.{◌≡◌, ℕ, ◌^◌, ◌<◌, ◌≤◌, Bool,
 use Rattle.std.specs.Prelude.{◌==◌}
 use Rattle.std.specs.Bool.{MatchBool}
 use Rattle.std.specs.Int.{w8, w64}
-use Rattle.std.proofs.lemmas.Bool.{eqb-true, ltb-true}
+use Rattle.std.proofs.lemmas.Bool.{eqb-true, ltb-true, lt-ltb}
 use Rattle.std.proofs.lemmas.Bool.Decides.{nat_tests}
-use Rattle.field_reader.specs.Format.{Format, ◌>>=◌, done, field, number, short_text, with_rule}
-use Rattle.field_reader.specs.Spelling.{IsBytes, number_bytes, short_text_bytes}
+use Rattle.field_reader.specs.Format.{Format, ◌>>=◌, done, field, number, with_rule}
+use Rattle.field_reader.specs.Spelling.{IsBytes, number_bytes}
 use Rattle.field_reader.proofs.Parts.{IsSpelled, Then, then_spelled, then_joined, Done, done_spelled, Ruled, rule_spelled, told_spelled, choice_spelled, IsBytes-front}
-use Rattle.field_reader.proofs.Numbers.{Plain, field_spelled, Numbered, u8_spelled, u64_spelled, Short, short_text_spelled}
+use Rattle.field_reader.proofs.Numbers.{Plain, field_spelled, Numbered, u8_spelled, u64_spelled}
 use Rattle.field_reader.proofs.Series.{Kept}
-use Rattle.stamp_id.specs.IdField.{id_field}
-use Rattle.field_reader.proofs.Chains.{itself}
+use Rattle.field_reader.proofs.Chains.{u64_kept, done_kept, then_field, told, ruled, short_kept}
 use Rattle.stamp_id.proofs.IdText.{IsIdField, id_spelled}
 use Rattle.version_list.specs.Rows.{ObjectRow, VersionRow, UploadRow}
 use Rattle.version_list.specs.Layout.{is_moment, is_class, object, object_of_class, is_new, name_rule, version, upload}
@@ -183,70 +182,15 @@ pub record IsUploadRow (is_used : List ℕ → Bool) (u : UploadRow) : Type 0 wh
 abbrev upload_made : List ℕ → ℕ → List ℕ → UploadRow
 upload_made id opened kind = record { id = id; opened = opened; kind = kind }
 
-abbrev g3 : List ℕ → ℕ → Format UploadRow
-g3 id opened = short_text >>= λ kind. done (upload_made id opened kind)
-
-abbrev g2 : List ℕ → Format UploadRow
-g2 id = with_rule is_moment (number w64) >>= λ opened. g3 id opened
-
-abbrev u3 : List ℕ → ℕ → UploadRow → List ℕ → Type 0
-u3 id opened = Then Short (λ kind. Done (upload_made id opened kind))
-
-abbrev u2 : List ℕ → UploadRow → List ℕ → Type 0
-u2 id = Then (Ruled (Numbered w64 (2 ^ 64)) is_moment) (λ opened. u3 id opened)
-
-abbrev u1 : (List ℕ → Bool) → UploadRow → List ℕ → Type 0
-u1 is_used = Then (Ruled (Kept IsIdField itself) (is_new is_used)) (λ id. u2 id)
-
-r3 : (id : List ℕ) (opened : ℕ) → IsSpelled (g3 id opened) (u3 id opened)
-r3 id opened = then_spelled short_text (λ kind. done (upload_made id opened kind)) Short (λ kind. Done (upload_made id opened kind)) short_text_spelled (λ kind. done_spelled (upload_made id opened kind))
-
-r2 : (id : List ℕ) → IsSpelled (g2 id) (u2 id)
-r2 id = then_spelled (with_rule is_moment (number w64)) (g3 id) (Ruled (Numbered w64 (2 ^ 64)) is_moment) (u3 id) (rule_spelled is_moment (number w64) (Numbered w64 (2 ^ 64)) u64_spelled) (r3 id)
-
-r1 : (is_used : List ℕ → Bool) → IsSpelled (upload is_used) (u1 is_used)
-unfolding upload
-r1 is_used = then_spelled (with_rule (is_new is_used) id_field) g2 (Ruled (Kept IsIdField itself) (is_new is_used)) u2 (rule_spelled (is_new is_used) id_field (Kept IsIdField itself) id_spelled) r2
-
-upload_into : (is_used : List ℕ → Bool) (u : UploadRow) (text : List ℕ) → IsBytes text → u1 is_used u text → Kept (IsUploadRow is_used) upload_bytes u text
-upload_into is_used u text fits a =
-    let b = a.is_rest in
-    let c = b.is_rest in
-    let P : UploadRow → Type 0 = λ u. Kept (IsUploadRow is_used) upload_bytes u text in
-    let here : P (upload_made a.first b.first c.first) = record {
-      keeps = record {
-        id = a.is_first.spells.keeps;
-        id_new = a.is_first.keeps;
-        opened_kept = ltb-true _ _ b.is_first.keeps;
-        kind_short = c.is_first.sized;
-      };
-      is = then_joined a _ _ a.is_first.spells.is (then_joined b _ _ b.is_first.spells.is (then_joined c _ _ c.is_first.is c.is_rest.nothing));
-    } in
-    subst P (sym c.is_rest.is) here
-
-upload_out_of : (is_used : List ℕ → Bool) (u : UploadRow) (text : List ℕ) → Kept (IsUploadRow is_used) upload_bytes u text → u1 is_used u text
-upload_out_of is_used u text k = record {
-  first = u.id;
-  front = u.id;
-  back = _;
-  is_first = record { spells = record { keeps = k.keeps.id; is = refl }; keeps = k.keeps.id_new };
-  whole = k.is;
-  is_rest = record {
-    first = u.opened;
-    front = number_bytes w64 u.opened;
-    back = _;
-    is_first = moment_text u.opened k.keeps.opened_kept;
-    whole = refl;
-    is_rest = record {
-      first = u.kind;
-      front = short_text_bytes u.kind;
-      back = [];
-      is_first = record { is = refl; sized = k.keeps.kind_short };
-      whole = refl;
-      is_rest = record { is = refl; nothing = refl };
-    };
-  };
-}
-
 pub upload_spelled : (is_used : List ℕ → Bool) → IsSpelled (upload is_used) (Kept (IsUploadRow is_used) upload_bytes)
-upload_spelled is_used = told_spelled (upload is_used) (u1 is_used) (Kept (IsUploadRow is_used) upload_bytes) (upload_into is_used) (upload_out_of is_used) (r1 is_used)
+unfolding upload
+upload_spelled is_used = told (
+    then_field (λ (u : UploadRow). u.id) (ruled (is_new is_used) id_spelled) (λ id.
+    then_field (λ (u : UploadRow). u.opened) (ruled is_moment u64_kept) (λ opened.
+    then_field (λ (u : UploadRow). u.kind) short_kept (λ kind. done_kept (upload_made id opened kind))
+    (λ kind u k q. ap (λ (u : UploadRow). u.kind) (sym q)))
+    (λ opened u k q. ap (λ (u : UploadRow). u.opened) (sym q.rest)))
+    (λ id u k q. ap (λ (u : UploadRow). u.id) (sym q.rest.rest)))
+    (λ u k. let opened = k.rest in let kind = opened.rest in record { id = k.part.0; id_new = k.part.1; opened_kept = ltb-true _ _ opened.part.1; kind_short = kind.part })
+    (λ u k. record { part = (k.id, k.id_new); rest = record { part = (omega (arith, k.opened_kept), lt-ltb _ _ k.opened_kept); rest = record { part = k.kind_short; rest = refl } } })
+    (λ u. refl)
