@@ -1,8 +1,9 @@
 //! A drive over a folder.
 
-ghost use Rattle.std.specs.Prelude.{◌≡◌, ◌⊎◌, ◌≤◌, true, false, length, map, Some, IfOk, string_bytes};
+ghost use Rattle.std.specs.Prelude.{◌≡◌, ◌⊎◌, ◌≤◌, true, false, length, map, Some, Err, IfOk, string_bytes};
 ghost use Rattle.std.specs.Bool.{OnTrue, OnFalse};
 ghost use Rattle.fault_base.specs.Counts.{Rose};
+ghost use Rattle.drive_base.specs.declared.fault.DriveFault.TheVariants.{Failed};
 ghost use Rattle.drive_base.specs.Faults.{Counts, CountsAppend, CountsNames};
 ghost use Rattle.drive_base.specs.Files.{no_files, with_name};
 ghost use Rattle.drive_base.specs.Names.{IsPage};
@@ -81,12 +82,14 @@ impl<R: Files + AllocGlobal + Clone + Drop> FileDrive<R> {
         }
     }
 
-    /// Counts a failed call.
-    fn count_fault(&mut self)
+    /// Counts a failed call, and answers that it failed.
+    fn fail<T>(&mut self) -> Result<T, DriveFault>
+        ensures answer { result ≡ Err Failed }
         ensures same { KnowsTheSame self.old self.new }
         ensures rose { Rose self.old.faults self.new.faults }
     {
         self.faults = count_after(self.faults);
+        Err(DriveFault::Failed)
     }
 
     /// The path of a file in place.
@@ -206,15 +209,13 @@ impl<R: Files + AllocGlobal + Clone + Drop> Drive for FileDrive<R> {
         ensures known { LooksUp self.old name.now result self.new }
     {
         if self.lost {
-            self.count_fault();
-            return Err(DriveFault::Failed);
+            return self.fail();
         }
         if !self.names.has(name) {
             return Err(DriveFault::Absent);
         }
         let Ok(size) = self.placed_size(name) else {
-            self.count_fault();
-            return Err(DriveFault::Failed);
+            return self.fail();
         };
         Ok(size)
     }
@@ -225,15 +226,13 @@ impl<R: Files + AllocGlobal + Clone + Drop> Drive for FileDrive<R> {
         ensures known { LooksUp self.old name.now result self.new }
     {
         if self.lost {
-            self.count_fault();
-            return Err(DriveFault::Failed);
+            return self.fail();
         }
         if !self.names.has(name) {
             return Err(DriveFault::Absent);
         }
         let Ok(count) = self.read_placed(name, at, into) else {
-            self.count_fault();
-            return Err(DriveFault::Failed);
+            return self.fail();
         };
         Ok(count)
     }
@@ -243,8 +242,7 @@ impl<R: Files + AllocGlobal + Clone + Drop> Drive for FileDrive<R> {
         ensures known { WritesLoose self.old result self.new }
     {
         if self.lost || self.append_loose(loose, bytes).is_err() {
-            self.count_fault();
-            return Err(DriveFault::Failed);
+            return self.fail();
         }
         Ok(())
     }
@@ -254,16 +252,14 @@ impl<R: Files + AllocGlobal + Clone + Drop> Drive for FileDrive<R> {
         ensures known { SyncsLoose self.old result self.new }
     {
         if self.lost {
-            self.count_fault();
-            return Err(DriveFault::Failed);
+            return self.fail();
         }
         match self.sync_loose(loose) {
             Ok(true) => Ok(()),
             Ok(false) => Err(DriveFault::Absent),
             Err(_) => {
                 self.forget_unsynced(loose);
-                self.count_fault();
-                Err(DriveFault::Failed)
+                self.fail()
             }
         }
     }
@@ -274,19 +270,16 @@ impl<R: Files + AllocGlobal + Clone + Drop> Drive for FileDrive<R> {
         ensures known { PutsInPlace self.old name.now result self.new }
     {
         if self.lost {
-            self.count_fault();
-            return Err(DriveFault::Failed);
+            return self.fail();
         }
         let Ok(there) = self.has_loose(loose) else {
-            self.count_fault();
-            return Err(DriveFault::Failed);
+            return self.fail();
         };
         if !there {
             return Err(DriveFault::Absent);
         }
         if !self.put_in_place(loose, name) {
-            self.count_fault();
-            return Err(DriveFault::Failed);
+            return self.fail();
         }
         Ok(())
     }
@@ -296,16 +289,12 @@ impl<R: Files + AllocGlobal + Clone + Drop> Drive for FileDrive<R> {
         ensures known { WritesLoose self.old result self.new }
     {
         if self.lost {
-            self.count_fault();
-            return Err(DriveFault::Failed);
+            return self.fail();
         }
         match self.remove_loose(loose) {
             Ok(true) => Ok(()),
             Ok(false) => Err(DriveFault::Absent),
-            Err(_) => {
-                self.count_fault();
-                Err(DriveFault::Failed)
-            }
+            Err(_) => self.fail(),
         }
     }
 
@@ -314,15 +303,13 @@ impl<R: Files + AllocGlobal + Clone + Drop> Drive for FileDrive<R> {
         ensures known { TakesOut self.old name.now result self.new }
     {
         if self.lost {
-            self.count_fault();
-            return Err(DriveFault::Failed);
+            return self.fail();
         }
         if !self.names.has(name) {
             return Err(DriveFault::Absent);
         }
         if self.remove_placed(name).is_err() {
-            self.count_fault();
-            return Err(DriveFault::Failed);
+            return self.fail();
         }
         self.names.take(name);
         Ok(())
@@ -334,8 +321,7 @@ impl<R: Files + AllocGlobal + Clone + Drop> Drive for FileDrive<R> {
         ensures known { ListsKnown self.old from.now most LONGEST_NAME result self.new }
     {
         if self.lost {
-            self.count_fault();
-            return Err(DriveFault::Failed);
+            return self.fail();
         }
         let Ok(names) = self.names.page(alloc, from, most) else {
             return Err(DriveFault::NoMemory);
