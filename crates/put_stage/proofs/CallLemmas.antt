@@ -312,13 +312,6 @@ module _ (id : VersionId) (told : Bool) (alone : Bool) (next manifest : List ℕ
   half_is None cells none some is = subst (λ (a : Bool). HasBy Good (after a PlaceManifest) next manifest None first cells) (sym (none refl)) is
   half_is (Some blocks) cells none some is = subst (λ (a : Bool). HasBy Good (after a PlaceManifest) next manifest (Some blocks) first cells) (sym (some blocks refl)) is
 
-  -- the bytes that are put in place are those that were synced
-  placed_bytes : (loose name bytes : List ℕ) (is : Placed old loose name new) → old.loose loose ≡ Some (synced_file bytes) → is.bytes ≡ bytes
-  placed_bytes loose name bytes is had =
-      let same : is.file ≡ synced_file bytes = is_file (old.loose loose) is.file (synced_file bytes) is.was had in
-      let synced : IsTrue is.file.synced = subst (λ (f : LooseFile). IsTrue f.synced) (sym same) refl in
-      is.synced synced ∙ ap (λ (f : LooseFile). f.bytes) same
-
   -- the manifest is put in place
   pub place_manifest_call : (loose name : List ℕ) (kind : FileKind) (blocks : Blocks) (result : Result (Unit {0}) Why) → loose ≡ loose_manifest_name id → name ≡ manifest_name id
       → (blocks ≡ None → alone ≡ true) → ((all : List (List ℕ)) → blocks ≡ Some all → alone ≡ false)
