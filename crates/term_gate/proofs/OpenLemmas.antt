@@ -10,7 +10,7 @@ use Rattle.drive_base.specs.View.{AllGoOn, DriveView, GoesOn, view_at}
 use Rattle.drive_base.specs.declared.plan.SetPlan.{SetPlan}
 use Rattle.drive_base.proofs.ViewLemmas.{only_read_go_on, still_tell, two_calls_go_on, untouched_go_on}
 use Rattle.term_gate.specs.Deciding.{AreAbsent, ChecksSet, IsTop, term_of}
-use Rattle.term_gate.specs.Opening.{CountGood, Follows, GoesOnFrom, IsBeingMade, IsMade, IsUnmade, Opens, TakesTerm}
+use Rattle.term_gate.specs.Opening.{Follows, GoesOnFrom, IsBeingMade, IsMade, IsUnmade, Opens, TakesTerm, TermIsWritten}
 use Rattle.term_gate.specs.Reading.{AreRead, DriveIsRead, format_at, why_at}
 use Rattle.term_gate.specs.Terms.{EachTells, IsFresh, IsKept}
 use Rattle.term_gate.specs.Writing.{AreWritten, DriveIsWritten, file_for}
@@ -157,13 +157,18 @@ top_below formats whys top old new read top_is = elim top_is.had [
       (read_below (format_at formats k) (why_at whys k) (view_at old k) (view_at new k) (read.drives.each k (omega (arith, lt, read.counted))))
 ]
 
--- the drives that are counted as good, by a set of them
-pub good_counted : (whys : List Why) (mask drives count n : ℕ) → IsGoodMask whys mask → drives ≡ mask → count ≡ count_in drives n → length whys ≡ n
-    → CountGood whys count
-good_counted whys mask drives count n good is counted long = record {
-  mask = mask;
-  good = good;
-  count_is = counted ∙ ap (λ (m : ℕ). count_in m n) is ∙ ap (count_in mask) (sym long);
+-- the term above the top was written, and the drives that took it are counted by a set of them
+pub term_written : (set : SetPlan) (top out : ℕ) (whys : List Why) (mask drives count : ℕ) (old new : List DriveView) → length old ≡ set.drives → top + 1 < 2 ^ 48
+    → AreWritten set (top + 1) out (Lacks Format) whys old new → IsGoodMask whys mask → drives ≡ mask → count ≡ count_in drives set.drives
+    → TermIsWritten set top out whys count old new
+term_written set top out whys mask drives count old new long below wrote good is counted = record {
+  below = below;
+  wrote = wrote;
+  took = record {
+    mask = mask;
+    good = good;
+    count_is = counted ∙ ap (λ (m : ℕ). count_in m set.drives) is ∙ ap (count_in mask) (sym (wrote.lettered ∙ long));
+  };
 }
 
 -- a set is being made where some drive has no format and no term was read
