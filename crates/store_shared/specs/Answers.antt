@@ -34,7 +34,7 @@ NotesAre (Err why) log = (stubs : List Stub) × (notes_by stubs ≡ notes_of log
 
 -- a log of a call's steps leads from before it, where the call held nothing, to after it. Something of it is still held only where a section could not be
 -- done. The log has the bytes that were taken of the body and what was told, it pays what the call owes, and its notes are the receipt's
-pub record AnswersBy (set : SetPlan) (Leads : ℕ → Claim → Log → FeedSeen → FeedSeen → ℕ → ℕ → Type 0) (task : Task) (body : List ℕ) (tale : List Telling)
+pub record DeskAnswers (set : SetPlan) (Leads : ℕ → Claim → Log → FeedSeen → FeedSeen → ℕ → ℕ → Type 0) (task : Task) (body : List ℕ) (tale : List Telling)
     (result : Result Receipt Cut) : Type 0 where
   pub slot : ℕ
   pub in_store : slot < 64
@@ -54,7 +54,7 @@ pub record AnswersBy (set : SetPlan) (Leads : ℕ → Claim → Log → FeedSeen
 -- the steps lead from the pass before to the pass after
 abbrev pub PlainAnswers : {D A : Type 0} → Ghosts D → (A → Option (List Entry)) → (A → ℕ) → Task → PlainPass D A → PlainPass D A → List ℕ → List Telling
     → Result Receipt Cut → Type 0
-PlainAnswers ghosts entries count task before after body tale result = AnswersBy (set_of before)
+PlainAnswers ghosts entries count task before after body tale result = DeskAnswers (set_of before)
     (λ slot left log feed feed_after faults faults_after. Ran ghosts any_effect any_effect (set_of before) log
     (store_at ghosts entries count before feed (any_teller faults) (no_claim slot)) (store_at ghosts entries count after feed_after (any_teller faults_after) left))
     task body tale result
