@@ -76,6 +76,17 @@ some_has (false ∷ mask) x (lane ∷ lanes) have some =
     (suc rest.0, omega (arith, rest.1), rest.2)
 
 module _ {D : Type 0} (tells : D → Bool) (files : D → Files) (count : D → ℕ) where
+  -- what a loop wrote, in other words
+  pub wrote_as : {out passed passed_is : ℕ} {name name_is bytes bytes_is : List ℕ} {term from to : ℕ} {letters letters_are whys : List Why} {old new : List D}
+      → passed ≡ passed_is → name ≡ name_is → bytes ≡ bytes_is → letters ≡ letters_are
+      → WritesEach tells files count out passed name bytes term from to letters whys old new
+      → WritesEach tells files count out passed_is name_is bytes_is term from to letters_are whys old new
+  wrote_as {out} {passed} {passed_is} {name} {name_is} {bytes} {bytes_is} {term} {from} {to} {letters} {letters_are} {whys} {old} {new} p n b l wrote =
+      subst (λ (x : ℕ). WritesEach tells files count out x name_is bytes_is term from to letters_are whys old new) p
+      (subst (λ (x : List ℕ). WritesEach tells files count out passed x bytes_is term from to letters_are whys old new) n
+      (subst (λ (x : List ℕ). WritesEach tells files count out passed name x term from to letters_are whys old new) b
+      (subst (λ (x : List Why). WritesEach tells files count out passed name bytes term from to x whys old new) l wrote)))
+
   -- what proposing keeps, but for its result
   pub record Proposed (draft : Draft) (out : ℕ) (base : Base) (next : Next) (whys : List Why) (new : List D) (lanes : List Lane) : Type 0 where
     pub after : List Lane

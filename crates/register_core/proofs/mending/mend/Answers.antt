@@ -1,21 +1,13 @@
-use Rattle.std.proofs.Common.{List, string_bytes, replicate, subst, ℕ, arith}
-use Rattle.call_types.specs.declared.why.Why.{Why}
-use Rattle.call_types.specs.declared.why.Why.TheVariants.{Good}
-use Rattle.register_core.specs.Loops.{WritesEach}
-use Rattle.register_core.proofs.KeepLemmas.{mend_keeps, mends}
+use Rattle.std.proofs.Common.{refl, arith}
+use Rattle.register_core.proofs.KeepLemmas.{mend_keeps, mends, wrote_as}
 use Rattle.register_core.proofs.mending.mend.Goals as goal
 
 pub returns-clause-outcome : goal.returns-clause-outcome
 returns-clause-outcome g c =
     let D : Type 0 = g.row.D.Denot in
     let draft = c.args.draft.now in
-    let On : List ℕ → List ℕ → List Why → Type 0 = λ name bytes letters.
-    WritesEach {D = D} g.D.Drive.tells g.D.Drive.files g.D.Drive.count c.args.out draft.passed name bytes c.args.term c.args.count.now c.write_each-whys.new.count letters
-    c.write_each-whys.result c.args.lanes.now c.write_each-whys.new.lanes in
-    let wrote : On (string_bytes draft.name) draft.last.items (replicate draft.set.drives Good) =
-    subst (λ (letters : List Why). On (string_bytes draft.name) draft.last.items letters) c.all_good-all.ensures
-    (subst (λ (name : List ℕ). On name draft.last.items c.all_good-all.result) c.as_str.ensures.value
-    (subst (λ (bytes : List ℕ). On c.as_str.result.now bytes c.all_good-all.result) c.as_slice.ensures.value c.write_each-whys.ensures.wrote)) in
+    let wrote = wrote_as {D = D} g.D.Drive.tells g.D.Drive.files g.D.Drive.count refl c.as_str.ensures.value c.as_slice.ensures.value c.all_good-all.ensures
+    c.write_each-whys.ensures.wrote in
     mends {D = D} g.D.Drive.tells g.D.Drive.files g.D.Drive.count draft c.args.out c.args.term c.args.count.now c.write_each-whys.new.count
     (record { lanes = c.count_written.result; whys = c.write_each-whys.result }) c.args.lanes.now c.write_each-whys.new.lanes c.requires.drives wrote c.count_written.ensures
 
@@ -23,13 +15,8 @@ pub returns-clause-keeps : goal.returns-clause-keeps
 returns-clause-keeps g c base unknown recorded ends tell unused are =
     let D : Type 0 = g.row.D.Denot in
     let draft = c.args.draft.now in
-    let On : List ℕ → List ℕ → List Why → Type 0 = λ name bytes letters.
-    WritesEach {D = D} g.D.Drive.tells g.D.Drive.files g.D.Drive.count c.args.out draft.passed name bytes c.args.term c.args.count.now c.write_each-whys.new.count letters
-    c.write_each-whys.result c.args.lanes.now c.write_each-whys.new.lanes in
-    let wrote : On (string_bytes draft.name) draft.last.items (replicate draft.set.drives Good) =
-    subst (λ (letters : List Why). On (string_bytes draft.name) draft.last.items letters) c.all_good-all.ensures
-    (subst (λ (name : List ℕ). On name draft.last.items c.all_good-all.result) c.as_str.ensures.value
-    (subst (λ (bytes : List ℕ). On c.as_str.result.now bytes c.all_good-all.result) c.as_slice.ensures.value c.write_each-whys.ensures.wrote)) in
+    let wrote = wrote_as {D = D} g.D.Drive.tells g.D.Drive.files g.D.Drive.count refl c.as_str.ensures.value c.as_slice.ensures.value c.all_good-all.ensures
+    c.write_each-whys.ensures.wrote in
     mend_keeps {D = D} g.D.Drive.tells g.D.Drive.files g.D.Drive.count c.place_laws.ensures.left c.mend_law.ensures c.calm_laws.ensures.mend
     c.number_laws.ensures.mend draft c.args.out unknown c.args.term c.args.count.now c.write_each-whys.new.count base
     (record { lanes = c.count_written.result; whys = c.write_each-whys.result }) c.args.lanes.now c.write_each-whys.new.lanes recorded

@@ -1,10 +1,10 @@
-use Rattle.std.proofs.Common.{List, length, string_bytes, ◌≡◌, ◌≤◌, ap, subst, sym, ◌∙◌, ℕ, arith}
+use Rattle.std.proofs.Common.{length, ◌≡◌, ◌≤◌, ap, refl, subst, sym, ◌∙◌, ℕ, arith}
 use Rattle.std.specs.Int.{IsBitSet}
 use Rattle.call_types.proofs.GoodLemmas.{mask_at}
 use Rattle.drive_base.specs.DriveSet.{count_in}
 use Rattle.register_core.specs.Loops.{WritesEach}
 use Rattle.register_core.specs.Proposing.{quorum_of}
-use Rattle.register_core.proofs.KeepLemmas.{HasMarked, has_marked}
+use Rattle.register_core.proofs.KeepLemmas.{HasMarked, has_marked, wrote_as}
 use Rattle.register_core.proofs.ServingLemmas.{served}
 use Rattle.register_core.proofs.proposing.mark.Goals as goal
 
@@ -13,13 +13,8 @@ returns-then-good-write_quorum-clause-keeps g c next recorded ends tell unused a
     let D : Type 0 = g.row.D.Denot in
     let draft = c.args.draft.now in
     let took = c.args.prepared in
-    let On : ℕ → List ℕ → List ℕ → Type 0 = λ passed name bytes.
-    WritesEach {D = D} g.D.Drive.tells g.D.Drive.files g.D.Drive.count took.out passed name bytes c.args.term c.args.count.now c.write_each-whys.new.count took.whys
-    c.write_each-whys.result c.args.lanes.now c.write_each-whys.new.lanes in
-    let wrote : On 0 (string_bytes draft.name) draft.last.items =
-    subst (λ (passed : ℕ). On passed (string_bytes draft.name) draft.last.items) c.none.ensures
-    (subst (λ (name : List ℕ). On c.none.result name draft.last.items) c.as_str.ensures.value
-    (subst (λ (bytes : List ℕ). On c.none.result c.as_str.result.now bytes) c.as_slice.ensures.value c.write_each-whys.ensures.wrote)) in
+    let wrote = wrote_as {D = D} g.D.Drive.tells g.D.Drive.files g.D.Drive.count c.none.ensures c.as_str.ensures.value c.as_slice.ensures.value refl
+    c.write_each-whys.ensures.wrote in
     let some : 1 ≤ quorum_of draft =
     subst (λ (w : ℕ). 1 ≤ w) c.write_quorum.ensures.quorum (omega (arith, c.write_quorum.ensures.overlap)) in
     let kept : HasMarked {D = D} g.D.Drive.tells g.D.Drive.files g.D.Drive.count draft took next c.write_each-whys.result c.write_each-whys.new.lanes recorded =
@@ -35,13 +30,8 @@ returns-clause-keeps g c next recorded ends tell unused are =
     let D : Type 0 = g.row.D.Denot in
     let draft = c.args.draft.now in
     let took = c.args.prepared in
-    let On : ℕ → List ℕ → List ℕ → Type 0 = λ passed name bytes.
-    WritesEach {D = D} g.D.Drive.tells g.D.Drive.files g.D.Drive.count took.out passed name bytes c.args.term c.args.count.now c.write_each-whys.new.count took.whys
-    c.write_each-whys.result c.args.lanes.now c.write_each-whys.new.lanes in
-    let wrote : On 0 (string_bytes draft.name) draft.last.items =
-    subst (λ (passed : ℕ). On passed (string_bytes draft.name) draft.last.items) c.none.ensures
-    (subst (λ (name : List ℕ). On c.none.result name draft.last.items) c.as_str.ensures.value
-    (subst (λ (bytes : List ℕ). On c.none.result c.as_str.result.now bytes) c.as_slice.ensures.value c.write_each-whys.ensures.wrote)) in
+    let wrote = wrote_as {D = D} g.D.Drive.tells g.D.Drive.files g.D.Drive.count c.none.ensures c.as_str.ensures.value c.as_slice.ensures.value refl
+    c.write_each-whys.ensures.wrote in
     let some : 1 ≤ quorum_of draft =
     subst (λ (w : ℕ). 1 ≤ w) c.write_quorum.ensures.quorum (omega (arith, c.write_quorum.ensures.overlap)) in
     let kept : HasMarked {D = D} g.D.Drive.tells g.D.Drive.files g.D.Drive.count draft took next c.write_each-whys.result c.write_each-whys.new.lanes recorded =

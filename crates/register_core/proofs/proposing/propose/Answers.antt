@@ -1,8 +1,8 @@
-use Rattle.std.proofs.Common.{List, length, string_bytes, ◌≡◌, ◌≤◌, ap, refl, subst, sym, ◌∙◌, ℕ, arith}
+use Rattle.std.proofs.Common.{length, ◌≡◌, ◌≤◌, ap, refl, subst, sym, ◌∙◌, ℕ, arith}
 use Rattle.drive_base.specs.DriveSet.{count_in}
 use Rattle.register_core.specs.Loops.{WritesEach}
 use Rattle.register_core.specs.Proposing.{quorum_of}
-use Rattle.register_core.proofs.KeepLemmas.{Proposed, as_before, proposed, untouched}
+use Rattle.register_core.proofs.KeepLemmas.{Proposed, as_before, proposed, untouched, wrote_as}
 use Rattle.register_core.proofs.ServingLemmas.{served, served_before}
 use Rattle.register_core.proofs.proposing.propose.Goals as goal
 
@@ -21,13 +21,8 @@ pub returns-then-good-quorum-2-clause-keeps : goal.returns-then-good-quorum-2-cl
 returns-then-good-quorum-2-clause-keeps g c base next recorded is tell unused are =
     let D : Type 0 = g.row.D.Denot in
     let draft = c.args.draft.now in
-    let On : ℕ → List ℕ → List ℕ → Type 0 = λ passed name bytes.
-    WritesEach {D = D} g.D.Drive.tells g.D.Drive.files g.D.Drive.count c.args.out passed name bytes c.args.term c.args.count.now c.write_each-whys.new.count draft.letters
-    c.write_each-whys.result c.args.lanes.now c.write_each-whys.new.lanes in
-    let wrote : On 0 (string_bytes draft.name) draft.first.items =
-    subst (λ (passed : ℕ). On passed (string_bytes draft.name) draft.first.items) c.none.ensures
-    (subst (λ (name : List ℕ). On c.none.result name draft.first.items) c.as_str.ensures.value
-    (subst (λ (bytes : List ℕ). On c.none.result c.as_str.result.now bytes) c.as_slice.ensures.value c.write_each-whys.ensures.wrote)) in
+    let wrote = wrote_as {D = D} g.D.Drive.tells g.D.Drive.files g.D.Drive.count c.none.ensures c.as_str.ensures.value c.as_slice.ensures.value refl
+    c.write_each-whys.ensures.wrote in
     let kept : Proposed {D = D} g.D.Drive.tells g.D.Drive.files g.D.Drive.count draft c.args.out base next c.write_each-whys.result c.write_each-whys.new.lanes recorded =
     proposed {D = D} g.D.Drive.tells g.D.Drive.files g.D.Drive.count
     c.place_laws.ensures.targets c.place_laws.ensures.left c.place_laws.ensures.mask c.prepare_laws.ensures.own c.prepare_laws.ensures.forward
@@ -40,13 +35,8 @@ pub returns-clause-keeps : goal.returns-clause-keeps
 returns-clause-keeps g c base next recorded is tell unused are =
     let D : Type 0 = g.row.D.Denot in
     let draft = c.args.draft.now in
-    let On : ℕ → List ℕ → List ℕ → Type 0 = λ passed name bytes.
-    WritesEach {D = D} g.D.Drive.tells g.D.Drive.files g.D.Drive.count c.args.out passed name bytes c.args.term c.args.count.now c.write_each-whys.new.count draft.letters
-    c.write_each-whys.result c.args.lanes.now c.write_each-whys.new.lanes in
-    let wrote : On 0 (string_bytes draft.name) draft.first.items =
-    subst (λ (passed : ℕ). On passed (string_bytes draft.name) draft.first.items) c.none.ensures
-    (subst (λ (name : List ℕ). On c.none.result name draft.first.items) c.as_str.ensures.value
-    (subst (λ (bytes : List ℕ). On c.none.result c.as_str.result.now bytes) c.as_slice.ensures.value c.write_each-whys.ensures.wrote)) in
+    let wrote = wrote_as {D = D} g.D.Drive.tells g.D.Drive.files g.D.Drive.count c.none.ensures c.as_str.ensures.value c.as_slice.ensures.value refl
+    c.write_each-whys.ensures.wrote in
     let kept : Proposed {D = D} g.D.Drive.tells g.D.Drive.files g.D.Drive.count draft c.args.out base next c.write_each-whys.result c.write_each-whys.new.lanes recorded =
     proposed {D = D} g.D.Drive.tells g.D.Drive.files g.D.Drive.count
     c.place_laws.ensures.targets c.place_laws.ensures.left c.place_laws.ensures.mask c.prepare_laws.ensures.own c.prepare_laws.ensures.forward
