@@ -1,5 +1,5 @@
 -- What reading a file of a drive gives, and why it gives nothing.
-use Rattle.std.specs.Prelude.{◌≡◌, ℕ, ◌+◌, ◌<◌, ◌≤◌, min, max, Bool, IsTrue, List, length, take, drop, Some, None}
+use Rattle.std.specs.Prelude.{◌≡◌, ℕ, ◌+◌, ◌<◌, ◌≤◌, min, max, Bool, IsTrue, List, length, take, drop, Some, None, Result, Ok, Err}
 use Rattle.std.specs.Option.{option_map}
 use Rattle.seal_file.specs.declared.damage.Damage.{Damage}
 use Rattle.seal_file.specs.declared.damage.Damage.TheVariants.{Short, Digest, Kind, Spelling, Long}
@@ -70,3 +70,34 @@ IsWhyNot kind name IsSo (Lacks lacked) tells files old new = (lacked ≡ kind) �
 abbrev pub IsRefusedBy : FileKind → List ℕ → (List ℕ → Damage → Type 0) → FetchFault → Bool → Files → ℕ → ℕ → Type 0
 IsRefusedBy kind name IsSo (Because why) tells files old new = IsWhyNot kind name IsSo why tells files old new
 IsRefusedBy kind name IsSo NoMemory tells files old new = new ≡ old
+
+-- damage that no call for a length tells
+abbrev pub NoDamage : Damage → Type 0
+NoDamage damage = ⊥
+
+-- a file that ends too early
+abbrev pub IsShort : Damage → Type 0
+IsShort (Short _) = Unit {0}
+IsShort (Digest _ _) = ⊥
+IsShort (Kind _) = ⊥
+IsShort (Spelling _) = ⊥
+IsShort (Long _) = ⊥
+
+-- what a single call tells of its failure is the count before it and after it, and damage that it tells is of a kind
+abbrev pub FailedOnce : (Damage → Type 0) → Why → ℕ → ℕ → Type 0
+FailedOnce IsOf Good old new = Unit {0}
+FailedOnce IsOf (Failed before after) old new = (before ≡ old) × (after ≡ new)
+FailedOnce IsOf (Damaged damage) old new = IsOf damage
+FailedOnce IsOf (Behind _) old new = Unit {0}
+FailedOnce IsOf (Lacks _) old new = Unit {0}
+
+-- and so does a fetch by one call
+abbrev pub FetchFailedOnce : (Damage → Type 0) → FetchFault → ℕ → ℕ → Type 0
+FetchFailedOnce IsOf (Because why) old new = FailedOnce IsOf why old new
+FetchFailedOnce IsOf NoMemory old new = Unit {0}
+
+-- for want of memory no call was made
+abbrev pub IdleWithout : {T D : Type 0} → Result T FetchFault → D → D → Type 0
+IdleWithout (Ok _) old new = Unit {0}
+IdleWithout (Err (Because _)) old new = Unit {0}
+IdleWithout (Err NoMemory) old new = new ≡ old

@@ -1,7 +1,7 @@
 //! Reading a file of a drive, or a piece of one.
 
 ghost use Rattle.std.specs.Prelude.{◌≡◌, ◌≤◌, IsTrue, IfOk, IfErr, OnOk, length};
-ghost use Rattle.file_access.specs.Reading.{HasLength, IsPieceAt, IsCutShort, IsRefusedBy, IsTooLong, IsWhole, IsWhyNot, NeverDamaged, EndsBefore};
+ghost use Rattle.file_access.specs.Reading.{HasLength, IsPieceAt, IsCutShort, IsRefusedBy, IsShort, IsTooLong, IsWhole, IsWhyNot, NeverDamaged, NoDamage, EndsBefore, FailedOnce, FetchFailedOnce, IdleWithout};
 
 use crate::fault::FetchFault;
 use call_types::{FileKind, Why};
@@ -15,6 +15,7 @@ pub fn size_on<D: Drive>(drive: &mut D, kind: FileKind, name: &str) -> Result<u6
     ensures size { IfOk result (λ n. IsTrue (D.tells drive.old) → HasLength (D.files drive.old) name.now n) }
     ensures calm { OnOk result (D.count drive.new ≡ D.count drive.old) }
     ensures cause { IfErr result (λ why. IsWhyNot kind name.now NeverDamaged why (D.tells drive.old) (D.files drive.old) (D.count drive.old) (D.count drive.new)) }
+    ensures once { IfErr result (λ why. FailedOnce NoDamage why (D.count drive.old) (D.count drive.new)) }
     ensures files { IsTrue (D.tells drive.old) → D.files drive.new ≡ D.files drive.old }
     ensures tells { D.tells drive.new ≡ D.tells drive.old }
     ensures count { D.count drive.old ≤ D.count drive.new }
@@ -43,6 +44,7 @@ pub fn piece_into<D: Drive>(
     ensures piece { OnOk result (IsTrue (D.tells drive.old) → IsPieceAt (D.files drive.old) name.now at into.new) }
     ensures calm { OnOk result (D.count drive.new ≡ D.count drive.old) }
     ensures cause { IfErr result (λ why. IsWhyNot kind name.now (IsCutShort at (length into.old)) why (D.tells drive.old) (D.files drive.old) (D.count drive.old) (D.count drive.new)) }
+    ensures once { IfErr result (λ why. FailedOnce IsShort why (D.count drive.old) (D.count drive.new)) }
     ensures files { IsTrue (D.tells drive.old) → D.files drive.new ≡ D.files drive.old }
     ensures tells { D.tells drive.new ≡ D.tells drive.old }
     ensures count { D.count drive.old ≤ D.count drive.new }
@@ -78,6 +80,8 @@ pub fn piece_on<D: Drive>(
     ensures piece { IfOk result (λ bytes. IsTrue (D.tells drive.old) → IsPieceAt (D.files drive.old) name.now at bytes.items) }
     ensures calm { OnOk result (D.count drive.new ≡ D.count drive.old) }
     ensures cause { IfErr result (λ fault. IsRefusedBy kind name.now (IsCutShort at long) fault (D.tells drive.old) (D.files drive.old) (D.count drive.old) (D.count drive.new)) }
+    ensures once { IfErr result (λ fault. FetchFailedOnce IsShort fault (D.count drive.old) (D.count drive.new)) }
+    ensures idle { IdleWithout result drive.old drive.new }
     ensures files { IsTrue (D.tells drive.old) → D.files drive.new ≡ D.files drive.old }
     ensures tells { D.tells drive.new ≡ D.tells drive.old }
     ensures count { D.count drive.old ≤ D.count drive.new }
