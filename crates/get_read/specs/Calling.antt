@@ -26,11 +26,6 @@ abbrev pub SizeCall : FileKind → List ℕ → Result ℕ Why → DriveView →
 SizeCall kind name (Ok n) old new = WasSeen (Sized name n) old new
 SizeCall kind name (Err why) old new = (is_good why ≡ false) × WasSeenSo (TellsNoSize kind name why) old new
 
--- a call that fills a buffer with so many bytes of a file from a place on
-abbrev pub ReadCall : {T : Type 0} → FileKind → List ℕ → ℕ → ℕ → List ℕ → Result T Why → DriveView → DriveView → Type 0
-ReadCall kind name at long into (Ok _) old new = (length into ≡ long) × WasSeen (Showed name at into) old new
-ReadCall kind name at long into (Err why) old new = (is_good why ≡ false) × WasSeenSo (TellsNoPiece kind name at long why) old new
-
 -- a call for so many bytes of a file from a place on, or none for want of memory
 abbrev pub PieceCall : {Z : Type 0} → FileKind → List ℕ → ℕ → ℕ → Result (Vec ℕ Z) FetchFault → DriveView → DriveView → Type 0
 PieceCall kind name at long (Ok bytes) old new = (length bytes.items ≡ long) × WasSeen (Showed name at bytes.items) old new
@@ -50,12 +45,6 @@ BlockCall d part i table (Ok fetched) old new = (length fetched.block.items ≡ 
     × (fetched.stored ≡ digest_in table i) × WasSeen (Showed (shard_name part.id) (block_place d i) fetched.block.items) old new
 BlockCall d part i table (Err (Because why)) old new = (is_good why ≡ false) × WasSeenSo (TellsNoBytes d part i why) old new
 BlockCall d part i table (Err NoMemory) old new = Unit {0}
-
--- for want of memory no call was made
-abbrev pub IdleWithout : {T D : Type 0} → Result T FetchFault → D → D → Type 0
-IdleWithout (Ok _) old new = Unit {0}
-IdleWithout (Err (Because _)) old new = Unit {0}
-IdleWithout (Err NoMemory) old new = new ≡ old
 
 -- for want of memory no call was made, or one before
 abbrev pub IdleOrCalled : {T D : Type 0} → Ghosts D → Result T FetchFault → D → D → Type 0

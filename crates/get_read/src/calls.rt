@@ -6,14 +6,14 @@ ghost use Rattle.drive_base.specs.Plan.{data_drives};
 ghost use Rattle.drive_base.specs.View.{OnlyRead, view};
 ghost use Rattle.body_print.specs.Names.{shard_name};
 ghost use Rattle.shard_file.specs.Stripes.{stripe_count};
-ghost use Rattle.get_read.specs.Calling.{BlockCall, IdleWithout, PieceCall, ReadCall, SizeCall, TableCall};
+ghost use Rattle.file_access.specs.Reading.{IdleWithout};
+ghost use Rattle.get_read.specs.Calling.{BlockCall, PieceCall, SizeCall, TableCall};
 
 use crate::tables::{Fetched, byte_law, digest_of};
 use call_types::{FileKind, Why};
-use drive_base::{Drive, DriveFault, SetPlan};
-use file_access::FetchFault;
+use drive_base::{Drive, SetPlan};
+use file_access::{FetchFault, piece_on, size_on};
 use manifest_file::ManifestPart;
-use seal_file::Damage;
 use shard_file::{STRIPE, check_block, layout};
 use std::alloc::Global;
 
@@ -22,44 +22,7 @@ pub fn call_size<D: Drive>(drive: &mut D, kind: FileKind, name: &str) -> Result<
     ensures called { SizeCall kind name.now result (view D.Drive drive.old) (view D.Drive drive.new) }
     ensures read { OnlyRead (view D.Drive drive.old) (view D.Drive drive.new) }
 {
-    let before = drive.faults();
-    match drive.size(name) {
-        Ok(size) => Ok(size),
-        Err(DriveFault::Absent) => Err(Why::Lacks(kind)),
-        Err(_) => {
-            let after = drive.faults();
-            Err(Why::Failed { before, after })
-        }
-    }
-}
-
-/// Fills a buffer with the bytes of a file from the place `at` on.
-fn call_read<D: Drive>(
-    drive: &mut D,
-    kind: FileKind,
-    name: &str,
-    at: u64,
-    into: &mut [u8],
-) -> Result<(), Why>
-    ensures called { ReadCall kind name.now at (length into.old) into.new result (view D.Drive drive.old) (view D.Drive drive.new) }
-    ensures read { OnlyRead (view D.Drive drive.old) (view D.Drive drive.new) }
-{
-    let before = drive.faults();
-    match drive.read(name, at, into) {
-        Ok(count) => {
-            if count == into.len() {
-                byte_law(into);
-                return Ok(());
-            }
-            let end = at.saturating_add(count as u64);
-            Err(Why::Damaged(Damage::Short(end)))
-        }
-        Err(DriveFault::Absent) => Err(Why::Lacks(kind)),
-        Err(_) => {
-            let after = drive.faults();
-            Err(Why::Failed { before, after })
-        }
-    }
+    size_on(drive, kind, name)
 }
 
 /// So many bytes of a file from the place `at` on. Where there is no memory for them the drive isn't called.
@@ -75,13 +38,9 @@ pub fn call_piece<D: Drive>(
     ensures idle { IdleWithout result drive.old drive.new }
     ensures read { OnlyRead (view D.Drive drive.old) (view D.Drive drive.new) }
 {
-    let Ok(mut bytes) = vec![in alloc; 0; long as usize] else {
-        return Err(FetchFault::NoMemory);
-    };
-    match call_read(drive, kind, name, at, bytes.as_mut_slice()) {
-        Ok(()) => Ok(bytes),
-        Err(why) => Err(FetchFault::Because(why)),
-    }
+    let bytes = piece_on(alloc, drive, kind, name, at, long)?;
+    byte_law(bytes.as_slice());
+    Ok(bytes)
 }
 
 /// The digest table of the shard of a part on the drive of this index, if it has the root.

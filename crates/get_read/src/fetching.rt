@@ -6,7 +6,7 @@ ghost use Rattle.drive_base.specs.Plan.{data_drives};
 ghost use Rattle.drive_base.specs.View.{AllOnlyRead, OnlyRead, view, views};
 ghost use Rattle.shard_file.specs.Stripes.{block_size, stripe_count, stripe_length};
 ghost use Rattle.get_read.specs.Advancing.{FetchCall, FetchSteps, GivesSoLong};
-ghost use Rattle.get_read.specs.Calling.{IdleWithout};
+ghost use Rattle.file_access.specs.Reading.{IdleWithout};
 ghost use Rattle.get_read.specs.Held.{all_bytes};
 ghost use Rattle.get_read.specs.Judging.{JudgesStripe};
 ghost use Rattle.get_read.specs.Measure.{FallsOn, stripe_left};

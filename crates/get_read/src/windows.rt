@@ -5,7 +5,7 @@ ghost use Rattle.drive_base.specs.View.{AllOnlyRead, OnlyRead, view, views};
 ghost use Rattle.manifest_file.specs.declared.manifest.ManifestPart.{ManifestPart};
 ghost use Rattle.shard_file.specs.Stripes.{stripe_size};
 ghost use Rattle.get_read.specs.Advancing.{GivesSoLong, data_of, part_of};
-ghost use Rattle.get_read.specs.Calling.{IdleWithout};
+ghost use Rattle.file_access.specs.Reading.{IdleWithout};
 ghost use Rattle.get_read.specs.Held.{all_bytes};
 ghost use Rattle.get_read.specs.Measure.{FallsOn, run_left, stripe_left};
 ghost use Rattle.get_read.specs.Going.{StaysBesides, WindowSteps};
