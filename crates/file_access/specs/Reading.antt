@@ -78,18 +78,13 @@ NoDamage damage = ⊥
 -- a file that ends too early
 abbrev pub IsShort : Damage → Type 0
 IsShort (Short _) = Unit {0}
-IsShort (Digest _ _) = ⊥
-IsShort (Kind _) = ⊥
-IsShort (Spelling _) = ⊥
-IsShort (Long _) = ⊥
+IsShort other = ⊥
 
 -- what a single call tells of its failure is the count before it and after it, and damage that it tells is of a kind
 abbrev pub FailedOnce : (Damage → Type 0) → Why → ℕ → ℕ → Type 0
-FailedOnce IsOf Good old new = Unit {0}
 FailedOnce IsOf (Failed before after) old new = (before ≡ old) × (after ≡ new)
 FailedOnce IsOf (Damaged damage) old new = IsOf damage
-FailedOnce IsOf (Behind _) old new = Unit {0}
-FailedOnce IsOf (Lacks _) old new = Unit {0}
+FailedOnce IsOf other old new = Unit {0}
 
 -- and so does a fetch by one call
 abbrev pub FetchFailedOnce : (Damage → Type 0) → FetchFault → ℕ → ℕ → Type 0

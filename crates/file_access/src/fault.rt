@@ -21,3 +21,23 @@ impl From<Why> for FetchFault {
         FetchFault::Because(why)
     }
 }
+
+/// What a call of a drive gave, or why it gave nothing: the drive lacks a file of this kind, or the call failed, with the
+/// counts of faults before it and after it.
+macro_rules! told {
+    ($drive:ident, $kind:ident, $before:ident, $call:expr) => {
+        match $call {
+            Ok(given) => Ok(given),
+            Err(DriveFault::Absent) => Err(Why::Lacks($kind)),
+            Err(_) => {
+                let after = $drive.faults();
+                Err(Why::Failed {
+                    before: $before,
+                    after,
+                })
+            }
+        }
+    };
+}
+
+pub(crate) use told;

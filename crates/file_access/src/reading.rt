@@ -3,7 +3,7 @@
 ghost use Rattle.std.specs.Prelude.{◌≡◌, ◌≤◌, IsTrue, IfOk, IfErr, OnOk, length};
 ghost use Rattle.file_access.specs.Reading.{HasLength, IsPieceAt, IsCutShort, IsRefusedBy, IsShort, IsTooLong, IsWhole, IsWhyNot, NeverDamaged, NoDamage, EndsBefore, FailedOnce, FetchFailedOnce, IdleWithout};
 
-use crate::fault::FetchFault;
+use crate::fault::{FetchFault, told};
 use call_types::{FileKind, Why};
 use drive_base::{Drive, DriveFault};
 use seal_file::Damage;
@@ -21,14 +21,7 @@ pub fn size_on<D: Drive>(drive: &mut D, kind: FileKind, name: &str) -> Result<u6
     ensures count { D.count drive.old ≤ D.count drive.new }
 {
     let before = drive.faults();
-    match drive.size(name) {
-        Ok(size) => Ok(size),
-        Err(DriveFault::Absent) => Err(Why::Lacks(kind)),
-        Err(_) => {
-            let after = drive.faults();
-            Err(Why::Failed { before, after })
-        }
-    }
+    told!(drive, kind, before, drive.size(name))
 }
 
 /// Fills a buffer with the bytes of a file from the place `at` on, by one call, without asking how long the file is.

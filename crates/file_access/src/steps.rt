@@ -5,6 +5,7 @@ ghost use Rattle.drive_base.specs.declared.drive.TheConstants.{LONGEST_NAME};
 ghost use Rattle.drive_base.specs.Leaves.{Placed};
 ghost use Rattle.file_access.specs.Writing.{Appended, Discarded, HasLoose, HasShown, PlacedOrTouched, Removed, RemovedOrNot, StaysIfLacking, StepCause, Synced, Touches};
 
+use crate::fault::told;
 use call_types::{FileKind, Why};
 use drive_base::{Drive, DriveFault};
 
@@ -23,14 +24,7 @@ pub fn append_on<D: Drive>(
     ensures count { D.count drive.old ≤ D.count drive.new }
 {
     let before = drive.faults();
-    match drive.append(loose, bytes) {
-        Ok(()) => Ok(()),
-        Err(DriveFault::Absent) => Err(Why::Lacks(kind)),
-        Err(_) => {
-            let after = drive.faults();
-            Err(Why::Failed { before, after })
-        }
-    }
+    told!(drive, kind, before, drive.append(loose, bytes))
 }
 
 /// Makes a loose file last. `Failed`, with the counts before and after, where the call failed; `Lacks(kind)` where the
@@ -44,14 +38,7 @@ pub fn sync_on<D: Drive>(drive: &mut D, kind: FileKind, loose: &str) -> Result<(
     ensures count { D.count drive.old ≤ D.count drive.new }
 {
     let before = drive.faults();
-    match drive.sync(loose) {
-        Ok(()) => Ok(()),
-        Err(DriveFault::Absent) => Err(Why::Lacks(kind)),
-        Err(_) => {
-            let after = drive.faults();
-            Err(Why::Failed { before, after })
-        }
-    }
+    told!(drive, kind, before, drive.sync(loose))
 }
 
 /// Puts a loose file in place under a name of at most `LONGEST_NAME` bytes. `Failed`, with the counts before and after,
@@ -66,14 +53,7 @@ pub fn place<D: Drive>(drive: &mut D, kind: FileKind, loose: &str, name: &str) -
     ensures count { D.count drive.old ≤ D.count drive.new }
 {
     let before = drive.faults();
-    match drive.rename(loose, name) {
-        Ok(()) => Ok(()),
-        Err(DriveFault::Absent) => Err(Why::Lacks(kind)),
-        Err(_) => {
-            let after = drive.faults();
-            Err(Why::Failed { before, after })
-        }
-    }
+    told!(drive, kind, before, drive.rename(loose, name))
 }
 
 /// Takes a loose file away. `Failed`, with the counts before and after, where the call failed; `Lacks(kind)` where the
@@ -87,14 +67,7 @@ pub fn discard_on<D: Drive>(drive: &mut D, kind: FileKind, loose: &str) -> Resul
     ensures count { D.count drive.old ≤ D.count drive.new }
 {
     let before = drive.faults();
-    match drive.discard(loose) {
-        Ok(()) => Ok(()),
-        Err(DriveFault::Absent) => Err(Why::Lacks(kind)),
-        Err(_) => {
-            let after = drive.faults();
-            Err(Why::Failed { before, after })
-        }
-    }
+    told!(drive, kind, before, drive.discard(loose))
 }
 
 /// Takes the file of a name away. `Failed`, with the counts before and after, where the call failed, and the file is there
@@ -108,12 +81,5 @@ pub fn remove_on<D: Drive>(drive: &mut D, kind: FileKind, name: &str) -> Result<
     ensures count { D.count drive.old ≤ D.count drive.new }
 {
     let before = drive.faults();
-    match drive.remove(name) {
-        Ok(()) => Ok(()),
-        Err(DriveFault::Absent) => Err(Why::Lacks(kind)),
-        Err(_) => {
-            let after = drive.faults();
-            Err(Why::Failed { before, after })
-        }
-    }
+    told!(drive, kind, before, drive.remove(name))
 }
