@@ -4,11 +4,17 @@
 # a range behind the end, gets the old version by its id, and puts and gets 100 MB, as far as its commands go. The settings that a client needs while
 # listings, multipart uploads and chunked bodies aren't served stand beside its calls. AWS and PYTHON may name another `aws` and another `python3` that
 # has boto3. With a number the large body has as many bytes: tools/check_clients.sh [BYTES]
+# TMPDIR says on which disk the folders are. Without it they are in memory, where the system has a place for that, since a disk may take long for a large
+# file. A call that takes longer than five minutes has failed.
 # Its last line is 'N passed, M failed'; it ends with 1 where a case failed.
 set -uo pipefail
 
+if [[ -z "${TMPDIR:-}" && -d /dev/shm && -w /dev/shm ]]; then
+    export TMPDIR=/dev/shm
+fi
 source "$(dirname "$(readlink -f "${BASH_SOURCE[0]}")")/run_program.sh"
 
+longest=300
 aws="${AWS:-aws}"
 python="${PYTHON:-python3}"
 # The clients have the settings of this check alone.
@@ -45,10 +51,15 @@ sum() { md5sum <"$1" | cut -d' ' -f1; }
 has() {
     local name="$1"
     shift
-    "$@" >"$work/version" 2>&1 || {
+    timeout "$longest" "$@" >"$work/version" 2>&1 || {
         echo "check_clients: $name is not installed, and was left out" >&2
         return 1
     }
+}
+
+# curl, for so long at most
+curl() {
+    timeout "$longest" curl "$@"
 }
 
 # Runs a command that has to fail, and to say this: refuses WORDS COMMAND..
@@ -117,7 +128,7 @@ eight_by_curl() {
 # The AWS CLI: one part for each file, since multipart uploads aren't served, buckets in the path, and no checksums that a call doesn't need, since newer
 # ones send these behind a body in chunks where TLS stands before the server.
 by_aws() {
-    local api=("$aws" --endpoint-url "$at" s3api) s3=("$aws" --endpoint-url "$at" s3) object=(--bucket by-aws --key 'a key') old
+    local api=(timeout "$longest" "$aws" --endpoint-url "$at" s3api) s3=(timeout "$longest" "$aws" --endpoint-url "$at" s3) object=(--bucket by-aws --key 'a key') old
     holds 'aws: a bucket' does "${s3[@]}" mb s3://by-aws
     holds 'aws: versioning' does "${api[@]}" put-bucket-versioning --bucket by-aws --versioning-configuration Status=Enabled
     holds 'aws: it is set' test "$("${api[@]}" get-bucket-versioning --bucket by-aws --query Status --output text)" = Enabled
@@ -141,8 +152,8 @@ by_aws() {
 # versioning, and finds old versions by a listing alone.
 by_rclone() {
     local remote=":s3,provider=Other,endpoint='$at',access_key_id=any,secret_access_key=any:by-rclone"
-    local call=(rclone --config /dev/null --retries 1 --low-level-retries 1 --s3-upload-cutoff 5G --s3-no-check-bucket --no-traverse)
-    holds 'rclone: a bucket' does "${call[@]:0:3}" mkdir "$remote"
+    local call=(timeout "$longest" rclone --config /dev/null --retries 1 --low-level-retries 1 --s3-upload-cutoff 5G --s3-no-check-bucket --no-traverse)
+    holds 'rclone: a bucket' does "${call[@]:0:5}" mkdir "$remote"
     holds 'rclone: put' does "${call[@]}" copyto "$work/second" "$remote/a key"
     holds 'rclone: put from a pipe' does "${call[@]}" rcat "$remote/piped" <"$work/first"
     holds 'rclone: get' brings "$work/second" "${call[@]}" copyto "$remote/a key" "$work/got"
@@ -156,7 +167,7 @@ by_rclone() {
 
 # s3cmd: one part for each file. It sets no versioning, and asks for no range and no version.
 by_s3cmd() {
-    local call=(s3cmd --config "$work/s3cfg" --no-progress)
+    local call=(timeout "$longest" s3cmd --config "$work/s3cfg" --no-progress)
     printf '%s\n' '[default]' "host_base = $host" "host_bucket = $host" 'use_https = False' 'access_key = any' 'secret_key = any' \
         'enable_multipart = False' 'max_retries = 1' >"$work/s3cfg"
     holds 's3cmd: a bucket' does "${call[@]}" mb s3://by-s3cmd
@@ -173,7 +184,7 @@ by_s3cmd() {
 by_curl
 if has 'the AWS CLI' "$aws" --version; then by_aws; fi
 if has boto3 "$python" -c 'import boto3'; then
-    holds 'boto3' "$python" "$top/tools/check_boto3.py" "$at" "$work"
+    holds 'boto3' timeout "$longest" "$python" "$top/tools/check_boto3.py" "$at" "$work"
 fi
 if has rclone rclone version; then by_rclone; fi
 if has s3cmd s3cmd --version; then by_s3cmd; fi
