@@ -1,11 +1,10 @@
--- What a desk answers, and that of one caller.
+-- What the desk of one caller answers.
 use Rattle.std.specs.Prelude.{◌≡◌, ◌<◌, ℕ, List, Option, Some, None, Result, Ok, Err}
 use Rattle.audit_trail.specs.declared.entry.Entry.{Entry}
 use Rattle.call_types.specs.declared.feed.Cut.{Cut}
 use Rattle.desk_base.specs.Answering.{Task}
 use Rattle.desk_base.specs.Telling.{Telling}
 use Rattle.drive_base.specs.declared.drive.Drive.{Ghosts}
-use Rattle.drive_base.specs.declared.plan.SetPlan.{SetPlan}
 use Rattle.receipts.specs.Events.{Log, body_of, notes_of, tried_of}
 use Rattle.receipts.specs.Paying.{Pays}
 use Rattle.slot_core.specs.declared.stub.Stub.{Stub}
@@ -32,10 +31,10 @@ abbrev pub NotesAre : Result Receipt Cut → Log → Type 0
 NotesAre (Ok receipt) log = notes_by receipt.stubs.items ≡ notes_of log
 NotesAre (Err why) log = (stubs : List Stub) × (notes_by stubs ≡ notes_of log)
 
--- a log of a call's steps leads from before it, where the call held nothing, to after it. Something of it is still held only where a section could not be
--- done. The log has the bytes that were taken of the body and what was told, it pays what the call owes, and its notes are the receipt's
-pub record DeskAnswers (set : SetPlan) (Leads : ℕ → Claim → Log → FeedSeen → FeedSeen → ℕ → ℕ → Type 0) (task : Task) (body : List ℕ) (tale : List Telling)
-    (result : Result Receipt Cut) : Type 0 where
+-- a log of a call's steps leads from the pass before, of which the call held nothing, to the pass after. Something of it is still held only where a section
+-- could not be done. The log has the bytes that were taken of the body and what was told, it pays what the call owes, and its notes are the receipt's
+pub record PlainAnswers {D A : Type 0} (ghosts : Ghosts D) (entries : A → Option (List Entry)) (count : A → ℕ) (task : Task) (before after : PlainPass D A)
+    (body : List ℕ) (tale : List Telling) (result : Result Receipt Cut) : Type 0 where
   pub slot : ℕ
   pub in_store : slot < 64
   pub left : Claim
@@ -44,17 +43,10 @@ pub record DeskAnswers (set : SetPlan) (Leads : ℕ → Claim → Log → FeedSe
   pub feed_after : FeedSeen
   pub faults : ℕ
   pub faults_after : ℕ
-  pub ran : Leads slot left log feed feed_after faults faults_after
+  pub ran : Ran ghosts any_effect any_effect (set_of before) log (store_at ghosts entries count before feed (any_teller faults) (no_claim slot))
+      (store_at ghosts entries count after feed_after (any_teller faults_after) left)
   pub lets_go : LetsGo left log
   pub body_is : body_of log ≡ body
   pub tale_is : tried_of log ≡ tale
-  pub pays : Pays set task (cut_by result) log
+  pub pays : Pays (set_of before) task (cut_by result) log
   pub notes : NotesAre result log
-
--- the steps lead from the pass before to the pass after
-abbrev pub PlainAnswers : {D A : Type 0} → Ghosts D → (A → Option (List Entry)) → (A → ℕ) → Task → PlainPass D A → PlainPass D A → List ℕ → List Telling
-    → Result Receipt Cut → Type 0
-PlainAnswers ghosts entries count task before after body tale result = DeskAnswers (set_of before)
-    (λ slot left log feed feed_after faults faults_after. Ran ghosts any_effect any_effect (set_of before) log
-    (store_at ghosts entries count before feed (any_teller faults) (no_claim slot)) (store_at ghosts entries count after feed_after (any_teller faults_after) left))
-    task body tale result
