@@ -39,7 +39,10 @@ fn words_of(alloc: Global, words: &[&str]) -> Result<Vec<String>, AllocError> {
 }
 
 /// A rig over fresh memory drives for `serve`, with its ways.
-fn serving_rig(rt: HostRuntime, alloc: Global) -> Result<Rig<SharedDrive<HostRuntime, MemDrive>, MemAudit>, Fail>
+fn serving_rig(
+    rt: HostRuntime,
+    alloc: Global,
+) -> Result<Rig<SharedDrive<HostRuntime, MemDrive>, MemAudit>, Fail>
     ensures { IfOk result (λ rig. IsRigOf rig.set rig) }
 {
     let words = words_of(alloc, &["serve"])?;
