@@ -3,17 +3,9 @@
 mod overlap;
 mod serving;
 
-ghost use Rattle.std.specs.Prelude.{IfOk};
-ghost use Rattle.ostore.specs.Rigs.{IsRigOf};
-
 use crate::memory::memory_rig;
 use crate::program::run_alone;
-use crate::rig::Rig;
-use crate::ways::with_ways;
-use audit_trail::MemAudit;
 use command_line::plan_of;
-use drive_file::SharedDrive;
-use drive_memory::MemDrive;
 use io_base::{MemClock, MemSink, MemSource};
 use std::alloc::{AllocError, Global};
 use std::test::Fail;
@@ -36,20 +28,6 @@ fn words_of(alloc: Global, words: &[&str]) -> Result<Vec<String>, AllocError> {
         owned.push(String::from_str(alloc, word)?)?;
     }
     Ok(owned)
-}
-
-/// A rig over fresh memory drives for `serve`, with its ways.
-fn serving_rig(
-    rt: HostRuntime,
-    alloc: Global,
-) -> Result<Rig<SharedDrive<HostRuntime, MemDrive>, MemAudit>, Fail>
-    ensures { IfOk result (λ rig. IsRigOf rig.set rig) }
-{
-    let words = words_of(alloc, &["serve"])?;
-    let Ok(plan) = plan_of(alloc, words.as_slice()) else {
-        return Err(Fail::new("the words are no command line"));
-    };
-    Ok(with_ways(rt, alloc, memory_rig(alloc, plan.set)?)?)
 }
 
 /// How a run with these words over this input and fresh memory drives ended, and what it gave.

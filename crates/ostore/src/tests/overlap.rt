@@ -3,8 +3,11 @@
 ghost use Rattle.std.specs.Prelude.{◌≡◌, IfOk, length};
 
 use super::serving::{door_of, entries_at, given};
-use super::serving_rig;
+use super::words_of;
+use crate::memory::memory_rig;
 use crate::serving::serve;
+use crate::ways::with_ways;
+use command_line::plan_of;
 use desk_base::Gate;
 use io_base::{MemClock, MemDoor, Spawner};
 use std::alloc::Global;
@@ -66,7 +69,11 @@ fn two_doors(alloc: Global) -> Result<Vec<MemDoor>, Fail>
 #[test]
 fn calls_on_two_slots_overlap(rt: HostRuntime) -> Result<(), Fail> {
     let alloc = rt.alloc();
-    let rig = serving_rig(rt, alloc)?;
+    let words = words_of(alloc, &["serve"])?;
+    let Ok(plan) = plan_of(alloc, words.as_slice()) else {
+        return Err(Fail::new("the words are no command line"));
+    };
+    let rig = with_ways(rt, alloc, memory_rig(alloc, plan.set)?)?;
     let clock = MemClock::new(super::NOW);
     let doors = two_doors(alloc)?;
     let (seen, alone) = (AtomicU64::new(0), AtomicU64::new(0));

@@ -2,11 +2,14 @@
 
 ghost use Rattle.std.specs.Prelude.{◌≡◌, IfOk, length};
 
-use super::serving_rig;
+use super::words_of;
 use crate::gate::NoGate;
+use crate::memory::memory_rig;
 use crate::rig::Rig;
 use crate::serving::serve;
+use crate::ways::with_ways;
 use audit_trail::MemAudit;
+use command_line::plan_of;
 use io_base::{MemClock, MemDoor, MemSink, MemSource, Spawner, Turns};
 use std::alloc::Global;
 use std::test::Fail;
@@ -62,7 +65,11 @@ pub(super) fn entries_at<D>(rig: &Option<Rig<D, MemAudit>>, slot: usize) -> usiz
 #[test]
 fn two_connections_share_a_store(rt: HostRuntime) -> Result<(), Fail> {
     let alloc = rt.alloc();
-    let rig = serving_rig(rt, alloc)?;
+    let words = words_of(alloc, &["serve"])?;
+    let Ok(plan) = plan_of(alloc, words.as_slice()) else {
+        return Err(Fail::new("the words are no command line"));
+    };
+    let rig = with_ways(rt, alloc, memory_rig(alloc, plan.set)?)?;
     let clock = MemClock::new(super::NOW);
     let doors = two_doors(alloc, &[])?;
     let mut spawner = Spawner::InTurn(Turns::new(Vec::new(alloc)));
@@ -79,7 +86,11 @@ fn two_connections_share_a_store(rt: HostRuntime) -> Result<(), Fail> {
 #[test]
 fn a_door_that_fails_ends_with_4(rt: HostRuntime) -> Result<(), Fail> {
     let alloc = rt.alloc();
-    let rig = serving_rig(rt, alloc)?;
+    let words = words_of(alloc, &["serve"])?;
+    let Ok(plan) = plan_of(alloc, words.as_slice()) else {
+        return Err(Fail::new("the words are no command line"));
+    };
+    let rig = with_ways(rt, alloc, memory_rig(alloc, plan.set)?)?;
     let clock = MemClock::new(super::NOW);
     let doors = two_doors(alloc, &[0])?;
     let mut spawner = Spawner::InTurn(Turns::new(Vec::new(alloc)));
@@ -92,7 +103,11 @@ fn a_door_that_fails_ends_with_4(rt: HostRuntime) -> Result<(), Fail> {
 #[test]
 fn a_work_that_is_left_ends_with_5(rt: HostRuntime) -> Result<(), Fail> {
     let alloc = rt.alloc();
-    let rig = serving_rig(rt, alloc)?;
+    let words = words_of(alloc, &["serve"])?;
+    let Ok(plan) = plan_of(alloc, words.as_slice()) else {
+        return Err(Fail::new("the words are no command line"));
+    };
+    let rig = with_ways(rt, alloc, memory_rig(alloc, plan.set)?)?;
     let clock = MemClock::new(super::NOW);
     let doors = two_doors(alloc, &[])?;
     let mut spawner = Spawner::InTurn(Turns::new(vec![in alloc; 1]?));
