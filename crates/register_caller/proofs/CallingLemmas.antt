@@ -11,10 +11,9 @@ use Rattle.stamp_id.specs.declared.stamp.Ballot.{Ballot}
 use Rattle.vote_core.specs.Row.{is_good as is_good_row}
 use Rattle.vote_core.specs.Lane.{Lane, HasNext, blank_lane, lane_at, Next as LaneNext}
 use Rattle.vote_core.specs.Laws.{AboveLastIsFresh}
-use Rattle.vote_core.specs.Loops.{marked}
 use Rattle.vote_core.specs.Sound.{HoldsValue}
-use Rattle.register_caller.specs.Calling.{IsDrawnAfter, OwnMayFollow, StaysOrSteps}
-use Rattle.register_core.specs.Keeping.{IsMarked, MayPropose}
+use Rattle.register_caller.specs.Calling.{StaysOrSteps}
+use Rattle.register_core.specs.Keeping.{MayPropose}
 use Rattle.register_core.specs.Loose.{loose_name}
 use Rattle.register_core.specs.OnLanes.{AllTell, AreLanes, AreUnused}
 use Rattle.register_core.specs.Proposing.{Marks, Proposes}
@@ -130,27 +129,3 @@ found_steps w last c content lanes looked found ballot holds (base_lane, lane, f
         content_is = refl;
       })
     ]
-
--- a change of one's own may be proposed over the value
-pub own_may_follow : AboveLastIsFresh → OwnMayFollow
-own_may_follow above w last later c content lanes letters base next holds stands same drawn = record {
-  rises = (let a = drawn.change in let b = drawn.own in let d = drawn.ballot in omega arith);
-  holds = holds;
-  may = inl (record {
-    stands = stands;
-    value = same;
-    own = record {
-      parent = drawn.parent;
-      own = drawn.own;
-      ballot = (above last later next.ballot lanes holds.sound.drawn (let a = drawn.change in let b = drawn.own in omega arith) drawn.ballot).0;
-      change = (above last later next.change lanes holds.sound.drawn drawn.change (let b = drawn.own in let d = drawn.ballot in omega arith)).1;
-    };
-  });
-}
-
--- and over a change that was marked
-pub own_may_follow_mark : AboveLastIsFresh → (w last later c : ℕ) (lanes : List Lane) (letters : List Why) (first next : LaneNext)
-    → IsMarked w last c first lanes → IsDrawnAfter last later first.change next
-    → MayPropose w last later lanes first.change first.content letters (marked first).base next
-own_may_follow_mark above w last later c lanes letters first next is drawn =
-    own_may_follow above w last later first.change first.content lanes letters (marked first).base next is.holds is.stands refl drawn

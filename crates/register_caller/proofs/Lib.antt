@@ -1,7 +1,6 @@
 pub mod CallingLemmas
 pub mod LeavingLemmas
 pub mod LiveLemmas
-pub mod PuttingLemmas
 pub mod ServingLemmas
 pub mod SettlingLemmas
 pub mod StepLemmas

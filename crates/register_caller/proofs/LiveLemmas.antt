@@ -6,7 +6,7 @@ use Rattle.vote_core.specs.Laws.{FreshChangeStays, LiveIsOldOrOwn, MarkLeavesNon
 use Rattle.vote_core.specs.Loops.{IsFreshChange, IsPrepared, Leaves, marked, prepared}
 use Rattle.vote_core.specs.Sound.{HoldsValue}
 use Rattle.register_core.specs.Keeping.{MarkMoves}
-use Rattle.register_caller.specs.Calling.{IsLateStep, LiveIsLate, LiveIsLateOr, StaysOrSteps}
+use Rattle.register_caller.specs.Calling.{LiveIsLateOr}
 
 -- the next of a prepared record
 pub own_next : (a : Lane) (base : Base) (own next : Next) → a ≡ prepared base own → HasNext a next → next ≡ own
@@ -86,41 +86,3 @@ pub fresh_after_mark : FreshChangeStays → (other : ℕ) (lanes after : List La
     → IsFreshChange lanes other → own.change ≢ other → Leaves (marked own) lanes after → IsFreshChange after other
 fresh_after_mark law other lanes after own fresh own_else left =
     law other lanes after (marked own) fresh own_else (λ next has same. no_next (marked own) own next refl has) left
-
--- lanes that were left as they are
-pub left_live : (lanes : List Lane) (c : ℕ) → LiveIsLate lanes c lanes c
-left_live lanes c a next there has live = record { lane = a; there = there; next = next; on_its_way = has; live = live; change_is = refl; content_is = refl }
-
--- where what was written is the value's own change, or was on its way before, what may become the value could so before
-pub live_forwarded : (lanes after : List Lane) (c now : ℕ) (value : List ℕ) (change : ℕ) (content : List ℕ) → StaysOrSteps lanes c value change content
-    → (change ≡ c → now ≡ c) → LiveIsLateOr lanes c after now change content → LiveIsLate lanes c after now
-live_forwarded lanes after c now value change content steps same lives a next there has live = elim (lives a next there has live) [
-  | inl late ↦ late
-  | inr is ↦ elim steps [
-    | inl stays ↦ absurd (live.unmarked a there (live.base ∙ (same stays.0 ∙ sym (is.0 ∙ stays.0))))
-    | inr late ↦ record {
-      lane = late.lane;
-      there = late.there;
-      next = late.next;
-      on_its_way = late.on_its_way;
-      live = late.live;
-      change_is = is.0 ∙ late.change_is;
-      content_is = is.1 ∙ late.content_is;
-    }
-  ]
-]
-
--- a late step of lanes on which what may become the value could so before
-pub late_before : (lanes mid : List Lane) (c now change : ℕ) (content : List ℕ) → LiveIsLate lanes c mid now → IsLateStep mid now change content
-    → IsLateStep lanes c change content
-late_before lanes mid c now change content lives late =
-    let first = lives late.lane late.next late.there late.on_its_way late.live in
-    record {
-      lane = first.lane;
-      there = first.there;
-      next = first.next;
-      on_its_way = first.on_its_way;
-      live = first.live;
-      change_is = late.change_is ∙ first.change_is;
-      content_is = late.content_is ∙ first.content_is;
-    }

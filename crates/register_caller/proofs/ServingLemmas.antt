@@ -1,23 +1,14 @@
--- Lanes that serve a put: what makes sure of one call of it makes sure of the next.
+-- Lanes that serve both writes: what makes sure of one call makes sure of the next.
 use Rattle.std.proofs.Common.{◌≡◌, ◌<◌, ◌≤◌, ◌^◌, ℕ, List, length, refl, subst, sym, inl, inr, arith}
-use Rattle.std.specs.Prelude.{Bool, true, false, IsTrue, Option, slice_index_or}
+use Rattle.std.specs.Prelude.{Bool, IsTrue, slice_index_or}
 use Rattle.std.specs.Int.{IsBitSet}
 use Rattle.std.specs.Int.Bits.{and_zero_l}
 use Rattle.fault_base.specs.Counts.{Rose}
 use Rattle.call_types.specs.declared.why.Why.{Why}
 use Rattle.call_types.specs.declared.why.Why.TheVariants.{Good, Failed, Damaged, Behind, Lacks}
 use Rattle.drive_base.specs.Files.{Files}
-use Rattle.register_file.specs.Lengths.{longest_file}
-use Rattle.register_file.specs.declared.record.RegFile.{RegFile}
-use Rattle.register_core.specs.Found.{found_at}
-use Rattle.register_core.specs.Looking.{LanesAreRead}
 use Rattle.register_core.specs.Loops.{CountsRise, OnLane, TellsStay, Writes, WritesEach, letter_at}
-use Rattle.register_core.specs.Serving.{AllServe, Serves, ServingLaneIsRead}
-use Rattle.register_caller.specs.Settling.{AllShow}
-
--- a refusal is no `Ok`
-pub not_ok : false ≡ true → ⊥
-not_ok same = cc
+use Rattle.register_core.specs.Serving.{AllServe, Serves}
 
 -- a count that rose in the first part of a call rose over the whole
 rose_first : (old mid new : ℕ) → mid ≤ new → Rose old mid → Rose old new
@@ -81,20 +72,4 @@ module _ {D : Type 0} (tells : D → Bool) (files : D → Files) (count : D → 
       } in (
         (serve_after out serving letters old mid new long told first serve k d low bit).0,
         lane_is_good out name bytes term from to letters k (letter_at whys k) (slice_index_or old k d) (slice_index_or mid k d) (wrote.each k d here) one lane.1,
-      )
-
-  -- lanes that serve and show what they keep have good letters after a look
-  pub serve_read : ServingLaneIsRead → (longest out serving : ℕ) (name : List ℕ) (found : List (Option RegFile)) (whys letters : List Why) (old mid new : List D)
-      → length mid ≡ length old → LanesAreRead tells files count out (longest_file longest) name found whys old mid → TellsStay tells files count old mid
-      → CountsRise tells files count old mid → CountsRise tells files count mid new → AllShow files longest name serving old
-      → AllServe tells count out serving letters old new → AllServe tells count out serving whys mid new
-  serve_read law longest out serving name found whys letters old mid new long read told first second show serve k d low bit =
-      let here : k < length old = omega arith in
-      let lane = serve k d here bit in
-      let shows = show k d here bit in (
-        (serve_after out serving letters old mid new long told first serve k d low bit).0,
-        law longest out k name (found_at found k) (letter_at whys k) (tells (slice_index_or old k d)) (files (slice_index_or old k d))
-            (count (slice_index_or old k d)) (count (slice_index_or mid k d)) shows.lane (read.each k d here) lane.0.in_use lane.0.told
-            (λ rose. lane.0.calm (rose_first (count (slice_index_or old k d)) (count (slice_index_or mid k d)) (count (slice_index_or new k d)) (second k d low) rose))
-            shows.shown shows.keeps shows.within,
       )

@@ -1,14 +1,14 @@
 -- What a caller of the register concludes from its contracts.
-use Rattle.std.specs.Prelude.{◌≡◌, ◌≢◌, ◌⊎◌, ◌<◌, ◌≤◌, ℕ, Bool, List, Contains, Result, string_bytes}
+use Rattle.std.specs.Prelude.{◌≡◌, ◌≢◌, ◌⊎◌, ℕ, Bool, List, Contains, Result, string_bytes}
 use Rattle.std.specs.Int.{IsBitSet}
 use Rattle.call_types.specs.declared.why.Why.{Why}
 use Rattle.drive_base.specs.Files.{Files}
 use Rattle.register_file.specs.declared.record.Base.{Base}
 use Rattle.register_file.specs.declared.record.Next.{Next}
 use Rattle.vote_core.specs.Lane.{Lane, HasNext, lane_at, Base as LaneBase, Next as LaneNext}
-use Rattle.vote_core.specs.Loops.{IsFreshChange, Stands, marked}
+use Rattle.vote_core.specs.Loops.{IsFreshChange}
 use Rattle.vote_core.specs.Sound.{HoldsValue, IsLive}
-use Rattle.register_core.specs.Keeping.{IsMarked, MarkMoves, MayPropose}
+use Rattle.register_core.specs.Keeping.{MarkMoves, MayPropose}
 use Rattle.register_core.specs.OnLanes.{AllTell, AreLanes, AreUnused}
 use Rattle.register_core.specs.Proposing.{quorum_of}
 use Rattle.register_core.specs.Records.{base_of, next_of}
@@ -25,11 +25,6 @@ pub record IsLateStep (lanes : List Lane) (c now : ℕ) (shows : List ℕ) : Typ
   pub change_is : now ≡ next.change
   pub content_is : shows ≡ next.content
 
--- what may become the value after writes could so before
-abbrev pub LiveIsLate : List Lane → ℕ → List Lane → ℕ → Type 0
-LiveIsLate lanes c after now = (a : Lane) (next : LaneNext) → Contains after a → HasNext a next → IsLive after now a next
-    → IsLateStep lanes c next.change next.content
-
 -- it could so before, or it is the change that was written
 abbrev pub LiveIsLateOr : List Lane → ℕ → List Lane → ℕ → ℕ → List ℕ → Type 0
 LiveIsLateOr lanes c after now change content = (a : Lane) (next : LaneNext) → Contains after a → HasNext a next → IsLive after now a next
@@ -44,25 +39,6 @@ pub record BothLeave {T E : Type 0} (w : ℕ) (letters : List Why) (base : LaneB
   pub leaving : (last later c : ℕ) (content : List ℕ) → MayPropose w last later lanes c content letters base next
       → LeavesByResult w later result (written_of next) lanes c content after
   pub fresh : (other : ℕ) → IsFreshChange lanes other → base.change ≢ other → next.change ≢ other → IsFreshChange after other
-
--- the numbers of a change of one's own over the value's change c were drawn after the last one, the change before its ballot
-pub record IsDrawnAfter (last later c : ℕ) (next : LaneNext) : Type 0 where
-  pub parent : next.parent ≡ c
-  pub change : last < next.change
-  pub own : next.change ≤ next.ballot
-  pub ballot : next.ballot ≤ later
-
--- over a base that carries the value's change such a change may be proposed, on any lanes
-abbrev pub OwnMayFollow : Type 0
-OwnMayFollow = (w last later c : ℕ) (content : List ℕ) (lanes : List Lane) (letters : List Why) (base : LaneBase) (next : LaneNext)
-    → HoldsValue w last lanes c content → Stands lanes base → base.change ≡ c → IsDrawnAfter last later c next
-    → MayPropose w last later lanes c content letters base next
-
--- so it may be over a change that was marked just before
-abbrev pub OwnMayFollowMark : Type 0
-OwnMayFollowMark = (w last later c : ℕ) (lanes : List Lane) (letters : List Why) (first next : LaneNext)
-    → IsMarked w last c first lanes → IsDrawnAfter last later first.change next
-    → MayPropose w last later lanes first.change first.content letters (marked first).base next
 
 -- the value is as it was, or a late step was made
 abbrev pub StaysOrSteps : List Lane → ℕ → List ℕ → ℕ → List ℕ → Type 0
