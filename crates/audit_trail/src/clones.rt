@@ -12,8 +12,13 @@ impl Clone for Deed {
         match self {
             Deed::Done { call, reply } => {
                 let call = call.clone()?;
-                let reply = reply.clone()?;
-                Ok(Deed::Done { call, reply })
+                match reply.clone() {
+                    Ok(reply) => Ok(Deed::Done { call, reply }),
+                    Err(why) => {
+                        drop(call);
+                        Err(why)
+                    }
+                }
             }
             Deed::Refused { change, call } => Ok(Deed::Refused {
                 change: *change,

@@ -5,7 +5,7 @@ use seal_file::Text;
 use stamp_id::ChangeId;
 
 /// What one section of a slot did.
-#[derive(Debug, PartialEq, Eq, Drop)]
+#[derive(Drop)]
 pub struct Entry {
     /// The section's number in the slot's life, from 0.
     pub ticket: u64,
@@ -18,7 +18,7 @@ pub struct Entry {
 }
 
 /// What a section did to its register.
-#[derive(Debug, PartialEq, Eq, Drop)]
+#[derive(Drop)]
 pub enum Deed {
     /// It did the call, or the state of the key or bucket refused it.
     Done {

@@ -26,6 +26,3 @@ pub use laws::line_laws;
 pub use lines::LineAudit;
 pub use memory::MemAudit;
 pub use silent::NullAudit;
-
-#[cfg(test)]
-mod tests;

@@ -97,6 +97,7 @@ impl<K: Sink> Audit for LineAudit<K> {
         ensures count { self.new.faults ≡ self.old.faults }
     {
         self.write_down(&entry);
+        drop(entry);
     }
 
     fn faults(&self) -> u64 {

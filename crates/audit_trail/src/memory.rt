@@ -7,7 +7,7 @@ use std::alloc::Global;
 use std::marker::Model;
 
 /// An audit that keeps its entries in memory, and tells them. It fails for want of memory alone, and counts no fault.
-#[derive(Debug, Drop)]
+#[derive(Drop)]
 pub struct MemAudit {
     entries: Vec<Entry>,
 }

@@ -2,9 +2,9 @@
 use Rattle.std.proofs.Common.{◌≡◌, ◌<◌, ℕ, Bool, List, [], IfOk, Ok, Err, Result, take, inl, inr, refl, subst, sym, ap, ◌∙◌, arith}
 use Rattle.drive_base.specs.declared.plan.SetPlan.{SetPlan}
 use Rattle.fault_base.specs.declared.memory.NoMemory.{NoMemory}
-use Rattle.slot_core.specs.declared.commit.Commit.TheVariants.{MakeBucket}
 use Rattle.receipts.specs.Registers.{bucket_slot}
 use Rattle.receipts.proofs.RegisterLemmas.{bucket_slot_below}
+use Rattle.slot_rules.specs.declared.commit.Commit.TheVariants.{MakeBucket}
 use Rattle.op_steps.specs.Claims.{no_claim}
 use Rattle.bucket_ops.specs.Begins.{BeginsSetting, IsNewMake, IsNewSet}
 use Rattle.bucket_ops.specs.Changes.{AfterDocument, ChangeStands, HasChanged, HasTaken}

@@ -18,13 +18,14 @@ use Rattle.register_core.specs.declared.faults.QuorumFault.{QuorumFault}
 use Rattle.register_core.specs.declared.faults.QuorumFault.TheVariants.{NoMemory as NoMemoryQuorum, ReadQuorum, Undecided, WriteQuorum}
 use Rattle.stamp_id.specs.declared.stamp.ChangeId.{ChangeId}
 use Rattle.stamp_id.specs.declared.version.VersionId.{VersionId}
+use Rattle.slot_rules.specs.Deeds.{call_of, name_of}
+use Rattle.slot_rules.specs.Planning.{IsBucketDeed}
+use Rattle.slot_rules.specs.declared.commit.Commit.{Commit}
+use Rattle.slot_rules.specs.declared.commit.Committed.{Committed}
 use Rattle.slot_core.specs.CommitCauses.{CommitCause, FoundSo, WroteSo, deed_in, own_deed}
-use Rattle.slot_core.specs.Committing.{SaysCommit, call_of, name_of}
-use Rattle.slot_core.specs.Planning.{IsBucketDeed}
+use Rattle.slot_core.specs.Committing.{SaysCommit}
 use Rattle.slot_core.specs.Stubs.{IsStub, Says, StubOfEntry, Writes, WritesNone, entry_of}
 use Rattle.slot_core.specs.Views.{SlotNumbers}
-use Rattle.slot_core.specs.declared.commit.Commit.{Commit}
-use Rattle.slot_core.specs.declared.commit.Committed.{Committed}
 use Rattle.slot_core.specs.declared.fault.SlotFault.{SlotFault}
 use Rattle.slot_core.specs.declared.fault.SlotFault.TheVariants.{AuditFailed, Key, NoMemory, NotInFlight, Quorum, SeqSpent}
 use Rattle.slot_core.specs.declared.stub.Stub.{Stub}

@@ -10,10 +10,10 @@ use Rattle.s3_docs.specs.Grammar.{AreSettings, IsAsked, Setting, modes}
 use Rattle.s3_docs.specs.Grammar.Setting.{Else, Status}
 use Rattle.s3_docs.specs.Machine.Value.{Versioning}
 use Rattle.s3_docs.specs.declared.prologue.Root.TheVariants.{VersioningConfiguration}
-use Rattle.slot_core.specs.Committing.{IsLawfulDeed, IsNamedDeed, name_of}
-use Rattle.slot_core.specs.declared.commit.Commit.{Commit}
-use Rattle.slot_core.specs.declared.commit.Commit.TheVariants.{Key, MakeBucket, SetMode}
 use Rattle.bucket_ops.specs.Deeds.{AreLow, bucket_in, is_asked, is_on_bucket}
+use Rattle.slot_rules.specs.Deeds.{IsLawfulDeed, IsNamedDeed, name_of}
+use Rattle.slot_rules.specs.declared.commit.Commit.TheVariants.{Key, MakeBucket, SetMode}
+use Rattle.slot_rules.specs.declared.commit.Commit.{Commit}
 
 -- the first of some modes
 abbrev first_of : Mode → List Mode → Mode

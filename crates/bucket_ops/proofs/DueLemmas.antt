@@ -15,12 +15,12 @@ use Rattle.slot_history.specs.Contents.{SpellsBucket}
 use Rattle.slot_history.specs.Doing.{DoesBucket}
 use Rattle.register_core.specs.declared.faults.QuorumFault.{QuorumFault}
 use Rattle.slot_history.specs.State.{Registers}
+use Rattle.slot_rules.specs.Deeds.{call_of, name_of}
+use Rattle.slot_rules.specs.Planning.{DoesOver, IsBucketDeed}
+use Rattle.slot_rules.specs.declared.commit.Commit.TheVariants.{Key, MakeBucket, SetMode}
+use Rattle.slot_rules.specs.declared.commit.Commit.{Commit}
 use Rattle.slot_core.specs.CommitCauses.{FoundSo, WroteSo}
-use Rattle.slot_core.specs.Committing.{call_of, name_of}
-use Rattle.slot_core.specs.Planning.{DoesOver, IsBucketDeed}
 use Rattle.slot_core.specs.Views.{SlotNumbers}
-use Rattle.slot_core.specs.declared.commit.Commit.{Commit}
-use Rattle.slot_core.specs.declared.commit.Commit.TheVariants.{Key, MakeBucket, SetMode}
 use Rattle.receipts.specs.Dues.{IsDueBucket}
 
 -- one content under every name

@@ -1,13 +1,13 @@
 -- Ops that have done nothing yet.
 use Rattle.std.specs.Prelude.{◌≡◌, ◌⊎◌, ℕ, true, false, Bool, List, [], vec_len}
 use Rattle.drive_base.specs.declared.plan.SetPlan.{SetPlan}
-use Rattle.slot_core.specs.declared.commit.Commit.TheVariants.{MakeBucket}
 use Rattle.bucket_ops.specs.Changes.{AfterDocument}
 use Rattle.bucket_ops.specs.declared.change_op.ChangeOp.{ChangeOp}
 use Rattle.bucket_ops.specs.declared.change_state.BucketDeed.{BucketDeed}
 use Rattle.bucket_ops.specs.declared.change_state.ChangeState.TheVariants.{Committing, Reading}
 use Rattle.bucket_ops.specs.declared.look_op.LookOp.{LookOp}
 use Rattle.bucket_ops.specs.declared.state.State.TheVariants.{Looking}
+use Rattle.slot_rules.specs.declared.commit.Commit.TheVariants.{MakeBucket}
 
 -- an op of a look at this bucket, made in this second
 pub record IsNew (set : SetPlan) (bucket : List ℕ) (asks : Bool) (now : ℕ) (op : LookOp) : Type 0 where

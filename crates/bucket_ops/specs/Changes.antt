@@ -14,9 +14,9 @@ use Rattle.drive_base.specs.declared.plan.SetPlan.{SetPlan}
 use Rattle.s3_docs.specs.Documents.{IsDocument, IsPlace}
 use Rattle.s3_docs.specs.Machine.Value.{Versioning}
 use Rattle.s3_docs.specs.declared.prologue.Root.TheVariants.{VersioningConfiguration}
-use Rattle.slot_core.specs.declared.commit.Commit.{Commit}
-use Rattle.slot_core.specs.declared.commit.Commit.TheVariants.{MakeBucket, SetMode}
-use Rattle.slot_core.specs.declared.commit.Committed.{Committed}
+use Rattle.slot_rules.specs.declared.commit.Commit.TheVariants.{MakeBucket, SetMode}
+use Rattle.slot_rules.specs.declared.commit.Commit.{Commit}
+use Rattle.slot_rules.specs.declared.commit.Committed.{Committed}
 use Rattle.slot_core.specs.declared.fault.SlotFault.{SlotFault}
 use Rattle.receipts.specs.declared.barred.Barred.{Barred}
 use Rattle.receipts.specs.declared.barred.Barred.TheVariants as barred

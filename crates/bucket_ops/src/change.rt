@@ -18,6 +18,7 @@ use receipts::Barred;
 use slot_core::{Slot, Stub};
 use slot_history::bucket_slot;
 use std::alloc::Global;
+use std::mem;
 
 impl Op for ChangeOp {
     ghost set = { λ op. op.set };
@@ -72,9 +73,10 @@ impl Op for ChangeOp {
         };
         let cut = self.document.take(feed);
         if cut.is_some() {
-            self.state = ChangeState::Over(cut);
+            drop(mem::replace(&mut self.state, ChangeState::Over(cut)));
         } else if self.document.is_whole() {
-            self.state = after_document(alloc, &self.bucket, self.document.as_slice());
+            let state = after_document(alloc, &self.bucket, self.document.as_slice());
+            drop(mem::replace(&mut self.state, state));
         }
     }
 

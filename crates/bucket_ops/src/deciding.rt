@@ -2,8 +2,8 @@
 
 ghost use Rattle.std.specs.Prelude.{◌≡◌, ◌≤◌, true, IfOk, length};
 ghost use Rattle.bucket_ops.specs.Changes.{AfterCommit, AfterDocument, barred_state};
-ghost use Rattle.slot_core.specs.declared.commit.Commit.TheVariants.{MakeBucket, SetMode};
 ghost use Rattle.bucket_ops.specs.Deeds.{AreLow, is_asked};
+ghost use Rattle.slot_rules.specs.declared.commit.Commit.TheVariants.{MakeBucket, SetMode};
 
 use crate::change_state::{BucketDeed, ChangeState};
 use call_types::{Cut, Mode, Refusal, Reply};

@@ -31,8 +31,3 @@ mod telling;
 pub use change_op::ChangeOp;
 pub use list_op::ListOp;
 pub use look_op::LookOp;
-
-#[cfg(test)]
-mod list_tests;
-#[cfg(test)]
-mod tests;

@@ -16,7 +16,7 @@ use desk_base::Teller;
 use drive_base::Drive;
 use op_steps::{Op, OpNext, look_law, names_law};
 use receipts::Barred;
-use slot_core::{Slot, Stub};
+use slot_core::{Slot, Stub, Turn};
 use std::alloc::Global;
 use std::mem;
 
@@ -57,13 +57,18 @@ impl Op for ListOp {
         match mem::replace(&mut self.state, ListState::Over(None)) {
             ListState::Paging(work) => {
                 let turn = slot.list_names(alloc, work.from.as_str(), PAGE_NAMES);
-                self.state = after_names(alloc, work, turn.answer);
+                let state = after_names(alloc, work, turn.answer);
+                drop(mem::replace(&mut self.state, state));
                 turn.stub
             }
             ListState::Looking(work, wanted) => {
                 let turn = slot.peek(alloc, disks, wanted.name.as_str());
-                self.state = after_look(alloc, work, &wanted, &turn.answer);
-                turn.stub
+                let state = after_look(alloc, work, &wanted, &turn.answer);
+                drop(mem::replace(&mut self.state, state));
+                drop(wanted);
+                let Turn { answer, stub } = turn;
+                drop(answer);
+                stub
             }
             _ => unreachable!(),
         }

@@ -16,11 +16,11 @@ use Rattle.desk_base.specs.Telling.{Effect}
 use Rattle.desk_base.specs.Telling.Telling.{Head as TheHead}
 use Rattle.desk_base.specs.declared.call.Call.TheVariants.{Delete}
 use Rattle.drive_base.specs.declared.plan.SetPlan.{SetPlan}
+use Rattle.slot_rules.specs.declared.commit.Committed.{Committed}
 use Rattle.slot_core.specs.CommitCauses.{deed_in}
 use Rattle.slot_core.specs.Committing.{SaysCommit}
 use Rattle.slot_core.specs.Stubs.{Says, StubOfEntry, entry_of}
 use Rattle.slot_core.specs.Views.{SlotNumbers}
-use Rattle.slot_core.specs.declared.commit.Committed.{Committed}
 use Rattle.slot_core.specs.declared.fault.SlotFault.{SlotFault}
 use Rattle.slot_core.specs.declared.fault.SlotFault.TheVariants.{Key as KeyFault}
 use Rattle.slot_core.specs.declared.stub.Stub.{Stub}

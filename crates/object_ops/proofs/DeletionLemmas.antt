@@ -1,10 +1,10 @@
 -- A deed that deletes is lawful, and its register has a lawful name.
 use Rattle.std.proofs.Common.{◌≡◌, true, IsUtf8}
 use Rattle.call_types.specs.declared.act.Act.TheVariants as act
-use Rattle.slot_core.specs.Committing.{IsLawfulDeed, IsNamedDeed}
-use Rattle.slot_core.specs.declared.commit.Commit.{Commit}
-use Rattle.slot_core.specs.declared.commit.Commit.TheVariants.{Key, MakeBucket, SetMode}
 use Rattle.object_ops.specs.Deletions.{bucket_in, is_deletion, key_in}
+use Rattle.slot_rules.specs.Deeds.{IsLawfulDeed, IsNamedDeed}
+use Rattle.slot_rules.specs.declared.commit.Commit.TheVariants.{Key, MakeBucket, SetMode}
+use Rattle.slot_rules.specs.declared.commit.Commit.{Commit}
 
 pub deletion_lawful : (deed : Commit) → is_deletion deed ≡ true → IsLawfulDeed deed
 deletion_lawful (Key at mode (act.Put data_id print size md5 kind)) is = absurd cc

@@ -20,10 +20,10 @@ use Rattle.version_list.proofs.LawProofs.{injective}
 use Rattle.slot_history.specs.Contents.{SpellsKey}
 use Rattle.slot_history.specs.Doing.{DoesChange}
 use Rattle.slot_history.specs.State.{Registers}
+use Rattle.slot_rules.specs.declared.commit.Commit.TheVariants.{Key as KeyCommit}
+use Rattle.slot_rules.specs.declared.commit.Committed.{Committed}
 use Rattle.slot_core.specs.CommitCauses.{CommitCause, FoundSo, WroteSo}
 use Rattle.slot_core.specs.Views.{SlotNumbers}
-use Rattle.slot_core.specs.declared.commit.Commit.TheVariants.{Key as KeyCommit}
-use Rattle.slot_core.specs.declared.commit.Committed.{Committed}
 use Rattle.slot_core.specs.declared.fault.SlotFault.TheVariants.{Key as KeyFault}
 use Rattle.receipts.specs.Dues.{IsDueChange}
 

@@ -14,13 +14,14 @@ use Rattle.call_types.specs.declared.reply.Reply.{Reply}
 use Rattle.call_types.specs.declared.reply.Reply.TheVariants.{Refused}
 use Rattle.register_core.specs.declared.faults.QuorumFault.{QuorumFault}
 use Rattle.register_core.specs.declared.faults.QuorumFault.TheVariants.{NoMemory as NoMemoryQuorum, ReadQuorum, Undecided, WriteQuorum}
+use Rattle.slot_rules.specs.Deeds.{name_of}
+use Rattle.slot_rules.specs.declared.commit.Commit.TheVariants.{Key as KeyCommit}
+use Rattle.slot_rules.specs.declared.commit.Commit.{Commit}
+use Rattle.slot_rules.specs.declared.commit.Committed.{Committed}
 use Rattle.slot_core.specs.CommitCauses.{deed_in}
-use Rattle.slot_core.specs.Committing.{QuorumDeed, SaysCommit, name_of}
+use Rattle.slot_core.specs.Committing.{QuorumDeed, SaysCommit}
 use Rattle.slot_core.specs.Stubs.{Says, StubOfEntry, Writes, WritesNone, entry_of}
 use Rattle.slot_core.specs.Views.{SlotNumbers}
-use Rattle.slot_core.specs.declared.commit.Commit.{Commit}
-use Rattle.slot_core.specs.declared.commit.Commit.TheVariants.{Key as KeyCommit}
-use Rattle.slot_core.specs.declared.commit.Committed.{Committed}
 use Rattle.slot_core.specs.declared.fault.SlotFault.{SlotFault}
 use Rattle.slot_core.specs.declared.fault.SlotFault.TheVariants.{AuditFailed, Key as KeyFault, NoMemory, NotInFlight, Quorum, SeqSpent}
 use Rattle.slot_core.specs.declared.stub.Stub.{Stub}

@@ -9,12 +9,13 @@ use Rattle.drive_base.specs.declared.drive.Drive.{Ghosts}
 use Rattle.put_stage.specs.Stepping.{MayFinish}
 use Rattle.put_stage.specs.declared.stage.StageNext.TheVariants.{Finish}
 use Rattle.stamp_id.specs.declared.version.VersionId.{VersionId}
+use Rattle.slot_rules.specs.Deeds.{IsLawfulDeed, IsNamedDeed, name_of}
+use Rattle.slot_rules.specs.declared.commit.Commit.{Commit}
+use Rattle.slot_rules.specs.declared.commit.Committed.{Committed}
 use Rattle.slot_core.specs.CommitCauses.{CommitCause, deed_in}
-use Rattle.slot_core.specs.Committing.{ChecksFlight, CommitHolds, FitsFlight, IsLawfulDeed, IsNamedDeed, MayCommitData, SaysCommit, ShowsTrash, name_of}
+use Rattle.slot_core.specs.Committing.{ChecksFlight, CommitHolds, FitsFlight, MayCommitData, SaysCommit, ShowsTrash}
 use Rattle.slot_core.specs.Stubs.{Says, entry_of}
 use Rattle.slot_core.specs.Turning.{Leaves, Turns}
-use Rattle.slot_core.specs.declared.commit.Commit.{Commit}
-use Rattle.slot_core.specs.declared.commit.Committed.{Committed}
 use Rattle.slot_core.specs.declared.fault.SlotFault.{SlotFault}
 use Rattle.slot_core.specs.declared.handles.Flight.{Flight}
 use Rattle.slot_core.specs.declared.stub.Stub.{Stub}

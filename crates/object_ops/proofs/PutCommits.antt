@@ -20,13 +20,13 @@ use Rattle.slot_data.specs.Holding.{Hands, Holding, IsInFlight, IsPinned, Known,
 use Rattle.slot_data.specs.Moves.{with_known}
 use Rattle.slot_data.specs.Standing.{DataStands, IsListed}
 use Rattle.slot_data.proofs.HandsLemmas.{holders_are_known}
+use Rattle.slot_rules.specs.declared.commit.Commit.{Commit}
+use Rattle.slot_rules.specs.declared.commit.Committed.{Committed}
 use Rattle.slot_core.specs.CommitCauses.{CommitCause, deed_in}
 use Rattle.slot_core.specs.Committing.{ChecksFlight, CommitHolds, MayCommitData, SaysCommit, ShowsTrash}
 use Rattle.slot_core.specs.Stubs.{Says, entry_of}
 use Rattle.slot_core.specs.Turning.{EntryMoves, Leaves, Turns}
 use Rattle.slot_core.specs.Views.{last_of}
-use Rattle.slot_core.specs.declared.commit.Commit.{Commit}
-use Rattle.slot_core.specs.declared.commit.Committed.{Committed}
 use Rattle.slot_core.specs.declared.fault.SlotFault.{SlotFault}
 use Rattle.slot_core.specs.declared.fault.SlotFault.TheVariants.{NotInFlight}
 use Rattle.slot_core.specs.declared.handles.Flight.{Flight}

@@ -20,8 +20,8 @@ use Rattle.put_stage.proofs.LeftLemmas.{few_calls, sum_most}
 use Rattle.receipts.specs.Registers.{key_slot}
 use Rattle.receipts.specs.declared.barred.Barred.{Barred}
 use Rattle.receipts.specs.declared.barred.Barred.TheVariants as barred
+use Rattle.slot_rules.specs.declared.commit.Committed.{Committed}
 use Rattle.op_steps.specs.Words.{IsSection}
-use Rattle.slot_core.specs.declared.commit.Committed.{Committed}
 use Rattle.slot_core.specs.declared.fault.SlotFault.{SlotFault}
 use Rattle.slot_core.specs.declared.fault.SlotFault.TheVariants as slot
 use Rattle.slot_core.specs.declared.handles.Flight.{Flight}

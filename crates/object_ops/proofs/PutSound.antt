@@ -8,7 +8,7 @@ use Rattle.call_types.specs.declared.refusal.Refusal.TheVariants as refusal
 use Rattle.call_types.specs.declared.reply.Reply.{Reply}
 use Rattle.call_types.specs.declared.reply.Reply.TheVariants.{Refused}
 use Rattle.drive_base.specs.declared.plan.SetPlan.{SetPlan}
-use Rattle.slot_core.specs.declared.commit.Committed.{Committed}
+use Rattle.slot_rules.specs.declared.commit.Committed.{Committed}
 use Rattle.slot_core.specs.declared.fault.SlotFault.{SlotFault}
 use Rattle.slot_core.specs.declared.fault.SlotFault.TheVariants as slot
 use Rattle.slot_core.specs.declared.handles.Flight.{Flight}

@@ -14,9 +14,9 @@ use Rattle.desk_base.specs.Calls.{IsKey}
 use Rattle.desk_base.specs.declared.call.Call.{Call}
 use Rattle.desk_base.specs.declared.call.Call.TheVariants.{Delete}
 use Rattle.drive_base.specs.declared.plan.SetPlan.{SetPlan}
-use Rattle.slot_core.specs.declared.commit.Commit.{Commit}
-use Rattle.slot_core.specs.declared.commit.Commit.TheVariants.{Key as KeyCommit}
-use Rattle.slot_core.specs.declared.commit.Committed.{Committed}
+use Rattle.slot_rules.specs.declared.commit.Commit.TheVariants.{Key as KeyCommit}
+use Rattle.slot_rules.specs.declared.commit.Commit.{Commit}
+use Rattle.slot_rules.specs.declared.commit.Committed.{Committed}
 use Rattle.slot_core.specs.declared.fault.SlotFault.{SlotFault}
 use Rattle.receipts.specs.Events.{Log}
 use Rattle.receipts.specs.Paying.{Pays}

@@ -13,9 +13,9 @@ use Rattle.put_stage.specs.declared.stage.Stage.{Stage}
 use Rattle.put_stage.specs.declared.staged.Staged.{Staged}
 use Rattle.put_stage.specs.declared.staged.StageFault.{StageFault}
 use Rattle.put_stage.specs.declared.staged.StageFault.TheVariants as fault
-use Rattle.slot_core.specs.declared.commit.Commit.{Commit}
-use Rattle.slot_core.specs.declared.commit.Commit.TheVariants.{Key as KeyCommit}
-use Rattle.slot_core.specs.declared.commit.Committed.{Committed}
+use Rattle.slot_rules.specs.declared.commit.Commit.TheVariants.{Key as KeyCommit}
+use Rattle.slot_rules.specs.declared.commit.Commit.{Commit}
+use Rattle.slot_rules.specs.declared.commit.Committed.{Committed}
 use Rattle.slot_core.specs.declared.fault.SlotFault.{SlotFault}
 use Rattle.slot_core.specs.declared.fault.SlotFault.TheVariants as slot
 use Rattle.stamp_id.specs.declared.version.VersionId.{VersionId}

@@ -110,7 +110,9 @@ impl Clearing {
 fn answer_of(turn: Turn<Ids>) -> Result<Ids, SlotFault>
     ensures { result ≡ turn.answer }
 {
-    turn.answer
+    let Turn { answer, stub } = turn;
+    drop(stub);
+    answer
 }
 
 /// The removals of what was taken. Where there is no memory for them there are none, and the files that are left are a scanner's to find.

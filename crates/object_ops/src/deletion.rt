@@ -1,9 +1,9 @@
 //! Deletions of versions of keys that can be committed.
 
 ghost use Rattle.std.specs.Prelude.{◌≡◌, ◌≤◌, IsUtf8, length, true};
-ghost use Rattle.slot_core.specs.Committing.{name_of};
 ghost use Rattle.object_ops.specs.Deletions.{bucket_in, is_deletion, key_in};
 ghost use Rattle.drive_base.specs.declared.drive.TheConstants.{LONGEST_NAME};
+ghost use Rattle.slot_rules.specs.Deeds.{name_of};
 
 use slot_core::Commit;
 

@@ -14,7 +14,8 @@ ghost use Rattle.object_ops.specs.ReadingPlan.{drives_of};
 ghost use Rattle.object_ops.specs.declared.get_state.GetState.TheVariants as state;
 
 use crate::get_op::GetOp;
-use crate::get_state::GetState;
+use crate::get_state::{GetState, go_to};
+use crate::get_tell::put_in;
 use crate::looking::{Looked, look_at_bucket};
 use crate::pins::pin_out;
 use crate::reading::Reading;
@@ -139,9 +140,9 @@ impl GetOp {
             pin,
             reading,
         } = begun;
-        self.reading = reading;
+        put_in(&mut self.reading, reading);
         self.pin = pin;
-        self.state = state;
+        go_to(&mut self.state, state);
         turn.stub
     }
 

@@ -1,6 +1,9 @@
 //! How far a GetObject is.
 
+ghost use Rattle.std.specs.Prelude.{◌≡◌};
+
 use call_types::{Cut, Mode, Reply};
+use std::mem;
 
 /// How far a GetObject is.
 #[derive(Drop)]
@@ -19,4 +22,11 @@ pub enum GetState {
     Ending(Option<Cut>),
     /// It is over, and was cut for this, if it was.
     Over(Option<Cut>),
+}
+
+/// Goes over to another state.
+pub(crate) fn go_to(state: &mut GetState, next: GetState)
+    ensures { state.new ≡ next }
+{
+    drop(mem::replace(state, next));
 }

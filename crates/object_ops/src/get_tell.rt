@@ -11,13 +11,14 @@ ghost use Rattle.object_ops.specs.GetSteps.{told_state};
 ghost use Rattle.object_ops.specs.declared.get_state.GetState.TheVariants as state;
 
 use crate::get_op::GetOp;
-use crate::get_state::GetState;
+use crate::get_state::{GetState, go_to};
 use crate::reading::{Reading, Stepped};
 use call_types::{Cut, Refusal, Reply};
 use desk_base::Teller;
 use drive_base::Drive;
 use slot_core::Pin;
 use std::alloc::Global;
+use std::mem;
 
 /// How far a GetObject is after a step of its reading: letters are a refusal, or a cut once the head is told.
 fn fetched_state(stepped: &Stepped, told: bool) -> GetState
@@ -73,6 +74,13 @@ fn reading_out(reading: &mut Option<Reading>) -> Option<Reading>
     reading.take()
 }
 
+/// Puts a reading in, or none.
+pub(crate) fn put_in(reading: &mut Option<Reading>, next: Option<Reading>)
+    ensures { reading.new ≡ next }
+{
+    drop(mem::replace(reading, next));
+}
+
 impl GetOp {
     /// Makes the call of a data drive that is due.
     pub(crate) fn fetch<D: Drive>(&mut self, alloc: Global, disks: &mut [D])
@@ -86,11 +94,11 @@ impl GetOp {
         match reading_out(&mut self.reading) {
             Some(mut reading) => {
                 let stepped = reading.step(alloc, disks);
-                self.state = fetched_state(&stepped, reading.told);
-                self.reading = Some(reading);
+                go_to(&mut self.state, fetched_state(&stepped, reading.told));
+                put_in(&mut self.reading, Some(reading));
             }
             None => {
-                self.state = GetState::Ending(None);
+                go_to(&mut self.state, GetState::Ending(None));
             }
         }
     }
@@ -107,11 +115,11 @@ impl GetOp {
             Some(mut reading) => {
                 let was_told = reading.told;
                 let cut = reading.tell(teller);
-                self.state = told_state(reading.left, was_told, cut);
-                self.reading = Some(reading);
+                go_to(&mut self.state, told_state(reading.left, was_told, cut));
+                put_in(&mut self.reading, Some(reading));
             }
             None => {
-                self.state = GetState::Ending(None);
+                go_to(&mut self.state, GetState::Ending(None));
             }
         }
     }

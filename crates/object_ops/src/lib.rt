@@ -47,6 +47,3 @@ pub use delete_op::DeleteOp;
 pub use get_op::GetOp;
 pub use head_op::HeadOp;
 pub use put_op::PutOp;
-
-#[cfg(test)]
-mod tests;

@@ -16,7 +16,7 @@ ghost use Rattle.object_ops.specs.declared.put_work.Work.{Work as WorkSpec};
 
 use crate::looking::look_at_bucket;
 use crate::put_op::PutOp;
-use crate::put_state::PutState;
+use crate::put_state::{PutState, go_to};
 use crate::put_working::begun;
 use crate::putting::{PutEnd, after_look, end_of, put_committed};
 use audit_trail::Audit;
@@ -60,7 +60,7 @@ impl PutOp {
             (slot_seen A.entries A.count slot.old) (slot_seen A.entries A.count slot.new) (views D.Drive disks.old) (views D.Drive disks.new) }
     {
         let look = look_at_bucket(alloc, slot, disks, self.name.as_str());
-        self.state = after_look(look.looked, self.long);
+        go_to(&mut self.state, after_look(look.looked, self.long));
         look.stub
     }
 
@@ -83,7 +83,7 @@ impl PutOp {
             (slot_seen A.entries A.count slot.old) (slot_seen A.entries A.count slot.new) disks disks }
     {
         let Turn { answer, stub } = slot.begin_put(alloc, &self.at);
-        self.state = begun(
+        let state = begun(
             alloc,
             self.set,
             self.register.as_str(),
@@ -92,6 +92,7 @@ impl PutOp {
             mode,
             answer,
         );
+        go_to(&mut self.state, state);
         stub
     }
 
@@ -124,15 +125,16 @@ impl PutOp {
         match end_of(alloc, &self.at, &self.kind, mode, flight.id(), work.stage) {
             PutEnd::Commits(deed) => {
                 let turn = slot.commit(alloc, disks, &deed, Some(flight), self.now);
-                self.state = put_committed(turn.answer);
+                drop(deed);
+                go_to(&mut self.state, put_committed(turn.answer));
                 turn.stub
             }
             PutEnd::GivesUp(why) => {
-                self.state = PutState::Telling(Reply::Refused(why));
+                go_to(&mut self.state, PutState::Telling(Reply::Refused(why)));
                 slot.drop_put(flight).stub
             }
             PutEnd::LacksMemory => {
-                self.state = PutState::Told(Some(Cut::NoMemory));
+                go_to(&mut self.state, PutState::Told(Some(Cut::NoMemory)));
                 slot.drop_put(flight).stub
             }
         }
@@ -155,7 +157,7 @@ impl PutOp {
             unreachable!()
         };
         self.clearing.begin();
-        self.state = PutState::Told(Some(cut));
+        go_to(&mut self.state, PutState::Told(Some(cut)));
         slot.drop_put(flight).stub
     }
 

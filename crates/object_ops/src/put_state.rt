@@ -1,8 +1,11 @@
 //! How far a PutObject is.
 
+ghost use Rattle.std.specs.Prelude.{◌≡◌};
+
 use crate::put_work::Work;
 use call_types::{Cut, Mode, Reply};
 use slot_core::Flight;
+use std::mem;
 
 /// How far a PutObject is.
 #[derive(Drop)]
@@ -21,4 +24,11 @@ pub enum PutState {
     Telling(Reply),
     /// The reply was told, or the call was cut for this. What is left of the trash comes next.
     Told(Option<Cut>),
+}
+
+/// Goes over to another state.
+pub(crate) fn go_to(state: &mut PutState, next: PutState)
+    ensures { state.new ≡ next }
+{
+    drop(mem::replace(state, next));
 }

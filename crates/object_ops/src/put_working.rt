@@ -11,7 +11,7 @@ ghost use Rattle.object_ops.specs.declared.put_work.Work.{Work as WorkSpec};
 ghost use Rattle.desk_base.specs.Calls.{most_body};
 
 use crate::put_op::PutOp;
-use crate::put_state::PutState;
+use crate::put_state::{PutState, go_to};
 use crate::put_work::Work;
 use crate::putting::after_begin;
 use call_types::{Cut, Mode};
@@ -101,7 +101,7 @@ impl PutOp {
         ensures calls { CallsSo (PutStands self.old) (PutStands self.new) self.old.set (views D.Drive disks.old) (views D.Drive disks.new) }
     {
         if let PutState::Staging(work) = self.moved_out() {
-            self.state = PutState::Staging(work.stepped(disks));
+            go_to(&mut self.state, PutState::Staging(work.stepped(disks)));
         }
     }
 }

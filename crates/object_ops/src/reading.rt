@@ -32,7 +32,7 @@ pub struct Reading {
 }
 
 /// What a step of a reading did.
-#[derive(Clone, Copy, Debug, PartialEq, Eq)]
+#[derive(Clone, Copy, PartialEq, Eq)]
 pub(crate) enum Stepped {
     /// One drive call, and more are due.
     Goes,

@@ -6,7 +6,7 @@ ghost use Rattle.object_ops.specs.DataNames.{name_by};
 use stamp_id::VersionId;
 
 /// A file of an id's data.
-#[derive(Clone, Copy, Debug, PartialEq, Eq)]
+#[derive(Clone, Copy, PartialEq, Eq)]
 pub enum DataFile {
     /// The shard.
     Shard,

@@ -23,16 +23,16 @@ use Rattle.slot_history.specs.Contents.{IsContentOf, SpellsBucket, SpellsKey, no
 use Rattle.slot_history.specs.Names.{bucket_name, key_name}
 use Rattle.slot_history.specs.Standing.{Flying, IsLawfulUnder, IsSpent}
 use Rattle.slot_history.proofs.NameLemmas.{bucket_not_key, bucket_not_part, key_not_part}
+use Rattle.slot_rules.specs.Deeds.{name_of}
+use Rattle.slot_rules.specs.Owning.{IsOwnId}
+use Rattle.slot_rules.specs.Rules.{is_bucket_name, NamesNone, first_place, key_fault, longest_for, named_place, rule_for}
+use Rattle.slot_rules.proofs.SizeLemmas.{bucket_short, content_short}
+use Rattle.slot_rules.specs.declared.commit.Commit.TheVariants.{Key as KeyDeed, MakeBucket, SetMode}
+use Rattle.slot_rules.specs.declared.commit.Commit.{Commit}
+use Rattle.slot_rules.specs.declared.rules.TheConstants.{BUCKET_BYTES, KEY_BYTES}
 use Rattle.slot_core.specs.CommitCauses.{IsRuleOf, site_of}
-use Rattle.slot_core.specs.Committing.{name_of}
-use Rattle.slot_core.specs.Owning.{IsOwnId}
 use Rattle.slot_data.specs.Disks.{IsPartName}
-use Rattle.slot_core.specs.Rules.{is_bucket_name, NamesNone, first_place, key_fault, longest_for, named_place, rule_for}
 use Rattle.slot_core.specs.Views.{SlotNumbers, last_of}
-use Rattle.slot_core.specs.declared.commit.Commit.{Commit}
-use Rattle.slot_core.specs.declared.commit.Commit.TheVariants.{Key as KeyDeed, MakeBucket, SetMode}
-use Rattle.slot_core.specs.declared.rules.TheConstants.{BUCKET_BYTES, KEY_BYTES}
-use Rattle.slot_core.proofs.SizeLemmas.{bucket_short, content_short}
 
 -- what lanes keep of a register is accepted by a rule, and isn't too long
 pub record Accepts (rule : List ℕ → Option ℕ) (longest : ℕ) (lanes : List Lane) : Type 0 where

@@ -13,17 +13,18 @@ use Rattle.stamp_id.specs.declared.version.VersionId.{VersionId}
 use Rattle.register_core.specs.declared.faults.QuorumFault.{QuorumFault}
 use Rattle.register_core.specs.declared.faults.QuorumFault.TheVariants.{NoMemory as NoMemoryQuorum, ReadQuorum, Undecided, WriteQuorum}
 use Rattle.slot_data.specs.Holding.{IsInFlight}
+use Rattle.slot_rules.specs.Deeds.{name_of}
+use Rattle.slot_rules.specs.Rules.{longest_for, rule_for}
+use Rattle.slot_rules.specs.declared.commit.Commit.{Commit}
+use Rattle.slot_rules.specs.declared.commit.Committed.{Committed}
 use Rattle.slot_core.specs.Causes.{LookCause, PeekCause}
 use Rattle.slot_core.specs.CommitCauses.{CommitCause, LookRefused, WroteSo, deed_in}
-use Rattle.slot_core.specs.Committing.{SaysCommit, name_of}
+use Rattle.slot_core.specs.Committing.{SaysCommit}
 use Rattle.slot_core.specs.Listing.{ListsNames, SaysNothing}
 use Rattle.slot_core.specs.Numbers.{AreSpent}
-use Rattle.slot_core.specs.Rules.{longest_for, rule_for}
 use Rattle.slot_core.specs.Sections.{SaysKept}
 use Rattle.slot_core.specs.Stubs.{AuditCounts, Says, StubOfEntry, Writes, WritesNone, completed_by, entry_of, late_in}
 use Rattle.slot_core.specs.Views.{SlotNumbers}
-use Rattle.slot_core.specs.declared.commit.Commit.{Commit}
-use Rattle.slot_core.specs.declared.commit.Committed.{Committed}
 use Rattle.slot_core.specs.declared.fault.SlotFault.{SlotFault}
 use Rattle.slot_core.specs.declared.fault.SlotFault.TheVariants.{AuditFailed, Key, NoMemory, NotInFlight, Quorum, SeqSpent}
 use Rattle.slot_core.specs.declared.stub.Stub.{Stub}

@@ -11,12 +11,13 @@ use Rattle.slot_history.specs.State.{State}
 use Rattle.slot_data.specs.Disks.{Disks}
 use Rattle.slot_data.specs.Holding.{Hands, Holding, IsInFlight, IsPinned, Known, Pinned}
 use Rattle.slot_data.specs.Standing.{IsListed}
-use Rattle.slot_core.specs.Committing.{CommitHolds, FitsFlight, MayCommitData, ShowsTrash, brings_of}
+use Rattle.slot_rules.specs.Deeds.{brings_of}
+use Rattle.slot_rules.specs.declared.commit.Commit.{Commit}
+use Rattle.slot_rules.specs.declared.commit.Committed.{Committed}
+use Rattle.slot_core.specs.Committing.{CommitHolds, FitsFlight, MayCommitData, ShowsTrash}
 use Rattle.slot_core.specs.Stubs.{entry_of}
 use Rattle.slot_core.specs.Turning.{EntryMoves}
 use Rattle.slot_core.specs.Views.{last_of}
-use Rattle.slot_core.specs.declared.commit.Commit.{Commit}
-use Rattle.slot_core.specs.declared.commit.Committed.{Committed}
 use Rattle.slot_core.specs.declared.fault.SlotFault.{SlotFault}
 use Rattle.slot_core.specs.declared.handles.Flight.{Flight}
 use Rattle.slot_core.specs.declared.stub.Stub.{Stub}

@@ -30,10 +30,10 @@ use Rattle.slot_history.specs.Standing.{IsLawfulUnder, Records}
 use Rattle.slot_history.specs.State.{State}
 use Rattle.slot_data.specs.Disks.{Disks, kept_on}
 use Rattle.slot_data.specs.Holding.{Holding}
+use Rattle.slot_rules.specs.Rules.{longest_for, rule_for}
 use Rattle.slot_core.specs.Causes.{LookCause}
 use Rattle.slot_core.specs.CommitCauses.{IsRuleOf, OwnIsWritten}
 use Rattle.slot_core.specs.Listing.{NamesLetter}
-use Rattle.slot_core.specs.Rules.{longest_for, rule_for}
 use Rattle.slot_core.specs.Views.{last_of}
 use Rattle.slot_core.specs.declared.fault.SlotFault.TheVariants.{Quorum}
 use Rattle.slot_core.proofs.SettlingLemmas.{name_held}

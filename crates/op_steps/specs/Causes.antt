@@ -17,13 +17,13 @@ use Rattle.register_core.specs.declared.faults.QuorumFault.{QuorumFault}
 use Rattle.register_core.specs.declared.faults.QuorumFault.TheVariants.{ReadQuorum, Undecided, WriteQuorum}
 use Rattle.slot_history.specs.Standing.{Flying}
 use Rattle.slot_data.specs.Holding.{IsInFlight}
+use Rattle.slot_rules.specs.Deeds.{name_of}
+use Rattle.slot_rules.specs.Rules.{longest_for, rule_for}
+use Rattle.slot_rules.specs.declared.commit.Commit.{Commit}
 use Rattle.slot_core.specs.Causes.{LookCause}
 use Rattle.slot_core.specs.CommitCauses.{LookRefused, WroteSo}
-use Rattle.slot_core.specs.Committing.{name_of}
 use Rattle.slot_core.specs.Listing.{TooFewAnswered}
 use Rattle.slot_core.specs.Numbers.{AreSpent}
-use Rattle.slot_core.specs.Rules.{longest_for, rule_for}
-use Rattle.slot_core.specs.declared.commit.Commit.{Commit}
 use Rattle.receipts.specs.Events.{Note}
 use Rattle.op_steps.specs.Claims.{Claim}
 use Rattle.op_steps.specs.Store.{SlotSeen}

@@ -16,7 +16,7 @@ use Rattle.stamp_id.specs.declared.version.VersionId.{VersionId}
 use Rattle.register_core.specs.declared.faults.QuorumFault.{QuorumFault}
 use Rattle.slot_history.specs.Names.{key_name}
 use Rattle.slot_data.specs.Disks.{Disks, IsPartName}
-use Rattle.slot_core.specs.Rules.{IsRegisterName}
+use Rattle.slot_rules.specs.Rules.{IsRegisterName}
 use Rattle.slot_core.specs.declared.fault.SlotFault.TheVariants.{Quorum}
 use Rattle.receipts.specs.Events.{Event, Log, Note, Shown}
 use Rattle.receipts.specs.Events.Event.{BarredFrom, Called, Fed, Told, Turned}

@@ -23,7 +23,7 @@ use Rattle.slot_history.specs.Standing.{Flying, Records}
 use Rattle.slot_history.specs.State.{State}
 use Rattle.slot_data.specs.Disks.{Disks, IsPartName}
 use Rattle.slot_data.specs.Holding.{Holding}
-use Rattle.slot_core.specs.Rules.{IsRegisterName}
+use Rattle.slot_rules.specs.Rules.{IsRegisterName}
 use Rattle.slot_core.specs.declared.fault.SlotFault.TheVariants.{Quorum}
 use Rattle.receipts.specs.Events.{Note, Shown}
 use Rattle.op_steps.specs.Claims.{Claim, DataHolds}

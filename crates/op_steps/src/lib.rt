@@ -26,6 +26,3 @@ pub use next::OpNext;
 pub use op::Op;
 pub use refusing::{call_refusal, section_refusal};
 pub use run::{Served, call_op, run_op};
-
-#[cfg(test)]
-mod tests;

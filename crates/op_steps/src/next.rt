@@ -1,7 +1,7 @@
 //! What comes next.
 
 /// What comes next for a call.
-#[derive(Clone, Copy, Debug, PartialEq, Eq)]
+#[derive(Clone, Copy, PartialEq, Eq)]
 pub enum OpNext {
     /// A section of the slot of this index.
     Section(u8),

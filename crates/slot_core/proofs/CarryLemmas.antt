@@ -24,19 +24,20 @@ use Rattle.slot_data.specs.Disks.{Disks}
 use Rattle.slot_data.specs.Holding.{Hands, Holding}
 use Rattle.slot_data.specs.LaneLaws.{GoneIdsAreGone}
 use Rattle.slot_data.specs.Standing.{DataStands}
+use Rattle.slot_rules.specs.Deeds.{call_of, name_of}
+use Rattle.slot_rules.specs.Planning.{DoesOver, IsGoneBy}
+use Rattle.slot_rules.specs.Plans.{IsTale}
+use Rattle.slot_rules.specs.declared.commit.Commit.TheVariants.{Key, MakeBucket, SetMode}
+use Rattle.slot_rules.specs.declared.commit.Commit.{Commit}
+use Rattle.slot_rules.specs.declared.site.Drawn.{Drawn}
+use Rattle.slot_rules.specs.declared.site.Site.{Site}
+use Rattle.slot_rules.specs.declared.telling.Tale.{Tale}
+use Rattle.slot_rules.specs.declared.telling.Told.{Told}
 use Rattle.slot_core.specs.Carrying.{DeedLeaves, EntryLeaves, Lands, answer_of, entry_at, kept_with}
-use Rattle.slot_core.specs.Committing.{DeedTrash, MayCommitData, ShowsTrash, call_of, name_of}
-use Rattle.slot_core.specs.Planning.{DoesOver, IsGoneBy}
-use Rattle.slot_core.specs.Plans.{IsTale}
+use Rattle.slot_core.specs.Committing.{DeedTrash, MayCommitData, ShowsTrash}
 use Rattle.slot_core.specs.Settling.{Settled, numbers_at}
 use Rattle.slot_core.specs.Standing.{LanesHave, SlotStands}
 use Rattle.slot_core.specs.Views.{last_of}
-use Rattle.slot_core.specs.declared.commit.Commit.{Commit}
-use Rattle.slot_core.specs.declared.commit.Commit.TheVariants.{Key, MakeBucket, SetMode}
-use Rattle.slot_core.specs.declared.site.Drawn.{Drawn}
-use Rattle.slot_core.specs.declared.site.Site.{Site}
-use Rattle.slot_core.specs.declared.telling.Tale.{Tale}
-use Rattle.slot_core.specs.declared.telling.Told.{Told}
 use Rattle.slot_core.proofs.DeedLemmas.{deed_gone}
 use Rattle.slot_core.proofs.LandLemmas.{LandLaws, land_data, land_stands}
 use Rattle.slot_core.proofs.LaneLemmas.{lanes_stay, with_lanes}

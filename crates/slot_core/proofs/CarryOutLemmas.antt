@@ -21,24 +21,25 @@ use Rattle.register_core.specs.declared.faults.QuorumFault.{QuorumFault}
 use Rattle.register_core.specs.declared.faults.QuorumFault.TheVariants.{ReadQuorum, WriteQuorum, Undecided, NoMemory}
 use Rattle.register_core.specs.declared.looked.Looked.{Looked}
 use Rattle.register_caller.specs.Steps.{WritesBoth}
+use Rattle.slot_rules.specs.Deeds.{name_of}
+use Rattle.slot_rules.specs.Owning.{IsOwnDraft, IsOwnOf, again_takes, base_after}
+use Rattle.slot_rules.specs.Plans.{IsPlan, IsPlanBy, IsTale, PlansNone, PlansOwn}
+use Rattle.slot_rules.specs.declared.commit.Commit.{Commit}
+use Rattle.slot_rules.specs.declared.commit.Committed.{Committed}
+use Rattle.slot_rules.specs.declared.owning.Own.{Own}
+use Rattle.slot_rules.specs.declared.plans.Plan.{Plan}
+use Rattle.slot_rules.specs.declared.ready.Ready.{Ready}
+use Rattle.slot_rules.specs.declared.site.Drawn.{Drawn}
+use Rattle.slot_rules.specs.declared.site.Site.{Site}
+use Rattle.slot_rules.specs.declared.telling.Tale.{Tale}
 use Rattle.slot_core.specs.Carrying.{CallsCarry, CallsOwn, CallsOwnWrites, IsTold, IsToldDone, deed_told, entry_at, entry_told}
 use Rattle.slot_core.specs.CarryingOut.{IsOwnOver, OwnFits, PlanFits}
-use Rattle.slot_core.specs.Committing.{GoneByAnswer, name_of}
+use Rattle.slot_core.specs.Committing.{GoneByAnswer}
 use Rattle.slot_core.specs.Looked.{CallsForward}
-use Rattle.slot_core.specs.Owning.{IsOwnDraft, IsOwnOf, again_takes}
-use Rattle.slot_core.specs.Plans.{IsPlan, IsPlanBy, IsTale, PlansNone, PlansOwn}
-use Rattle.slot_core.specs.Settling.{FirstIs, base_after}
+use Rattle.slot_core.specs.Settling.{FirstIs}
 use Rattle.slot_core.specs.declared.carrying.Outcome.{Outcome}
 use Rattle.slot_core.specs.declared.carrying.Outcome.TheVariants.{Begun, Done, Kept, LacksMemory}
-use Rattle.slot_core.specs.declared.commit.Commit.{Commit}
-use Rattle.slot_core.specs.declared.commit.Committed.{Committed}
 use Rattle.slot_core.specs.declared.fault.SlotFault.{SlotFault}
-use Rattle.slot_core.specs.declared.looked.Ready.{Ready}
-use Rattle.slot_core.specs.declared.owning.Own.{Own}
-use Rattle.slot_core.specs.declared.plans.Plan.{Plan}
-use Rattle.slot_core.specs.declared.site.Drawn.{Drawn}
-use Rattle.slot_core.specs.declared.site.Site.{Site}
-use Rattle.slot_core.specs.declared.telling.Tale.{Tale}
 use Rattle.slot_core.proofs.SettlingLemmas.{first_found}
 
 -- ---- plans

@@ -21,14 +21,14 @@ use Rattle.register_core.specs.declared.faults.QuorumFault.TheVariants.{NoMemory
 use Rattle.register_core.specs.declared.looked.Looked.{Looked}
 use Rattle.register_caller.specs.Settling.{WritesAgain}
 use Rattle.register_caller.specs.Steps.{FilesStay, WritesBoth}
+use Rattle.slot_rules.specs.Rules.{is_bucket_name, key_fault, longest_for, rule_for}
+use Rattle.slot_rules.specs.declared.ready.Ready.{Ready}
+use Rattle.slot_rules.specs.declared.rules.TheConstants.{BUCKET_BYTES, KEY_BYTES}
+use Rattle.slot_rules.specs.declared.site.Drawn.{Drawn}
+use Rattle.slot_rules.specs.declared.site.Site.{Site}
 use Rattle.slot_core.specs.Causes.{Completes, LookCause, LookGave}
 use Rattle.slot_core.specs.Looked.{CallsForward, DraftFits, LooksAt, WritesFirst, late_of}
-use Rattle.slot_core.specs.Rules.{is_bucket_name, key_fault, longest_for, rule_for}
 use Rattle.slot_core.specs.Settling.{FirstIs, IsReady, numbers_at}
-use Rattle.slot_core.specs.declared.looked.Ready.{Ready}
-use Rattle.slot_core.specs.declared.rules.TheConstants.{BUCKET_BYTES, KEY_BYTES}
-use Rattle.slot_core.specs.declared.site.Drawn.{Drawn}
-use Rattle.slot_core.specs.declared.site.Site.{Site}
 use Rattle.slot_core.proofs.SettlingLemmas.{first_found, first_none}
 
 -- the rule of a register's contents, by whether it is a bucket's

@@ -17,25 +17,25 @@ use Rattle.register_caller.specs.Steps.{FilesStay, WritesBoth}
 use Rattle.audit_trail.specs.declared.entry.Deed.{Deed}
 use Rattle.audit_trail.specs.declared.entry.Deed.TheVariants.{Done as DoneDeed, Kept as KeptDeed, Refused as RefusedDeed}
 use Rattle.call_types.specs.declared.act.Brief.TheVariants.{Answer}
+use Rattle.slot_rules.specs.Deeds.{call_of, name_of}
+use Rattle.slot_rules.specs.Owning.{IsOwnChange, IsOwnDraft, IsOwnOf, again_takes, own_seq}
+use Rattle.slot_rules.specs.Planning.{DoesOver}
+use Rattle.slot_rules.specs.Plans.{IsPlan, IsPlanBy, IsTale, PlansNone, PlansOwn}
+use Rattle.slot_rules.specs.declared.commit.Commit.{Commit}
+use Rattle.slot_rules.specs.declared.owning.Own.{Own}
+use Rattle.slot_rules.specs.declared.plans.Plan.{Plan}
+use Rattle.slot_rules.specs.declared.ready.Ready.{Ready}
+use Rattle.slot_rules.specs.declared.site.Drawn.{Drawn}
+use Rattle.slot_rules.specs.declared.site.Site.{Site}
+use Rattle.slot_rules.specs.declared.telling.Tale.{Tale}
+use Rattle.slot_rules.specs.declared.telling.Told.{Told}
 use Rattle.slot_core.specs.Carrying.{CallsCarry, CallsOwn, answer_of, answer_told, deed_told}
 use Rattle.slot_core.specs.CommitCauses.{CommitCause, FoundSo, IsChangeAt, IsOwnChangeOf, IsRuleOf, LookRefused, OwnIsWritten, WroteSo, own_deed}
-use Rattle.slot_core.specs.Committing.{call_of, name_of}
 use Rattle.slot_core.specs.Finishing.{FinishCalls}
 use Rattle.slot_core.specs.Looked.{CallsForward, LooksAt}
-use Rattle.slot_core.specs.Owning.{IsOwnChange, IsOwnDraft, IsOwnOf, again_takes, own_seq}
-use Rattle.slot_core.specs.Planning.{DoesOver}
-use Rattle.slot_core.specs.Plans.{IsPlan, IsPlanBy, IsTale, PlansNone, PlansOwn}
 use Rattle.slot_core.specs.Settling.{IsReady, numbers_at}
 use Rattle.slot_core.specs.declared.carrying.Outcome.{Outcome}
 use Rattle.slot_core.specs.declared.carrying.Outcome.TheVariants.{Begun, Done, Kept, LacksMemory}
-use Rattle.slot_core.specs.declared.commit.Commit.{Commit}
-use Rattle.slot_core.specs.declared.looked.Ready.{Ready}
-use Rattle.slot_core.specs.declared.owning.Own.{Own}
-use Rattle.slot_core.specs.declared.plans.Plan.{Plan}
-use Rattle.slot_core.specs.declared.site.Drawn.{Drawn}
-use Rattle.slot_core.specs.declared.site.Site.{Site}
-use Rattle.slot_core.specs.declared.telling.Tale.{Tale}
-use Rattle.slot_core.specs.declared.telling.Told.{Told}
 use Rattle.slot_core.proofs.CauseLemmas.{cause_of_forward, gave_of, writes_have_memory}
 use Rattle.slot_core.proofs.SettlingLemmas.{first_found, first_none}
 use Rattle.slot_core.proofs.TurnLemmas.{forward_has_memory}

@@ -17,9 +17,15 @@ use Rattle.slot_data.specs.Disks.{Disks}
 use Rattle.slot_data.specs.Holding.{Hands, Holding, IsInFlight}
 use Rattle.slot_data.specs.Standing.{DataStands}
 use Rattle.slot_data.specs.declared.rows.FlightRow.{FlightRow}
+use Rattle.slot_rules.specs.Deeds.{name_of}
+use Rattle.slot_rules.specs.Taking.{TakesRow}
+use Rattle.slot_rules.specs.declared.commit.Commit.{Commit}
+use Rattle.slot_rules.specs.declared.commit.Committed.{Committed}
+use Rattle.slot_rules.specs.declared.site.Drawn.{Drawn}
+use Rattle.slot_rules.specs.declared.site.Site.{Site}
 use Rattle.slot_core.specs.Carrying.{EntryLeaves, FitsPut, Lands, answer_told, entry_at, entry_told, kept_with}
 use Rattle.slot_core.specs.CommitCauses.{CommitCause}
-use Rattle.slot_core.specs.Committing.{ChecksFlight, CommitHolds, GoneByAnswer, MayCommitData, NothingBegun, SaysCommit, ShowsTrash, name_of}
+use Rattle.slot_core.specs.Committing.{ChecksFlight, CommitHolds, GoneByAnswer, MayCommitData, NothingBegun, SaysCommit, ShowsTrash}
 use Rattle.slot_core.specs.Finishing.{CommitLeaves}
 use Rattle.slot_core.specs.Landing.{ChecksLanding}
 use Rattle.slot_core.specs.Opened.{IsUnreserved}
@@ -28,18 +34,13 @@ use Rattle.slot_core.specs.Pen.{Reserves, WritesDown, kept_entry}
 use Rattle.slot_core.specs.Settling.{numbers_at}
 use Rattle.slot_core.specs.Standing.{SlotStands}
 use Rattle.slot_core.specs.Stubs.{AuditCounts, Says, StubOfEntry, entry_of}
-use Rattle.slot_core.specs.Taking.{TakesRow}
 use Rattle.slot_core.specs.Turning.{EntryMoves, Leaves, TurnLeaves}
 use Rattle.slot_core.specs.Views.{SlotNumbers, last_of}
 use Rattle.slot_core.specs.declared.carrying.Outcome.{Outcome}
-use Rattle.slot_core.specs.declared.commit.Commit.{Commit}
-use Rattle.slot_core.specs.declared.commit.Committed.{Committed}
 use Rattle.slot_core.specs.declared.fault.SlotFault.{SlotFault}
 use Rattle.slot_core.specs.declared.fault.SlotFault.TheVariants.{AuditFailed, NoMemory as LacksMemory, NotInFlight, SeqSpent}
 use Rattle.slot_core.specs.declared.pen.ReserveFault.{ReserveFault}
 use Rattle.slot_core.specs.declared.pen.ReserveFault.TheVariants.{Failed, NoMemory}
-use Rattle.slot_core.specs.declared.site.Drawn.{Drawn}
-use Rattle.slot_core.specs.declared.site.Site.{Site}
 use Rattle.slot_core.specs.declared.stub.Stub.{Stub}
 use Rattle.slot_core.specs.declared.stub.Turn.{Turn}
 use Rattle.slot_core.proofs.CarryLemmas.{entry_leaves, kept_leaves}

@@ -16,24 +16,25 @@ use Rattle.audit_trail.specs.declared.entry.Deed.TheVariants.{Done as DoneDeed, 
 use Rattle.audit_trail.specs.declared.entry.Entry.{Entry}
 use Rattle.register_core.specs.declared.faults.QuorumFault.{QuorumFault}
 use Rattle.register_core.specs.declared.faults.QuorumFault.TheVariants.{ReadQuorum, WriteQuorum, Undecided, NoMemory as NoMemoryQuorum}
+use Rattle.slot_rules.specs.Deeds.{call_of, name_of}
+use Rattle.slot_rules.specs.declared.commit.Commit.{Commit}
+use Rattle.slot_rules.specs.declared.commit.Committed.{Committed}
+use Rattle.slot_rules.specs.declared.site.Drawn.{Drawn}
+use Rattle.slot_rules.specs.declared.site.Site.{Site}
+use Rattle.slot_rules.specs.declared.telling.Tale.{Tale}
+use Rattle.slot_rules.specs.declared.telling.Told.{Told}
 use Rattle.slot_core.specs.Carrying.{IsTold, answer_of, answer_told, deed_told, entry_at, entry_told}
 use Rattle.slot_core.specs.CommitCauses.{deed_in}
-use Rattle.slot_core.specs.Committing.{CommitDeed, GoneByAnswer, NothingBegun, QuorumDeed, SaysCommit, call_of, name_of}
+use Rattle.slot_core.specs.Committing.{CommitDeed, GoneByAnswer, NothingBegun, QuorumDeed, SaysCommit}
 use Rattle.slot_core.specs.Landing.{IsTwice, entry_from, fault_of}
 use Rattle.slot_core.specs.Pen.{WritesDown, kept_entry}
 use Rattle.slot_core.specs.Settling.{numbers_at}
 use Rattle.slot_core.specs.Stubs.{AuditCounts, AuditHas, Says, StubOfEntry, Writes, entry_of}
 use Rattle.slot_core.specs.declared.carrying.Outcome.{Outcome}
 use Rattle.slot_core.specs.declared.carrying.Outcome.TheVariants.{Begun, Done, Kept, LacksMemory}
-use Rattle.slot_core.specs.declared.commit.Commit.{Commit}
-use Rattle.slot_core.specs.declared.commit.Committed.{Committed}
 use Rattle.slot_core.specs.declared.fault.SlotFault.{SlotFault}
 use Rattle.slot_core.specs.declared.fault.SlotFault.TheVariants.{Quorum, Key as KeyFault, SeqSpent, AuditFailed, NoMemory, NotInFlight}
-use Rattle.slot_core.specs.declared.site.Drawn.{Drawn}
-use Rattle.slot_core.specs.declared.site.Site.{Site}
 use Rattle.slot_core.specs.declared.stub.Stub.{Stub}
-use Rattle.slot_core.specs.declared.telling.Tale.{Tale}
-use Rattle.slot_core.specs.declared.telling.Told.{Told}
 
 -- ---- stubs
 

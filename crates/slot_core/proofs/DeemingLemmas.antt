@@ -17,12 +17,12 @@ use Rattle.slot_history.proofs.TakenLemmas.{left_there, taken_there}
 use Rattle.slot_data.specs.Holding.{Holding}
 use Rattle.slot_data.specs.Moves.{LanesStand}
 use Rattle.slot_data.specs.Standing.{RecordNamesId}
+use Rattle.slot_rules.specs.Deeds.{call_of, name_of}
+use Rattle.slot_rules.specs.Planning.{adds_of}
+use Rattle.slot_rules.specs.Rules.{IsRegisterName}
+use Rattle.slot_rules.specs.declared.commit.Commit.TheVariants.{Key, MakeBucket, SetMode}
+use Rattle.slot_rules.specs.declared.commit.Commit.{Commit}
 use Rattle.slot_core.specs.Carrying.{FitsPut, Lands}
-use Rattle.slot_core.specs.Committing.{call_of, name_of}
-use Rattle.slot_core.specs.Planning.{adds_of}
-use Rattle.slot_core.specs.Rules.{IsRegisterName}
-use Rattle.slot_core.specs.declared.commit.Commit.{Commit}
-use Rattle.slot_core.specs.declared.commit.Commit.TheVariants.{Key, MakeBucket, SetMode}
 use Rattle.slot_core.proofs.SettlingLemmas.{name_held}
 
 -- a deed's register is a bucket's or a key's

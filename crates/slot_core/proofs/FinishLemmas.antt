@@ -35,30 +35,31 @@ use Rattle.slot_history.specs.Contents.{SpellsKey}
 use Rattle.slot_data.specs.Bringing.{GoOn}
 use Rattle.slot_data.specs.Holding.{Holding}
 use Rattle.slot_data.specs.Standing.{DataStands}
+use Rattle.slot_rules.specs.Deeds.{name_of}
+use Rattle.slot_rules.specs.Owning.{IsDraftable, IsOwnDraft, IsOwnId, again_takes, id_over, own_seq}
+use Rattle.slot_rules.specs.Planning.{IsBucketDeed, most_for}
+use Rattle.slot_rules.specs.Plans.{IsPlan, IsPlanBy}
+use Rattle.slot_rules.specs.Rules.{first_place, key_fault, named_place}
+use Rattle.slot_rules.specs.declared.commit.Commit.TheVariants.{Key, MakeBucket, SetMode}
+use Rattle.slot_rules.specs.declared.commit.Commit.{Commit}
+use Rattle.slot_rules.specs.declared.owning.Own.{Own}
+use Rattle.slot_rules.specs.declared.owning.OwnIds.{OwnIds}
+use Rattle.slot_rules.specs.declared.plans.Plan.{Plan}
+use Rattle.slot_rules.specs.declared.ready.Ready.{Ready}
+use Rattle.slot_rules.specs.declared.rules.TheConstants.{BUCKET_BYTES, KEY_BYTES}
+use Rattle.slot_rules.specs.declared.site.Drawn.{Drawn}
+use Rattle.slot_rules.specs.declared.site.Site.{Site}
 use Rattle.slot_core.specs.Carrying.{kept_with}
 use Rattle.slot_core.specs.CarryingOut.{OwnFits, PlanFits}
 use Rattle.slot_core.specs.CommitCauses.{IsRuleOf, site_of}
-use Rattle.slot_core.specs.Committing.{MayCommitData, name_of}
+use Rattle.slot_core.specs.Committing.{MayCommitData}
 use Rattle.slot_core.specs.Finishing.{CommitLeaves, IsKeptBy, ReadyFits}
 use Rattle.slot_core.specs.Looked.{DraftFits, FirstFits}
-use Rattle.slot_core.specs.Owning.{IsDraftable, IsOwnDraft, IsOwnId, again_takes, id_over, own_seq}
-use Rattle.slot_core.specs.Planning.{IsBucketDeed, most_for}
-use Rattle.slot_core.specs.Plans.{IsPlan, IsPlanBy}
-use Rattle.slot_core.specs.Rules.{first_place, key_fault, named_place}
 use Rattle.slot_core.specs.Settling.{FirstIs, IsReady, numbers_at}
 use Rattle.slot_core.specs.Standing.{SlotStands}
 use Rattle.slot_core.specs.Views.{SlotNumbers, last_of}
 use Rattle.slot_core.specs.declared.carrying.Outcome.{Outcome}
 use Rattle.slot_core.specs.declared.carrying.Outcome.TheVariants.{Kept, LacksMemory}
-use Rattle.slot_core.specs.declared.commit.Commit.{Commit}
-use Rattle.slot_core.specs.declared.commit.Commit.TheVariants.{Key, MakeBucket, SetMode}
-use Rattle.slot_core.specs.declared.looked.Ready.{Ready}
-use Rattle.slot_core.specs.declared.owning.Own.{Own}
-use Rattle.slot_core.specs.declared.owning.OwnIds.{OwnIds}
-use Rattle.slot_core.specs.declared.plans.Plan.{Plan}
-use Rattle.slot_core.specs.declared.rules.TheConstants.{BUCKET_BYTES, KEY_BYTES}
-use Rattle.slot_core.specs.declared.site.Drawn.{Drawn}
-use Rattle.slot_core.specs.declared.site.Site.{Site}
 use Rattle.slot_core.proofs.CarryLemmas.{entry_leaves, kept_leaves}
 use Rattle.slot_core.proofs.LandLemmas.{LandLaws, land_data, land_stands}
 use Rattle.slot_core.proofs.SettlingLemmas.{first_found, looked_settled}

@@ -14,19 +14,20 @@ use Rattle.slot_data.specs.Holding.{Holding}
 use Rattle.slot_history.specs.Names.{key_name}
 use Rattle.slot_history.specs.Standing.{Records}
 use Rattle.slot_history.specs.State.{State}
+use Rattle.slot_rules.specs.Owning.{base_after}
+use Rattle.slot_rules.specs.Rules.{IsRegisterName, longest_for, rule_for}
+use Rattle.slot_rules.specs.declared.site.Drawn.{Drawn}
+use Rattle.slot_rules.specs.declared.site.Site.{Site}
 use Rattle.slot_core.specs.Causes.{LookCause}
 use Rattle.slot_core.specs.Looked.{CallsForward}
 use Rattle.slot_core.specs.Peeking.{GivesBy, GivesOver, IsRefusal}
 use Rattle.slot_core.specs.Reading.{FinishesPlan, KnownRead, LooksForRead, PlansRead, ReadGave}
-use Rattle.slot_core.specs.Rules.{IsRegisterName, longest_for, rule_for}
-use Rattle.slot_core.specs.Settling.{SettledOn, SettlesAfter, base_after, numbers_at}
+use Rattle.slot_core.specs.Settling.{SettledOn, SettlesAfter, numbers_at}
 use Rattle.slot_core.specs.Standing.{SlotStands}
 use Rattle.slot_core.specs.declared.finding.Planned.{Planned}
 use Rattle.slot_core.specs.declared.peeking.Peeked.{Peeked}
 use Rattle.slot_core.specs.declared.peeking.Peeked.TheVariants.{Found, Refused, LacksMemory}
 use Rattle.slot_core.specs.declared.reading.ReadPlan.{ReadPlan}
-use Rattle.slot_core.specs.declared.site.Drawn.{Drawn}
-use Rattle.slot_core.specs.declared.site.Site.{Site}
 use Rattle.slot_core.proofs.CauseLemmas.{cause_of_forward}
 use Rattle.slot_core.proofs.ReadLemmas.{known_read}
 use Rattle.slot_core.proofs.ReadTurnLemmas.{read_gave}

@@ -15,7 +15,6 @@ pub mod QuietLemmas
 pub mod ReadLemmas
 pub mod ReadTurnLemmas
 pub mod SettlingLemmas
-pub mod SizeLemmas
 pub mod SortedLemmas
 pub mod TakingLemmas
 pub mod TurnLemmas
@@ -23,8 +22,6 @@ pub mod OwnWriteLemmas
 pub mod StepLemmas
 pub mod DeemingLemmas
 pub mod DeedLemmas
-pub mod PlanLemmas
-pub mod OwnPlanLemmas
 pub mod LandLemmas
 pub mod WritingLemmas
 pub mod CarryLemmas

@@ -36,12 +36,14 @@ use Rattle.slot_data.specs.Laws.{PinBegins}
 use Rattle.slot_data.specs.Moves.{IsToPin, MayPin, with_pins}
 use Rattle.slot_data.specs.Standing.{DataStands}
 use Rattle.slot_data.specs.declared.rows.PinRow.{PinRow}
+use Rattle.slot_rules.specs.Rules.{IsRead, longest_for, rule_for}
+use Rattle.slot_rules.specs.declared.site.Drawn.{Drawn}
+use Rattle.slot_rules.specs.declared.site.Site.{Site}
 use Rattle.slot_core.specs.Hands.{HandsStay}
 use Rattle.slot_core.specs.Peeking.{TurnsAt}
 use Rattle.slot_core.specs.Pen.{has_late}
 use Rattle.slot_core.specs.Looked.{CallsForward, late_of}
 use Rattle.slot_core.specs.Reading.{BeginsPlan, HasStub, IsFound, IsNewTicket, KnownRead, LooksForRead, PinIsListed, PlansRead, ReadCause, ReadGave, entries_of, found_reply, read_entry}
-use Rattle.slot_core.specs.Rules.{IsRead, longest_for, rule_for}
 use Rattle.slot_core.specs.Sections.{IsReadPin, ReadHolds, SaysRead, ShowsNoMore}
 use Rattle.slot_core.specs.Settling.{IsReady, Settled, numbers_at}
 use Rattle.slot_core.specs.Stubs.{Says, completed_by, entry_of, late_in}
@@ -53,8 +55,6 @@ use Rattle.slot_core.specs.declared.finding.Planned.{Planned}
 use Rattle.slot_core.specs.declared.reading.ReadPlan.{ReadPlan}
 use Rattle.slot_core.specs.declared.reading.ReadPlan.TheVariants.{Gives, Refuses}
 use Rattle.slot_core.specs.declared.reading.ReadStart.{ReadStart}
-use Rattle.slot_core.specs.declared.site.Drawn.{Drawn}
-use Rattle.slot_core.specs.declared.site.Site.{Site}
 use Rattle.slot_core.specs.declared.stub.Stub.{Stub}
 use Rattle.slot_core.specs.declared.stub.Turn.{Turn}
 use Rattle.slot_core.proofs.CauseLemmas.{gives_of}

@@ -44,13 +44,14 @@ use Rattle.slot_data.specs.Holding.{Hands, Holding}
 use Rattle.slot_data.specs.Moves.{LanesStand}
 use Rattle.slot_data.specs.Standing.{DataStands}
 use Rattle.slot_data.proofs.HandsLemmas.{numbers_are_drawn}
-use Rattle.slot_core.specs.Rules.{IsRegisterName}
-use Rattle.slot_core.specs.Settling.{FirstIs, IsReady, Settled, SettledOn, SettlesAfter, base_after, numbers_at}
+use Rattle.slot_rules.specs.Owning.{base_after}
+use Rattle.slot_rules.specs.Rules.{IsRegisterName}
+use Rattle.slot_rules.specs.declared.ready.Ready.{Ready}
+use Rattle.slot_rules.specs.declared.site.Drawn.{Drawn}
+use Rattle.slot_rules.specs.declared.site.Site.{Site}
+use Rattle.slot_core.specs.Settling.{FirstIs, IsReady, Settled, SettledOn, SettlesAfter, numbers_at}
 use Rattle.slot_core.specs.Standing.{LanesHave, SlotStands}
 use Rattle.slot_core.specs.Views.{SlotNumbers, last_of, quorum_of}
-use Rattle.slot_core.specs.declared.looked.Ready.{Ready}
-use Rattle.slot_core.specs.declared.site.Drawn.{Drawn}
-use Rattle.slot_core.specs.declared.site.Site.{Site}
 use Rattle.slot_core.proofs.AgainLemmas.{Forwarded, WroteAgain, forwarded}
 use Rattle.slot_core.proofs.LaneLemmas.{have_after_look, have_after_write, lanes_stay, with_lanes, with_lanes_writes}
 use Rattle.slot_core.proofs.OwnAgainLemmas.{IsPlain, Write}

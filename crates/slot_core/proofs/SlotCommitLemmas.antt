@@ -21,14 +21,15 @@ use Rattle.slot_data.specs.Bringing.{with_gone}
 use Rattle.slot_data.specs.Holding.{Holding, IsInFlight}
 use Rattle.slot_data.specs.Rows.{flying_of}
 use Rattle.slot_data.specs.declared.rows.FlightRow.{FlightRow}
+use Rattle.slot_rules.specs.Deeds.{brings_of, name_of}
+use Rattle.slot_rules.specs.Fields.{AreApart}
+use Rattle.slot_rules.specs.declared.commit.Commit.{Commit}
+use Rattle.slot_rules.specs.declared.commit.Committed.{Committed}
 use Rattle.slot_core.specs.Carrying.{FitsPut, Lands, kept_with}
 use Rattle.slot_core.specs.CommitCauses.{CommitCause, FoundSo, IsOwnChangeOf, LookRefused, OwnAfterAgain, OwnAtOnce, OwnIsWritten, WroteSo}
-use Rattle.slot_core.specs.Committing.{ChecksFlight, CommitHolds, FitsFlight, FlightEnds, GoneByAnswer, NothingBegun, brings_of, name_of}
-use Rattle.slot_core.specs.Fields.{AreApart}
+use Rattle.slot_core.specs.Committing.{ChecksFlight, CommitHolds, FitsFlight, FlightEnds, GoneByAnswer, NothingBegun}
 use Rattle.slot_core.specs.Landing.{ChecksLanding, FitsLanding, LandsPut, LandsRow, flight_put, handed, put_of}
 use Rattle.slot_core.specs.Views.{SlotNumbers}
-use Rattle.slot_core.specs.declared.commit.Commit.{Commit}
-use Rattle.slot_core.specs.declared.commit.Committed.{Committed}
 use Rattle.slot_core.specs.declared.fault.SlotFault.{SlotFault}
 use Rattle.slot_core.specs.declared.fault.SlotFault.TheVariants.{Quorum, Key as KeyFault, SeqSpent, AuditFailed, NoMemory, NotInFlight}
 use Rattle.slot_core.specs.declared.handles.Flight.{Flight}

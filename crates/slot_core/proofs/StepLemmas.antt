@@ -20,7 +20,7 @@ use Rattle.version_list.specs.Naming.{is_upload, still_open}
 use Rattle.version_list.specs.Step.{AddsVersion, Deletes, Does, OpensUpload, Refuses, Step, WithUpload, new_name, told}
 use Rattle.slot_history.specs.Contents.{IsVersionOf, NamedData}
 use Rattle.slot_history.proofs.TakenLemmas.{first_there, there_cases}
-use Rattle.slot_core.specs.Committing.{act_brings}
+use Rattle.slot_rules.specs.Deeds.{act_brings}
 
 -- a version is a marker, or of the data that an act brings
 abbrev pub IsMadeBy : Act → Version → Type 0

@@ -1,8 +1,8 @@
 -- Rows that are taken out of a slot's memory.
-use Rattle.std.proofs.Common.{◌≡◌, ◌≢◌, ◌⊎◌, inl, inr, ◌∙◌, ℕ, suc, ◌+◌, ◌<◌, ◌≤◌, Bool, true, List, [], ◌∷◌, ◌++◌, map, length, take, drop, All, Contains, Option, None, Some, refl, sym, subst, ap, arith}
+use Rattle.std.proofs.Common.{◌≡◌, ◌≢◌, ◌⊎◌, inl, inr, ◌∙◌, ℕ, ◌+◌, ◌<◌, ◌≤◌, Bool, true, List, [], ◌∷◌, ◌++◌, map, length, All, Contains, Option, None, Some, refl, sym, subst, ap, arith}
 use Rattle.std.specs.Prelude.{slice_index_or, filter, not}
 use Rattle.std.specs.List.{list_any}
-use Rattle.std.proofs.lemmas.List.{get_or_append_left, get_or_push, length_push, map-append, set-get_or, set_split}
+use Rattle.std.proofs.lemmas.List.{get_or_append_left, get_or_push, length_push, map-append}
 use Rattle.std.proofs.lemmas.List.Elements.{All-contains, All-contains_itself, All-filter, All-map, All-push, All-take, All-weaker, filter_passes}
 use Rattle.stamp_id.specs.declared.version.VersionId.{VersionId}
 use Rattle.slot_history.specs.Contents.{number_of_id}
@@ -13,27 +13,9 @@ use Rattle.slot_data.specs.Moves.{TakesTrash, given_up, with_pins, with_trash}
 use Rattle.slot_data.specs.Rows.{PinsAreFound, flying_of, is_id, pin_names, pinned_of}
 use Rattle.slot_data.specs.declared.rows.FlightRow.{FlightRow}
 use Rattle.slot_data.specs.declared.rows.PinRow.{PinRow}
-use Rattle.slot_core.specs.Fields.{AreApart}
+use Rattle.slot_rules.specs.Fields.{AreApart}
+use Rattle.slot_rules.specs.Taking.{TakesRow}
 use Rattle.slot_core.specs.Sections.{PinGoes, PutGoes, TakesFirst}
-use Rattle.slot_core.specs.Taking.{TakesRow}
-
--- the item at a place is taken out
-pub taken_at : {A : Type 0} (xs : List A) (i : ℕ) (x : A) → i < length xs → x ≡ slice_index_or xs i x → TakesOut x xs (take i xs ++ drop (suc i) xs)
-taken_at {A} xs i x within is = record {
-  front = take i xs;
-  rest = drop (suc i) xs;
-  old_is = subst (λ (y : A). xs ≡ take i xs ++ y ∷ drop (suc i) xs) (sym is)
-      (sym (set-get_or xs i x) ∙ set_split xs i (slice_index_or xs i x) within);
-  new_is = refl;
-}
-
--- so is the row of a place that was found in a list that is the same
-pub row_taken : {A B : Type 0} (f : A → B) (b : B) (seen xs new : List A) (i : ℕ) (x : A) → seen ≡ xs
-    → (i < length seen) × ((d : A) → f (slice_index_or seen i d) ≡ b) → x ≡ slice_index_or xs i x → new ≡ take i xs ++ drop (suc i) xs
-    → (f x ≡ b) × TakesOut x xs new
-row_taken {A} f b seen xs new i x same found is rest =
-    let here = subst (λ (l : List A). (i < length l) × ((d : A) → f (slice_index_or l i d) ≡ b)) same found in
-    (ap f is ∙ here.1 x, subst (λ (l : List A). TakesOut x xs l) (sym rest) (taken_at xs i x here.0 is))
 
 -- what is taken out of a list is taken out of the list of what a function gives
 pub taken_mapped : {A B : Type 0} (f : A → B) (x : A) (old new : List A) → TakesOut x old new → TakesOut (f x) (map f old) (map f new)

@@ -19,12 +19,14 @@ use Rattle.slot_history.specs.State.{Register, State}
 use Rattle.slot_data.specs.Holding.{Hands, Holding}
 use Rattle.slot_data.specs.Standing.{DataStands}
 use Rattle.slot_data.proofs.HandsLemmas.{numbers_are_drawn}
+use Rattle.slot_rules.specs.Rules.{longest_for, rule_for}
+use Rattle.slot_rules.specs.declared.site.Drawn.{Drawn}
+use Rattle.slot_rules.specs.declared.site.Site.{Site}
 use Rattle.slot_core.specs.Causes.{LookCause}
 use Rattle.slot_core.specs.Hands.{HandsStay}
 use Rattle.slot_core.specs.Looked.{CallsForward, WritesFirst}
 use Rattle.slot_core.specs.Peeking.{GivesBy, GivesOver, IsRefusal, KnownContent, TurnsAt}
 use Rattle.slot_core.specs.Pen.{WritesDown, has_late, kept_entry}
-use Rattle.slot_core.specs.Rules.{longest_for, rule_for}
 use Rattle.slot_core.specs.Sections.{ShowsContent}
 use Rattle.slot_core.specs.Settling.{Settled, SettledOn, numbers_at}
 use Rattle.slot_core.specs.Standing.{SlotStands}
@@ -34,8 +36,6 @@ use Rattle.slot_core.specs.Views.{SlotNumbers, last_of}
 use Rattle.slot_core.specs.declared.fault.SlotFault.{SlotFault}
 use Rattle.slot_core.specs.declared.fault.SlotFault.TheVariants.{Key as KeyFault}
 use Rattle.slot_core.specs.declared.peeking.Peeked.{Peeked}
-use Rattle.slot_core.specs.declared.site.Drawn.{Drawn}
-use Rattle.slot_core.specs.declared.site.Site.{Site}
 use Rattle.slot_core.specs.declared.stub.Stub.{Stub}
 use Rattle.slot_core.proofs.CauseLemmas.{writes_have_memory}
 use Rattle.slot_core.proofs.LaneLemmas.{have_after_look}

@@ -22,21 +22,22 @@ use Rattle.slot_data.specs.Disks.{Disks}
 use Rattle.slot_data.specs.Holding.{Hands, Holding}
 use Rattle.slot_data.specs.Moves.{LanesStand}
 use Rattle.slot_data.specs.Standing.{DataStands}
+use Rattle.slot_rules.specs.Deeds.{call_of, name_of}
+use Rattle.slot_rules.specs.Owning.{IsOwnChange, own_seq}
+use Rattle.slot_rules.specs.Planning.{IsGoneBy}
+use Rattle.slot_rules.specs.Plans.{IsTale}
+use Rattle.slot_rules.specs.declared.commit.Commit.TheVariants.{Key, MakeBucket, SetMode}
+use Rattle.slot_rules.specs.declared.commit.Commit.{Commit}
+use Rattle.slot_rules.specs.declared.owning.Own.{Own}
+use Rattle.slot_rules.specs.declared.site.Drawn.{Drawn}
+use Rattle.slot_rules.specs.declared.site.Site.{Site}
+use Rattle.slot_rules.specs.declared.telling.Tale.{Tale}
+use Rattle.slot_rules.specs.declared.telling.Told.{Told}
 use Rattle.slot_core.specs.Carrying.{FitsPut, Lands, kept_with}
 use Rattle.slot_core.specs.CarryingOut.{IsOwnOver}
-use Rattle.slot_core.specs.Committing.{MayCommitData, call_of, name_of}
-use Rattle.slot_core.specs.Owning.{IsOwnChange, own_seq}
-use Rattle.slot_core.specs.Planning.{IsGoneBy}
-use Rattle.slot_core.specs.Plans.{IsTale}
+use Rattle.slot_core.specs.Committing.{MayCommitData}
 use Rattle.slot_core.specs.Settling.{SettledOn, numbers_at}
 use Rattle.slot_core.specs.Views.{last_of}
-use Rattle.slot_core.specs.declared.commit.Commit.{Commit}
-use Rattle.slot_core.specs.declared.commit.Commit.TheVariants.{Key, MakeBucket, SetMode}
-use Rattle.slot_core.specs.declared.owning.Own.{Own}
-use Rattle.slot_core.specs.declared.site.Drawn.{Drawn}
-use Rattle.slot_core.specs.declared.site.Site.{Site}
-use Rattle.slot_core.specs.declared.telling.Tale.{Tale}
-use Rattle.slot_core.specs.declared.telling.Told.{Told}
 use Rattle.slot_core.proofs.DeedLemmas.{deed_brings, deed_commits}
 use Rattle.slot_core.proofs.DeemingLemmas.{Deeming, IsDeemed, NumberIs}
 use Rattle.slot_core.proofs.LandLemmas.{may_end}

@@ -13,22 +13,23 @@ use Rattle.register_caller.specs.Steps.{FilesStay}
 use Rattle.slot_history.specs.Standing.{Flying, Records}
 use Rattle.slot_history.specs.State.{State}
 use Rattle.slot_data.specs.Holding.{Holding}
+use Rattle.slot_rules.specs.Deeds.{call_of, name_of}
+use Rattle.slot_rules.specs.Owning.{IsOwnChange, again_takes, own_seq}
+use Rattle.slot_rules.specs.Planning.{DoesOver, IsGoneBy, adds_of}
+use Rattle.slot_rules.specs.Plans.{IsPlan, IsTale}
+use Rattle.slot_rules.specs.declared.commit.Commit.{Commit}
+use Rattle.slot_rules.specs.declared.owning.Own.{Own}
+use Rattle.slot_rules.specs.declared.plans.Plan.{Plan}
+use Rattle.slot_rules.specs.declared.ready.Ready.{Ready}
+use Rattle.slot_rules.specs.declared.site.Drawn.{Drawn}
+use Rattle.slot_rules.specs.declared.site.Site.{Site}
+use Rattle.slot_rules.specs.declared.telling.Tale.{Tale}
 use Rattle.slot_core.specs.Carrying.{DeedLeaves, EntryLeaves, FitsPut, IsTold, Lands, answer_told, deed_told, entry_told, kept_with}
-use Rattle.slot_core.specs.Committing.{MayCommitData, ShowsTrash, call_of, name_of}
+use Rattle.slot_core.specs.Committing.{MayCommitData, ShowsTrash}
 use Rattle.slot_core.specs.Looked.{DraftFits}
-use Rattle.slot_core.specs.Owning.{IsOwnChange, again_takes, own_seq}
-use Rattle.slot_core.specs.Planning.{DoesOver, IsGoneBy, adds_of}
-use Rattle.slot_core.specs.Plans.{IsPlan, IsTale}
 use Rattle.slot_core.specs.Settling.{IsReady, SettledOn, numbers_at}
 use Rattle.slot_core.specs.Standing.{SlotStands}
 use Rattle.slot_core.specs.declared.carrying.Outcome.{Outcome}
-use Rattle.slot_core.specs.declared.commit.Commit.{Commit}
-use Rattle.slot_core.specs.declared.looked.Ready.{Ready}
-use Rattle.slot_core.specs.declared.owning.Own.{Own}
-use Rattle.slot_core.specs.declared.plans.Plan.{Plan}
-use Rattle.slot_core.specs.declared.site.Drawn.{Drawn}
-use Rattle.slot_core.specs.declared.site.Site.{Site}
-use Rattle.slot_core.specs.declared.telling.Tale.{Tale}
 
 -- an own change can be written: its draft fits the set, and its ballot is one of the next three numbers
 pub record OwnFits (set : SetPlan) (seq : ℕ) (own : Own) : Type 0 where

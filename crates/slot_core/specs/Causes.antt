@@ -13,7 +13,7 @@ use Rattle.register_core.specs.declared.faults.QuorumFault.TheVariants.{WriteQuo
 use Rattle.register_core.specs.declared.looked.Looked.{Looked}
 use Rattle.register_caller.specs.Settling.{WritesAgain}
 use Rattle.register_caller.specs.Steps.{FilesStay, LookIsRefused}
-use Rattle.slot_core.specs.Rules.{longest_for, rule_for}
+use Rattle.slot_rules.specs.Rules.{longest_for, rule_for}
 use Rattle.slot_core.specs.Views.{SlotNumbers, quorum_of}
 use Rattle.slot_core.specs.declared.fault.SlotFault.{SlotFault}
 use Rattle.slot_core.specs.declared.fault.SlotFault.TheVariants.{Quorum, Key, SeqSpent, AuditFailed, NoMemory, NotInFlight}

@@ -22,19 +22,19 @@ use Rattle.register_core.specs.declared.faults.QuorumFault.{QuorumFault}
 use Rattle.register_core.specs.declared.faults.QuorumFault.TheVariants.{NoMemory as NoMemoryQuorum}
 use Rattle.register_core.specs.declared.looked.Looked.{Looked}
 use Rattle.register_caller.specs.Steps.{FilesStay, WritesBoth}
+use Rattle.slot_rules.specs.Deeds.{call_of, name_of}
+use Rattle.slot_rules.specs.Owning.{IsOwnId, own_seq}
+use Rattle.slot_rules.specs.Planning.{DoesOver, adds_of}
+use Rattle.slot_rules.specs.Rules.{key_fault}
+use Rattle.slot_rules.specs.declared.commit.Commit.TheVariants.{Key, MakeBucket, SetMode}
+use Rattle.slot_rules.specs.declared.commit.Commit.{Commit}
+use Rattle.slot_rules.specs.declared.commit.Committed.{Committed}
+use Rattle.slot_rules.specs.declared.rules.TheConstants.{BUCKET_BYTES, KEY_BYTES}
+use Rattle.slot_rules.specs.declared.site.Site.{Site}
 use Rattle.slot_core.specs.Causes.{Concluded, LookCause, LookGave}
-use Rattle.slot_core.specs.Committing.{call_of, name_of}
-use Rattle.slot_core.specs.Owning.{IsOwnId, own_seq}
-use Rattle.slot_core.specs.Planning.{DoesOver, adds_of}
-use Rattle.slot_core.specs.Rules.{key_fault}
 use Rattle.slot_core.specs.Views.{SlotNumbers}
-use Rattle.slot_core.specs.declared.commit.Commit.{Commit}
-use Rattle.slot_core.specs.declared.commit.Commit.TheVariants.{Key, MakeBucket, SetMode}
-use Rattle.slot_core.specs.declared.commit.Committed.{Committed}
 use Rattle.slot_core.specs.declared.fault.SlotFault.{SlotFault}
 use Rattle.slot_core.specs.declared.fault.SlotFault.TheVariants.{Quorum, Key as KeyFault, SeqSpent, AuditFailed, NoMemory, NotInFlight}
-use Rattle.slot_core.specs.declared.rules.TheConstants.{BUCKET_BYTES, KEY_BYTES}
-use Rattle.slot_core.specs.declared.site.Site.{Site}
 
 -- where a slot does a section
 abbrev pub site_of : SlotNumbers → Site

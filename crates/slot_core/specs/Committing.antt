@@ -1,74 +1,31 @@
--- What a commit does: the deeds, what their entries say, what they bring, and what they leave in the slot's memory.
-use Rattle.std.specs.Prelude.{◌≡◌, ◌⊎◌, ⊤, ℕ, List, [], ◌++◌, Option, Some, None, MatchOption, Result, Ok, Err, Contains, IsUtf8, length, ◌≤◌}
+-- What a commit does: what its entry says, and what it leaves in the slot's memory.
+use Rattle.std.specs.Prelude.{◌≡◌, ◌⊎◌, ⊤, ℕ, List, [], ◌++◌, Option, Some, None, MatchOption, Result, Ok, Err, Contains, length, ◌≤◌}
 use Rattle.stamp_id.specs.declared.stamp.ChangeId.{ChangeId}
 use Rattle.stamp_id.specs.declared.version.VersionId.{VersionId}
 use Rattle.call_types.specs.Refusals.{refusal_of}
-use Rattle.call_types.specs.declared.act.Act.{Act}
-use Rattle.call_types.specs.declared.act.Act.TheVariants as act
-use Rattle.call_types.specs.declared.act.Brief.{Brief}
 use Rattle.call_types.specs.declared.act.Brief.TheVariants as brief
 use Rattle.call_types.specs.declared.reply.Reply.TheVariants.{Refused as RefusedReply}
 use Rattle.audit_trail.specs.declared.entry.Deed.{Deed}
 use Rattle.audit_trail.specs.declared.entry.Deed.TheVariants.{Done, Refused, Kept}
 use Rattle.audit_trail.specs.declared.entry.Entry.{Entry}
-use Rattle.bucket_book.specs.Step.{IsLawful as IsLawfulBucketAct}
-use Rattle.bucket_book.specs.declared.step.BucketAct.TheVariants as bucket
 use Rattle.register_core.specs.declared.faults.QuorumFault.{QuorumFault}
 use Rattle.register_core.specs.declared.faults.QuorumFault.TheVariants.{ReadQuorum, WriteQuorum, Undecided, NoMemory as NoMemoryQuorum}
 use Rattle.version_list.specs.Gone.{gone_ids}
-use Rattle.version_list.specs.Lawful.{IsLawful as IsLawfulAct}
 use Rattle.version_list.specs.declared.state.KeyState.{KeyState}
 use Rattle.slot_history.specs.Contents.{NamedData, SpellsKey}
-use Rattle.slot_history.specs.Names.{bucket_name, key_name}
+use Rattle.slot_history.specs.Names.{key_name}
 use Rattle.slot_history.specs.Standing.{Flying}
 use Rattle.slot_history.specs.State.{State, TakesOut}
 use Rattle.slot_data.specs.Bringing.{GoOn, with_gone}
 use Rattle.slot_data.specs.Disks.{Disks}
 use Rattle.slot_data.specs.Holding.{Hands, Holding, IsInFlight}
-use Rattle.slot_core.specs.declared.commit.Commit.{Commit}
-use Rattle.slot_core.specs.declared.commit.Commit.TheVariants.{Key, MakeBucket, SetMode}
-use Rattle.slot_core.specs.declared.commit.Committed.{Committed}
+use Rattle.slot_rules.specs.Deeds.{brings_of, call_of, name_of}
+use Rattle.slot_rules.specs.declared.commit.Commit.TheVariants.{Key, MakeBucket, SetMode}
+use Rattle.slot_rules.specs.declared.commit.Commit.{Commit}
+use Rattle.slot_rules.specs.declared.commit.Committed.{Committed}
 use Rattle.slot_core.specs.declared.fault.SlotFault.{SlotFault}
 use Rattle.slot_core.specs.declared.fault.SlotFault.TheVariants.{Quorum, Key as KeyFault, SeqSpent, AuditFailed, NoMemory, NotInFlight}
 use Rattle.slot_core.specs.declared.handles.Flight.{Flight}
-
--- the register that a deed is about
-abbrev pub name_of : Commit → List ℕ
-name_of (Key at mode act) = key_name at
-name_of (MakeBucket bucket) = bucket_name bucket
-name_of (SetMode bucket mode) = bucket_name bucket
-
--- the call that its entry tells, with the change that it drew, if it drew one
-abbrev pub call_of : Commit → Option ChangeId → ℕ → Brief
-call_of (Key at mode act) change now = brief.Change at mode act change now
-call_of (MakeBucket bucket) change now = brief.MakeBucket bucket change now
-call_of (SetMode bucket mode) change now = brief.SetMode bucket mode change now
-
--- the data that an act brings, which was put under an id of its own
-abbrev pub act_brings : Act → Option NamedData
-act_brings (act.Put data_id print size md5 kind) = Some (record { id = data_id; print = print; size = size })
-act_brings (act.Delete pick) = None
-act_brings (act.Create kind) = None
-act_brings (act.Complete upload parts data_id print size md5) = Some (record { id = data_id; print = print; size = size })
-act_brings (act.Abort upload) = None
-
--- the data that a deed brings
-abbrev pub brings_of : Commit → Option NamedData
-brings_of (Key at mode act) = act_brings act
-brings_of (MakeBucket bucket) = None
-brings_of (SetMode bucket mode) = None
-
--- a deed can be committed: its act is lawful
-abbrev pub IsLawfulDeed : Commit → Type 0
-IsLawfulDeed (Key at mode act) = IsLawfulAct act
-IsLawfulDeed (MakeBucket name) = IsLawfulBucketAct bucket.Make
-IsLawfulDeed (SetMode name mode) = IsLawfulBucketAct (bucket.SetMode mode)
-
--- the texts of its register's name are UTF-8
-abbrev pub IsNamedDeed : Commit → Type 0
-IsNamedDeed (Key at mode act) = IsUtf8 at.bucket × IsUtf8 at.key
-IsNamedDeed (MakeBucket bucket) = IsUtf8 bucket
-IsNamedDeed (SetMode bucket mode) = IsUtf8 bucket
 
 -- a put's flight comes with a deed that brings its data, and with no other
 abbrev pub FitsFlight : Commit → Option Flight → Type 0

@@ -10,21 +10,22 @@ use Rattle.register_caller.specs.Steps.{FilesStay}
 use Rattle.slot_history.specs.Standing.{Flying, Records}
 use Rattle.slot_history.specs.State.{State}
 use Rattle.slot_data.specs.Holding.{Holding}
+use Rattle.slot_rules.specs.Deeds.{name_of}
+use Rattle.slot_rules.specs.Owning.{IsDraftable, again_takes}
+use Rattle.slot_rules.specs.Planning.{most_for}
+use Rattle.slot_rules.specs.Plans.{IsPlan}
+use Rattle.slot_rules.specs.declared.commit.Commit.{Commit}
+use Rattle.slot_rules.specs.declared.plans.Plan.{Plan}
+use Rattle.slot_rules.specs.declared.ready.Ready.{Ready}
+use Rattle.slot_rules.specs.declared.site.Drawn.{Drawn}
+use Rattle.slot_rules.specs.declared.site.Site.{Site}
 use Rattle.slot_core.specs.Carrying.{CallsCarry, EntryLeaves, FitsPut, Lands, answer_told, entry_told, kept_with}
-use Rattle.slot_core.specs.Committing.{MayCommitData, ShowsTrash, name_of}
+use Rattle.slot_core.specs.Committing.{MayCommitData, ShowsTrash}
 use Rattle.slot_core.specs.Looked.{FirstFits}
-use Rattle.slot_core.specs.Owning.{IsDraftable, again_takes}
-use Rattle.slot_core.specs.Planning.{most_for}
-use Rattle.slot_core.specs.Plans.{IsPlan}
 use Rattle.slot_core.specs.Settling.{IsReady, numbers_at}
 use Rattle.slot_core.specs.Standing.{SlotStands}
 use Rattle.slot_core.specs.declared.carrying.Outcome.{Outcome}
 use Rattle.slot_core.specs.declared.carrying.Outcome.TheVariants.{Kept, LacksMemory}
-use Rattle.slot_core.specs.declared.commit.Commit.{Commit}
-use Rattle.slot_core.specs.declared.looked.Ready.{Ready}
-use Rattle.slot_core.specs.declared.plans.Plan.{Plan}
-use Rattle.slot_core.specs.declared.site.Drawn.{Drawn}
-use Rattle.slot_core.specs.declared.site.Site.{Site}
 use Rattle.drive_base.specs.declared.drive.TheConstants.{LONGEST_NAME}
 
 -- a refusal of the look, where want of memory is told as that alone

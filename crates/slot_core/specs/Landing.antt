@@ -8,12 +8,12 @@ use Rattle.audit_trail.specs.declared.entry.Deed.TheVariants.{Kept as KeptDeed}
 use Rattle.audit_trail.specs.declared.entry.Entry.{Entry}
 use Rattle.slot_history.specs.State.{TakesOut}
 use Rattle.slot_data.specs.declared.rows.FlightRow.{FlightRow}
+use Rattle.slot_rules.specs.declared.commit.Commit.{Commit}
+use Rattle.slot_rules.specs.declared.commit.Committed.{Committed}
 use Rattle.slot_core.specs.Carrying.{FitsPut, deed_told}
 use Rattle.slot_core.specs.Committing.{NothingBegun}
 use Rattle.slot_core.specs.declared.carrying.Outcome.{Outcome}
 use Rattle.slot_core.specs.declared.carrying.Outcome.TheVariants.{Begun, Done, Kept, LacksMemory}
-use Rattle.slot_core.specs.declared.commit.Commit.{Commit}
-use Rattle.slot_core.specs.declared.commit.Committed.{Committed}
 use Rattle.slot_core.specs.declared.fault.SlotFault.{SlotFault}
 use Rattle.slot_core.specs.declared.fault.SlotFault.TheVariants.{Key as KeyFault, NotInFlight}
 use Rattle.slot_core.specs.declared.handles.Flight.{Flight}

@@ -1,7 +1,6 @@
 pub mod Causes
 pub mod Committing
 pub mod Entering
-pub mod Fields
 pub mod Gathering
 pub mod Hands
 pub mod Life
@@ -11,18 +10,13 @@ pub mod Opening
 pub mod Sections
 pub mod Standing
 pub mod Stubs
-pub mod Taking
 pub mod Turning
 pub mod Views
 pub mod Looked
 pub mod Peeking
 pub mod Pen
 pub mod Reading
-pub mod Rules
 pub mod Settling
-pub mod Planning
-pub mod Owning
-pub mod Plans
 pub mod Carrying
 pub mod CarryingOut
 pub mod CommitCauses

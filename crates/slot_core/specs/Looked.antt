@@ -8,11 +8,11 @@ use Rattle.register_core.specs.Found.{content_of}
 use Rattle.register_core.specs.declared.drafts.Draft.{Draft}
 use Rattle.register_core.specs.declared.faults.QuorumFault.{QuorumFault}
 use Rattle.register_caller.specs.Steps.{LookIsRefused, WritesBoth}
+use Rattle.slot_rules.specs.declared.ready.Ready.{Ready}
+use Rattle.slot_rules.specs.declared.site.Drawn.{Drawn}
+use Rattle.slot_rules.specs.declared.site.Site.{Site}
 use Rattle.slot_core.specs.Causes.{NotForwarded}
 use Rattle.slot_core.specs.Settling.{IsReady, numbers_at}
-use Rattle.slot_core.specs.declared.looked.Ready.{Ready}
-use Rattle.slot_core.specs.declared.site.Drawn.{Drawn}
-use Rattle.slot_core.specs.declared.site.Site.{Site}
 use Rattle.drive_base.specs.declared.drive.TheConstants.{LONGEST_NAME}
 
 -- a draft can be written on a set's lanes

@@ -1,11 +1,11 @@
 -- How a commit begins.
 use Rattle.std.specs.Prelude.{◌≡◌, ℕ, List, None, Err, string_bytes}
+use Rattle.slot_rules.specs.declared.site.Site.{Site}
 use Rattle.slot_core.specs.Pen.{IsKeptOf, IsRefusedTurn}
 use Rattle.slot_core.specs.declared.commits.Opening.{Opening}
 use Rattle.slot_core.specs.declared.fault.SlotFault.TheVariants.{AuditFailed, NoMemory as LacksMemory}
 use Rattle.slot_core.specs.declared.pen.ReserveFault.{ReserveFault}
 use Rattle.slot_core.specs.declared.pen.ReserveFault.TheVariants.{Failed, NoMemory}
-use Rattle.slot_core.specs.declared.site.Site.{Site}
 use Rattle.slot_core.specs.declared.stub.Turn.{Turn}
 
 -- the name of a register, and the entries of a section about it that say that nothing was done

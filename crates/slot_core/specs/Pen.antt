@@ -4,11 +4,11 @@ use Rattle.fault_base.specs.Counts.{Rose}
 use Rattle.stamp_id.specs.declared.stamp.ChangeId.{ChangeId}
 use Rattle.audit_trail.specs.declared.entry.Deed.TheVariants.{Kept}
 use Rattle.audit_trail.specs.declared.entry.Entry.{Entry}
+use Rattle.slot_rules.specs.declared.site.Site.{Site}
 use Rattle.slot_core.specs.declared.fault.SlotFault.{SlotFault}
 use Rattle.slot_core.specs.declared.pen.Entries.{Entries}
 use Rattle.slot_core.specs.declared.pen.ReserveFault.{ReserveFault}
 use Rattle.slot_core.specs.declared.pen.ReserveFault.TheVariants.{Failed, NoMemory}
-use Rattle.slot_core.specs.declared.site.Site.{Site}
 use Rattle.slot_core.specs.declared.stub.Stub.{Stub}
 use Rattle.slot_core.specs.declared.stub.Turn.{Turn}
 

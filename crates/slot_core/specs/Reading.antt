@@ -27,10 +27,12 @@ use Rattle.slot_history.specs.State.{State}
 use Rattle.slot_data.specs.Holding.{Pinned}
 use Rattle.slot_data.specs.Rows.{pinned_of}
 use Rattle.slot_data.specs.declared.rows.PinRow.{PinRow}
+use Rattle.slot_rules.specs.Rules.{longest_for, rule_for}
+use Rattle.slot_rules.specs.declared.site.Drawn.{Drawn}
+use Rattle.slot_rules.specs.declared.site.Site.{Site}
 use Rattle.slot_core.specs.Causes.{Completes, LookCause, LookGave}
 use Rattle.slot_core.specs.Looked.{CallsForward, late_of}
 use Rattle.slot_core.specs.Pen.{WritesDown, has_late}
-use Rattle.slot_core.specs.Rules.{longest_for, rule_for}
 use Rattle.slot_core.specs.Sections.{IsReadPin}
 use Rattle.slot_core.specs.Settling.{IsReady, SettlesAfter, numbers_at}
 use Rattle.slot_core.specs.Views.{SlotNumbers}
@@ -43,8 +45,6 @@ use Rattle.slot_core.specs.declared.pen.Entries.{Entries}
 use Rattle.slot_core.specs.declared.reading.ReadPlan.{ReadPlan}
 use Rattle.slot_core.specs.declared.reading.ReadPlan.TheVariants.{Gives, Refuses}
 use Rattle.slot_core.specs.declared.reading.ReadStart.{ReadStart}
-use Rattle.slot_core.specs.declared.site.Drawn.{Drawn}
-use Rattle.slot_core.specs.declared.site.Site.{Site}
 use Rattle.slot_core.specs.declared.stub.Stub.{Stub}
 use Rattle.slot_core.specs.declared.stub.Turn.{Turn}
 

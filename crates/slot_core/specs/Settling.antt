@@ -27,21 +27,17 @@ use Rattle.slot_history.specs.Waiting.{AreLate}
 use Rattle.slot_data.specs.Disks.{Disks}
 use Rattle.slot_data.specs.Holding.{Hands, Holding}
 use Rattle.slot_data.specs.Standing.{DataStands}
-use Rattle.slot_core.specs.Rules.{IsRegisterName}
+use Rattle.slot_rules.specs.Owning.{base_after}
+use Rattle.slot_rules.specs.Rules.{IsRegisterName}
+use Rattle.slot_rules.specs.declared.ready.Ready.{Ready}
+use Rattle.slot_rules.specs.declared.site.Drawn.{Drawn}
+use Rattle.slot_rules.specs.declared.site.Site.{Site}
 use Rattle.slot_core.specs.Standing.{SlotStands}
 use Rattle.slot_core.specs.Views.{SlotNumbers, last_of}
-use Rattle.slot_core.specs.declared.looked.Ready.{Ready}
-use Rattle.slot_core.specs.declared.site.Drawn.{Drawn}
-use Rattle.slot_core.specs.declared.site.Site.{Site}
 
 -- the numbers of a slot where a section is done, when so many were drawn
 abbrev pub numbers_at : Site → Drawn → SlotNumbers
 numbers_at site drawn = record { set = site.set; index = site.index; term = site.term; turns = site.turns; seq = drawn.seq; count = drawn.count }
-
--- the base on which a section works: that of its look, or the one that completing what was pending leaves
-abbrev pub base_after : Base → Option Draft → Base
-base_after base None = base
-base_after base (Some draft) = draft.value
 
 -- a section's first draft is that of what its look found pending, under this ballot
 abbrev pub FirstIs : Looked → Option Next → Ballot → Option Draft → Type 0

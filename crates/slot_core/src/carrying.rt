@@ -8,16 +8,13 @@ ghost use Rattle.slot_core.specs.CarryingOut.{CarriesAfter, PlanFits, TellsAfter
 ghost use Rattle.slot_core.specs.Committing.{GoneByAnswer};
 ghost use Rattle.slot_core.specs.Looked.{DraftFits, FirstFits};
 
-use crate::looked::{Ready, forward};
-use crate::owning::Own;
-use crate::plans::Plan;
-use crate::site::{Drawn, Site};
-use crate::telling::Tale;
+use crate::looked::forward;
 use drive_base::Drive;
 use register_caller::write_both;
 use register_core::QuorumFault;
 use slot_data::{flight_laws, hands_laws, own_data_laws};
 use slot_history::{own_laws, resting_laws};
+use slot_rules::{Drawn, Own, Plan, Ready, Site, Tale, add_gone};
 use stamp_id::{ChangeId, VersionId};
 use vote_core::fresh_laws;
 
@@ -68,11 +65,16 @@ pub(crate) fn carry_out<D: Drive>(
     flight_laws();
     hands_laws();
     let mut ready = ready;
-    let Plan { tale, own, gone } = plan;
     let late = match forward(lanes, site, name, &mut ready, drawn) {
         Ok(late) => late,
-        Err(fault) => return Outcome::Kept(fault),
+        Err(fault) => {
+            drop(ready);
+            drop(plan);
+            return Outcome::Kept(fault);
+        }
     };
+    drop(ready);
+    let Plan { tale, own, gone } = plan;
     match own {
         None => Outcome::Done(tale, late),
         Some(own) => write_own(lanes, site, own, tale, late, &gone, drawn, trash),
@@ -122,17 +124,5 @@ fn write_own<D: Drive>(
             Outcome::Done(tale, late)
         }
         Err(fault) => Outcome::Begun(tale, change, late, fault),
-    }
-}
-
-/// Puts data that is gone into the trash. It takes no memory.
-fn add_gone(trash: &mut Vec<VersionId>, gone: &[VersionId])
-    requires { vec_len trash.old + length gone.now ≤ vec_capacity trash.old }
-    ensures items { trash.new.items ≡ trash.old.items ++ gone.now }
-    ensures len { vec_len trash.new ≡ vec_len trash.old + length gone.now }
-    ensures capacity { vec_capacity trash.new ≡ vec_capacity trash.old }
-{
-    for id in gone {
-        trash.push_reserved(*id);
     }
 }

@@ -7,9 +7,10 @@ ghost use Rattle.register_caller.specs.Steps.{FilesStay};
 ghost use Rattle.version_list.specs.State.{IsMoment};
 ghost use Rattle.slot_history.specs.Standing.{Flying};
 ghost use Rattle.slot_data.specs.Holding.{Holding};
+ghost use Rattle.slot_rules.specs.Deeds.{IsLawfulDeed, IsNamedDeed, name_of};
 ghost use Rattle.slot_core.specs.Carrying.{FitsPut, Lands, kept_with};
 ghost use Rattle.slot_core.specs.CommitCauses.{CommitCause, deed_in};
-ghost use Rattle.slot_core.specs.Committing.{ChecksFlight, CommitHolds, FitsFlight, GoneByAnswer, IsLawfulDeed, IsNamedDeed, MayCommitData, SaysCommit, ShowsTrash, name_of};
+ghost use Rattle.slot_core.specs.Committing.{ChecksFlight, CommitHolds, FitsFlight, GoneByAnswer, MayCommitData, SaysCommit, ShowsTrash};
 ghost use Rattle.slot_core.specs.Landing.{ChecksLanding, FitsLanding, flight_put, handed, put_of};
 ghost use Rattle.slot_core.specs.Opened.{IsOpening, IsUnreserved};
 ghost use Rattle.slot_core.specs.Peeking.{TurnsAt};
@@ -22,7 +23,6 @@ ghost use Rattle.slot_core.specs.declared.fault.SlotFault.TheVariants.{NotInFlig
 ghost use Rattle.slot_core.specs.declared.landing.Landing.TheVariants.{Missing};
 ghost use Rattle.drive_base.specs.declared.drive.TheConstants.{LONGEST_NAME};
 
-use crate::commit::{Commit, Committed};
 use crate::committing::commit_register;
 use crate::concluding::conclude;
 use crate::fault::SlotFault;
@@ -32,7 +32,6 @@ use crate::numbers::{LAST_COUNT, LAST_SEQ};
 use crate::pen::{
     Entries, ReserveFault, audit_failed, kept_entries, no_memory, refuse, reserve, spent_turn,
 };
-use crate::site::{Drawn, Site};
 use crate::slot::Slot;
 use crate::stub::Turn;
 use audit_trail::Audit;
@@ -40,6 +39,7 @@ use drive_base::Drive;
 use fault_base::NoMemory;
 use slot_data::{flight_laws, hands_laws};
 use slot_history::{bucket_name, key_name, resting_laws};
+use slot_rules::{Commit, Committed, Drawn, Site};
 use stamp_id::VersionId;
 use std::alloc::Global;
 
@@ -145,13 +145,10 @@ fn open_entry<A: Audit>(
         Ok(name) => name,
         Err(_) => return Err(ReserveFault::NoMemory),
     };
-    let entries = match kept_entries(alloc, site, name.as_str()) {
-        Ok(entries) => entries,
-        Err(_) => return Err(ReserveFault::NoMemory),
-    };
-    match reserve(audit) {
-        Ok(()) => Ok(Opening { name, entries }),
-        Err(why) => Err(why),
+    reserve(audit)?;
+    match kept_entries(alloc, site, name.as_str()) {
+        Ok(entries) => Ok(Opening { name, entries }),
+        Err(_) => Err(ReserveFault::NoMemory),
     }
 }
 

@@ -12,25 +12,20 @@ ghost use Rattle.version_list.specs.NamesId.{names_id};
 ghost use Rattle.version_list.specs.State.{IsCanonical, IsMoment};
 ghost use Rattle.version_list.specs.declared.state.KeyState.{KeyState};
 ghost use Rattle.slot_history.specs.Contents.{SpellsKey};
+ghost use Rattle.slot_rules.specs.Deeds.{IsLawfulDeed, name_of};
+ghost use Rattle.slot_rules.specs.Owning.{IsOwnId, again_takes};
+ghost use Rattle.slot_rules.specs.Planning.{IsBucketDeed, IsPlanned};
+ghost use Rattle.slot_rules.specs.declared.commit.Commit.{Commit};
 ghost use Rattle.slot_core.specs.Carrying.{IsTold, answer_told, deed_told};
 ghost use Rattle.slot_core.specs.CommitCauses.{CommitCause};
-ghost use Rattle.slot_core.specs.Committing.{GoneByAnswer, IsLawfulDeed, name_of};
+ghost use Rattle.slot_core.specs.Committing.{GoneByAnswer};
 ghost use Rattle.slot_core.specs.Finishing.{CommitLeaves, FinishCalls, FinishLeaves, IsKeptBy, ReadyFits};
-ghost use Rattle.slot_core.specs.Owning.{IsOwnId, again_takes};
-ghost use Rattle.slot_core.specs.Planning.{IsBucketDeed, IsPlanned};
 ghost use Rattle.slot_core.specs.Settling.{numbers_at};
-ghost use Rattle.slot_core.specs.declared.commit.Commit.{Commit};
 ghost use Rattle.drive_base.specs.declared.drive.TheConstants.{LONGEST_NAME};
 
 use crate::carrying::{Outcome, carry_out};
-use crate::commit::Commit;
-use crate::looked::{Ready, look_at};
+use crate::looked::look_at;
 use crate::numbers::{LAST_COUNT, LAST_SEQ};
-use crate::owning::{id_over, last_over, own_ids};
-use crate::planning::{Planned, plan_bucket, plan_key};
-use crate::plans::plan_of;
-use crate::rules::{BucketRule, KeyRule};
-use crate::site::{Drawn, Site};
 use bucket_book::BucketAct;
 use call_types::{Act, Mode};
 use drive_base::Drive;
@@ -38,6 +33,10 @@ use fault_base::NoMemory;
 use register_core::QuorumFault;
 use slot_data::{flight_laws, hands_laws};
 use slot_history::resting_laws;
+use slot_rules::{
+    BucketRule, Commit, Drawn, KeyRule, Planned, Ready, Site, id_over, last_over, own_ids,
+    plan_bucket, plan_key, plan_of,
+};
 use stamp_id::VersionId;
 use std::alloc::Global;
 use version_list::KeyState;
@@ -101,11 +100,18 @@ fn finish<D: Drive>(
     let last = last_over(drawn, &ready);
     let plan = match plan_of(alloc, site, last, &ready, deed, put, id, now, planned) {
         Ok(plan) => plan,
-        Err(_) => return Outcome::LacksMemory,
+        Err(_) => {
+            drop(ready);
+            return Outcome::LacksMemory;
+        }
     };
     match make_room(trash, plan.gone.len(), spare) {
         Ok(()) => {}
-        Err(_) => return Outcome::LacksMemory,
+        Err(_) => {
+            drop(ready);
+            drop(plan);
+            return Outcome::LacksMemory;
+        }
     }
     carry_out(lanes, site, name, ready, plan, drawn, trash)
 }
@@ -186,8 +192,13 @@ fn commit_key<D: Drive>(
     let id = id_over(&ids, &ready);
     let planned = match plan_read(alloc, &rule.state, mode, act, id, now) {
         Ok(planned) => planned,
-        Err(_) => return Outcome::LacksMemory,
+        Err(_) => {
+            drop(rule);
+            drop(ready);
+            return Outcome::LacksMemory;
+        }
     };
+    drop(rule);
     finish(
         alloc, lanes, site, name, ready, deed, put, id, now, planned, spare, drawn, trash,
     )
@@ -270,7 +281,10 @@ fn commit_bucket<D: Drive>(
     let id = id_over(&ids, &ready);
     let planned = match plan_bucket(alloc, &rule.row, act, now) {
         Ok(planned) => planned,
-        Err(_) => return Outcome::LacksMemory,
+        Err(_) => {
+            drop(ready);
+            return Outcome::LacksMemory;
+        }
     };
     finish(
         alloc, lanes, site, name, ready, deed, put, id, now, planned, spare, drawn, trash,

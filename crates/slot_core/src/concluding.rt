@@ -3,24 +3,23 @@
 ghost use Rattle.std.specs.Prelude.{◌≡◌, ◌≤◌, Some};
 ghost use Rattle.audit_trail.specs.Entries.{with_entry};
 ghost use Rattle.audit_trail.specs.declared.entry.Deed.TheVariants.{Done as DoneDeed, Refused as RefusedDeed};
+ghost use Rattle.slot_rules.specs.declared.site.Drawn.{Drawn};
 ghost use Rattle.slot_core.specs.Carrying.{answer_of, answer_told};
 ghost use Rattle.slot_core.specs.Landing.{IsTwice, entry_from, entry_with, fault_of};
 ghost use Rattle.slot_core.specs.Pen.{WritesDown};
 ghost use Rattle.slot_core.specs.Settling.{numbers_at};
 ghost use Rattle.slot_core.specs.Stubs.{AuditHas, StubOfEntry, entry_of};
 ghost use Rattle.slot_core.specs.declared.fault.SlotFault.TheVariants.{Quorum};
-ghost use Rattle.slot_core.specs.declared.site.Drawn.{Drawn};
 ghost use Rattle.slot_core.specs.declared.stub.Stub.{Stub};
 
 use crate::carrying::Outcome;
-use crate::commit::Committed;
 use crate::fault::SlotFault;
 use crate::pen::{Entries, no_memory, refuse, write_down};
-use crate::site::Site;
 use crate::stub::Turn;
-use crate::telling::Tale;
 use audit_trail::{Audit, Deed, Entry};
+use call_types::Brief;
 use register_core::QuorumFault;
+use slot_rules::{Committed, Site, Tale, Told};
 use stamp_id::ChangeId;
 
 /// Writes down what came of a deed, and answers it.
@@ -46,7 +45,10 @@ pub(crate) fn conclude<A: Audit>(
             begun_turn(audit, site, entries, tale, change, late, fault)
         }
         Outcome::Kept(fault) => refuse(audit, site, entries, None, SlotFault::Quorum(fault)),
-        Outcome::LacksMemory => no_memory(),
+        Outcome::LacksMemory => {
+            drop(entries);
+            no_memory()
+        }
     }
 }
 
@@ -89,7 +91,10 @@ fn done_turn<A: Audit>(
             answer: Ok(Committed { done: reply }),
             stub: Some(write_down(audit, site, entries, late)),
         },
-        Some(why) => refuse(audit, site, entries, late, SlotFault::Key(why)),
+        Some(why) => {
+            drop(reply);
+            refuse(audit, site, entries, late, SlotFault::Key(why))
+        }
     }
 }
 
@@ -115,20 +120,31 @@ fn begun_turn<A: Audit>(
     let Tale {
         audit: first,
         stub: second,
-        ..
+        reply,
+        refused: _,
     } = tale;
+    drop(reply);
     let entries = with_deeds(
         entries,
         Deed::Refused {
             change,
-            call: first.call,
+            call: call_told(first),
         },
         Deed::Refused {
             change,
-            call: second.call,
+            call: call_told(second),
         },
     );
     refuse(audit, site, entries, late, SlotFault::Quorum(fault))
+}
+
+/// The call of what is told.
+fn call_told(told: Told) -> Brief
+    ensures { result ≡ told.call }
+{
+    let Told { call, reply } = told;
+    drop(reply);
+    call
 }
 
 /// Entries with other deeds.
@@ -146,10 +162,17 @@ fn with_deeds(entries: Entries, audit: Deed, stub: Deed) -> Entries
 fn with_deed(entry: Entry, deed: Deed) -> Entry
     ensures { result ≡ entry_with entry deed entry.late }
 {
+    let Entry {
+        ticket,
+        late,
+        name,
+        deed: before,
+    } = entry;
+    drop(before);
     Entry {
-        ticket: entry.ticket,
-        late: entry.late,
-        name: entry.name,
+        ticket,
+        late,
+        name,
         deed,
     }
 }

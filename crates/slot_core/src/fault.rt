@@ -5,7 +5,7 @@ use register_core::QuorumFault;
 use stamp_id::VersionId;
 
 /// Why a section is refused.
-#[derive(Clone, Copy, Debug, PartialEq, Eq)]
+#[derive(Clone, Copy, PartialEq, Eq)]
 pub enum SlotFault {
     /// The register refused it. Want of memory is told as `NoMemory`.
     Quorum(QuorumFault),

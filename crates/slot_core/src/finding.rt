@@ -21,15 +21,13 @@ ghost use Rattle.slot_core.specs.Turning.{Leaves};
 ghost use Rattle.drive_base.specs.declared.drive.TheConstants.{LONGEST_NAME};
 
 use crate::fault::SlotFault;
-use crate::looked::{Ready, forward, look_at};
+use crate::looked::{forward, look_at};
 use crate::numbers::{LAST_COUNT, LAST_SEQ};
 use crate::peeking::{Peeked, refusal};
 use crate::pen::{
     Entries, ReserveFault, audit_failed, kept_entries, no_memory, refuse, reserve, write_down,
 };
 use crate::reading::{ReadPlan, ReadStart, plan_read};
-use crate::rules::KeyRule;
-use crate::site::{Drawn, Site};
 use crate::stub::Turn;
 use audit_trail::Audit;
 use call_types::{Key, Mode, Pick};
@@ -38,6 +36,7 @@ use fault_base::NoMemory;
 use register_core::QuorumFault;
 use slot_data::{PinRow, pin_laws};
 use slot_history::key_name;
+use slot_rules::{Drawn, KeyRule, Ready, Site};
 use stamp_id::ChangeId;
 use std::alloc::Global;
 
@@ -84,14 +83,24 @@ fn look_and_plan<D: Drive>(
     };
     let ready = match look_at(alloc, lanes, disks, site, name, &mut rule, drawn) {
         Ok(ready) => ready,
-        Err(fault) => return Err(fault),
+        Err(fault) => {
+            drop(rule);
+            return Err(fault);
+        }
     };
     let Some(state) = &rule.state else {
         unreachable!()
     };
     match plan_read(alloc, site, name, at, mode, pick, state) {
-        Ok(plan) => Ok(Planned { ready, plan }),
-        Err(_) => Err(QuorumFault::NoMemory),
+        Ok(plan) => {
+            drop(rule);
+            Ok(Planned { ready, plan })
+        }
+        Err(_) => {
+            drop(rule);
+            drop(ready);
+            Err(QuorumFault::NoMemory)
+        }
     }
 }
 
@@ -221,8 +230,8 @@ fn prepare(
     ensures spare { OnOk result (vec_len pins.new < vec_capacity pins.new) }
 {
     let name = key_name(alloc, at)?;
-    let entries = kept_entries(alloc, site, name.as_str())?;
     pins.reserve(1)?;
+    let entries = kept_entries(alloc, site, name.as_str())?;
     Ok(Prepared { name, entries })
 }
 

@@ -1,19 +1,15 @@
 //! Puts that begin and are given up.
 
-ghost use Rattle.std.specs.Prelude.{◌≡◌, ◌↔◌, ◌+◌, ◌*◌, ◌<◌, ◌≤◌, ◌^◌, ℕ, All, IsSome, IsUtf8, MatchOption, length, slice_index_or, vec_capacity, vec_len};
-ghost use Rattle.slot_history.specs.Contents.{number_of_id};
+ghost use Rattle.std.specs.Prelude.{◌≡◌, ◌↔◌, ◌+◌, ◌*◌, ◌<◌, ◌^◌, IsUtf8, vec_capacity};
 ghost use Rattle.slot_data.specs.declared.rows.FlightRow.{FlightRow};
-ghost use Rattle.slot_core.specs.Fields.{AreApart};
 ghost use Rattle.slot_core.specs.Hands.{HandsStay};
 ghost use Rattle.slot_core.specs.Numbers.{AreSpent, with_seq};
 ghost use Rattle.slot_core.specs.Sections.{MayGiveUp, PutGoes, PutHolds, ShowsNoMore};
-ghost use Rattle.slot_core.specs.Taking.{TakesRow};
 ghost use Rattle.slot_core.specs.Turning.{Leaves, TurnsQuietly};
 ghost use Rattle.slot_core.specs.Views.{audit_of, holding_of, lanes_of, numbers_of};
 
 use crate::fault::SlotFault;
 use crate::handles::Flight;
-use crate::numbers::next_ballot;
 use crate::slot::Slot;
 use crate::stub::{Stub, Turn};
 use audit_trail::Audit;
@@ -23,6 +19,7 @@ use fault_base::NoMemory;
 use seal_file::Text;
 use slot_data::{FlightRow, flight_laws};
 use slot_history::{key_name, resting_laws};
+use slot_rules::{next_ballot, take_flight};
 use stamp_id::{ChangeId, VersionId};
 use std::alloc::Global;
 
@@ -121,25 +118,4 @@ impl<D: Drive, A: Audit> Slot<D, A> {
         };
         self.trash.push_reserved(row.id);
     }
-}
-
-/// Takes the put of this id off the list, if it is there. It takes no memory.
-pub(crate) fn take_flight(flights: &mut Vec<FlightRow>, id: VersionId) -> Option<FlightRow>
-    ensures takes { TakesRow (λ (row : FlightRow). row.id ≡ id) result flights.old.items flights.new.items }
-    ensures fewer { IsSome result → vec_len flights.new + 1 ≡ vec_len flights.old }
-    ensures at_most { vec_len flights.new ≤ vec_len flights.old }
-    ensures apart { AreApart flights.old.items → AreApart flights.new.items }
-    ensures drawn { (last : ℕ) → All (λ (row : FlightRow). number_of_id row.id ≤ last) flights.old.items
-        → All (λ (row : FlightRow). number_of_id row.id ≤ last) flights.new.items }
-{
-    let place = place_of(flights, id)?;
-    Some(flights.remove(place))
-}
-
-/// The place of the put of this id in the list.
-fn place_of(flights: &[FlightRow], id: VersionId) -> Option<usize>
-    ensures { MatchOption result (All (λ (row : FlightRow). row.id ≡ id → ⊥) flights.now)
-        (λ place. (place < length flights.now) × ((d : FlightRow) → (slice_index_or flights.now place d).id ≡ id)) }
-{
-    flights.iter().position(|row| row.id == id)
 }

@@ -6,7 +6,7 @@ use seal_file::Text;
 use stamp_id::VersionId;
 
 /// A put that is under way: whoever has it may stage data under its id, and commit it. Sections alone make one.
-#[derive(Debug, Drop)]
+#[derive(Drop)]
 pub struct Flight {
     /// The id of its data.
     pub(crate) id: VersionId,
@@ -24,7 +24,7 @@ impl Flight {
 }
 
 /// A pin: the data that it has stays until it is given back. Sections alone make one.
-#[derive(Debug, Drop)]
+#[derive(Drop)]
 pub struct Pin {
     /// The ticket of the section that made it.
     pub(crate) ticket: u64,

@@ -3,12 +3,12 @@
 ghost use Rattle.std.specs.Prelude.{◌≤◌, ℕ, All, vec_len};
 ghost use Rattle.slot_history.specs.Contents.{number_of_id};
 ghost use Rattle.slot_data.specs.declared.rows.FlightRow.{FlightRow};
-ghost use Rattle.slot_core.specs.Fields.{AreApart};
+ghost use Rattle.slot_rules.specs.Fields.{AreApart};
 ghost use Rattle.slot_core.specs.Landing.{LandsPut, LandsRow};
 
-use crate::flights::take_flight;
 use crate::handles::Flight;
 use slot_data::FlightRow;
+use slot_rules::take_flight;
 use stamp_id::VersionId;
 
 /// What became of the put that a commit was handed.

@@ -13,7 +13,6 @@
 #![tactic(auto)]
 
 mod carrying;
-mod commit;
 mod commits;
 mod committing;
 mod concluding;
@@ -30,21 +29,14 @@ mod looked;
 mod looking;
 mod numbers;
 mod opening;
-mod owning;
 mod peeking;
 mod pen;
 mod pins;
-mod planning;
-mod plans;
 mod reading;
-mod rules;
-mod site;
 mod slot;
 mod stub;
-mod telling;
 mod trash;
 
-pub use commit::{Commit, Committed};
 pub use fault::SlotFault;
 pub use handles::{Flight, Pin};
 pub use life::life_law;
@@ -53,12 +45,6 @@ pub use numbers::{LAST_COUNT, LAST_SEQ};
 pub use opening::open_law;
 pub use reading::ReadStart;
 pub use slot::{Slot, SlotParts, Unopened};
+pub use slot_rules::{Commit, Committed};
 pub use stub::{Stub, Turn};
 pub use trash::Ids;
-
-#[cfg(test)]
-mod look_tests;
-#[cfg(test)]
-mod spent_tests;
-#[cfg(test)]
-mod tests;

@@ -3,29 +3,18 @@
 ghost use Rattle.std.specs.Prelude.{◌≡◌, ◌+◌, ◌*◌, ◌<◌, ◌≤◌, ◌^◌, ℕ, IfOk, MatchOption, Option, None, Some, length, string_bytes};
 ghost use Rattle.register_core.specs.Loops.{CountsRise, TellsStay};
 ghost use Rattle.register_core.specs.Looking.{HasRead};
-ghost use Rattle.register_core.specs.declared.drafts.Draft.{Draft};
 ghost use Rattle.register_caller.specs.Steps.{FilesStay};
 ghost use Rattle.slot_core.specs.Looked.{CallsForward, FirstFits, GoesOnReading, LooksAt, late_of};
 ghost use Rattle.slot_core.specs.Settling.{SettlesAfter};
 ghost use Rattle.drive_base.specs.declared.drive.TheConstants.{LONGEST_NAME};
 
-use crate::numbers::next_ballot;
-use crate::site::{Drawn, Site};
 use drive_base::Drive;
 use register_caller::{draft_again, write_both};
-use register_core::{ContentRule, Draft, Looked, QuorumFault, look};
+use register_core::{ContentRule, QuorumFault, look};
+use slot_rules::{Drawn, Ready, Site, next_ballot};
 use stamp_id::ChangeId;
 use std::alloc::Global;
 use vote_core::{calm_laws, fresh_laws, value_laws};
-
-/// What a look found, and the draft of what is pending.
-#[derive(Drop)]
-pub(crate) struct Ready {
-    /// What it found.
-    pub(crate) looked: Looked,
-    /// The draft of the pending change under the slot's next number, where one is pending.
-    pub(crate) first: Option<Draft>,
-}
 
 /// Looks at a register, and drafts what is pending. A pending change that fewer lanes than a write needs could take is refused with the letters of the
 /// look. Nothing is written, and no number is drawn.
@@ -66,14 +55,19 @@ pub(crate) fn look_at<D: Drive, R: ContentRule>(
         }),
         Some(_) => {
             if !looked.can_forward() {
-                return Err(QuorumFault::WriteQuorum(looked.whys));
+                let whys = looked.whys;
+                drop(looked);
+                return Err(QuorumFault::WriteQuorum(whys));
             }
             match draft_again(alloc, &looked, next_ballot(site.term, drawn.seq)) {
                 Ok(draft) => Ok(Ready {
                     looked,
                     first: Some(draft),
                 }),
-                Err(_) => Err(QuorumFault::NoMemory),
+                Err(_) => {
+                    drop(looked);
+                    Err(QuorumFault::NoMemory)
+                }
             }
         }
     }

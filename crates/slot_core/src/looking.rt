@@ -4,10 +4,10 @@ ghost use Rattle.std.specs.Prelude.{◌≡◌, ◌+◌, ◌<◌, ◌≤◌, ◌^
 ghost use Rattle.register_core.specs.Loops.{CountsRise, TellsStay};
 ghost use Rattle.register_caller.specs.Steps.{FilesStay};
 ghost use Rattle.slot_history.specs.Names.{key_name};
+ghost use Rattle.slot_rules.specs.Rules.{IsRegisterName};
 ghost use Rattle.slot_core.specs.Causes.{PeekCause};
 ghost use Rattle.slot_core.specs.Hands.{HandsStay};
 ghost use Rattle.slot_core.specs.Reading.{ReadCause};
-ghost use Rattle.slot_core.specs.Rules.{IsRegisterName};
 ghost use Rattle.slot_core.specs.Sections.{ReadHolds, SaysKept, SaysRead, ShowsContent, ShowsNoMore};
 ghost use Rattle.slot_core.specs.Stubs.{Says, completed_by};
 ghost use Rattle.slot_core.specs.Turning.{Leaves, Turns};
@@ -18,13 +18,13 @@ use crate::finding::read_at;
 use crate::peeking::peek_at;
 use crate::pen::spent_turn;
 use crate::reading::ReadStart;
-use crate::site::{Drawn, Site};
 use crate::slot::Slot;
 use crate::stub::Turn;
 use audit_trail::Audit;
 use call_types::{Key, Mode, Pick};
 use drive_base::Drive;
 use seal_file::Bytes;
+use slot_rules::{Drawn, Site};
 use std::alloc::Global;
 
 impl<D: Drive, A: Audit> Slot<D, A> {

@@ -1,29 +1,18 @@
 //! The numbers that a slot draws.
 
-ghost use Rattle.std.specs.Prelude.{◌≡◌, ◌↔◌, ◌+◌, ◌<◌, ◌≤◌, ◌^◌, IsTrue, false};
+ghost use Rattle.std.specs.Prelude.{◌≡◌, ◌↔◌, ◌≤◌, IsTrue, false};
 ghost use Rattle.slot_core.specs.Numbers.{AreSpent};
 ghost use Rattle.slot_core.specs.Views.{numbers_of};
 
 use crate::slot::Slot;
 use audit_trail::Audit;
 use drive_base::Drive;
-use stamp_id::Ballot;
 
 /// The last sequence number at which a section may still begin: no section draws more than 16,383.
 pub const LAST_SEQ: u64 = (1 << 62) - 16_384;
 
 /// The last counter of loose names at which a section may still begin.
 pub const LAST_COUNT: u64 = (1 << 63) - 1_048_576;
-
-/// The next number of a slot in this term.
-pub(crate) fn next_ballot(term: u64, seq: u64) -> Ballot
-    requires term { term < 2 ^ 48 }
-    requires seq { seq + 1 < 2 ^ 62 }
-    ensures term { result.term ≡ term }
-    ensures seq { result.seq ≡ seq + 1 }
-{
-    Ballot { term, seq: seq + 1 }
-}
 
 impl<D: Drive, A: Audit> Slot<D, A> {
     /// Whether the slot's numbers are spent, and a section that may draw some is refused.

@@ -7,10 +7,10 @@ ghost use Rattle.register_caller.specs.Steps.{FilesStay};
 ghost use Rattle.slot_data.specs.Holding.{Holding};
 ghost use Rattle.slot_history.specs.Standing.{Records};
 ghost use Rattle.slot_history.specs.State.{State};
+ghost use Rattle.slot_rules.specs.Rules.{IsRegisterName, is_bucket_name};
 ghost use Rattle.slot_core.specs.Causes.{PeekCause};
 ghost use Rattle.slot_core.specs.Hands.{HandsStay};
 ghost use Rattle.slot_core.specs.Peeking.{IsRefusal, PeekCalls, PeekLeaves, TurnsAt};
-ghost use Rattle.slot_core.specs.Rules.{IsRegisterName, is_bucket_name};
 ghost use Rattle.slot_core.specs.Sections.{SaysKept, ShowsContent};
 ghost use Rattle.slot_core.specs.Settling.{numbers_at};
 ghost use Rattle.slot_core.specs.Standing.{SlotStands};
@@ -24,14 +24,13 @@ use crate::numbers::{LAST_COUNT, LAST_SEQ};
 use crate::pen::{
     ReserveFault, audit_failed, kept_entries, no_memory, refuse, reserve, write_down,
 };
-use crate::rules::LookRule;
-use crate::site::{Drawn, Site};
 use crate::stub::Turn;
 use audit_trail::Audit;
 use drive_base::Drive;
 use fault_base::NoMemory;
 use register_core::{Looked, QuorumFault};
 use seal_file::Bytes;
+use slot_rules::{Drawn, LookRule, Site};
 use stamp_id::ChangeId;
 use std::alloc::Global;
 
@@ -118,11 +117,20 @@ fn peek_register<D: Drive>(
     };
     let content = match content_of(alloc, &ready.looked) {
         Ok(content) => content,
-        Err(_) => return Peeked::LacksMemory,
+        Err(_) => {
+            drop(ready);
+            return Peeked::LacksMemory;
+        }
     };
     match forward(lanes, site, name, &mut ready, drawn) {
-        Ok(late) => Peeked::Found(content, late),
-        Err(fault) => refusal(fault),
+        Ok(late) => {
+            drop(ready);
+            Peeked::Found(content, late)
+        }
+        Err(fault) => {
+            drop(ready);
+            refusal(fault)
+        }
     }
 }
 

@@ -6,11 +6,11 @@ ghost use Rattle.slot_core.specs.declared.stub.Stub.{Stub};
 ghost use Rattle.slot_core.specs.Pen.{IsKeptOf, IsRefusedTurn, Reserves, WritesDown, has_late};
 
 use crate::fault::SlotFault;
-use crate::site::Site;
 use crate::stub::{Stub, Turn};
 use audit_trail::{Audit, AuditFault, Deed, Entry};
 use fault_base::NoMemory;
 use seal_file::Text;
+use slot_rules::Site;
 use stamp_id::ChangeId;
 use std::alloc::Global;
 
@@ -27,21 +27,23 @@ pub(crate) struct Entries {
 pub(crate) fn kept_entries(alloc: Global, site: &Site, name: &str) -> Result<Entries, NoMemory>
     ensures { IfOk result (λ entries. IsKeptOf site.now.turns name.now entries) }
 {
-    let audit = kept_entry(alloc, site.turns, name)?;
-    let stub = kept_entry(alloc, site.turns, name)?;
-    Ok(Entries { audit, stub })
+    let first = Text::from_slice(alloc, name.as_bytes())?;
+    let second = Text::from_slice(alloc, name.as_bytes())?;
+    Ok(Entries {
+        audit: kept_entry(site.turns, first),
+        stub: kept_entry(site.turns, second),
+    })
 }
 
-fn kept_entry(alloc: Global, ticket: u64, name: &str) -> Result<Entry, NoMemory>
-    ensures { IfOk result (λ entry. entry ≡ record { ticket = ticket; late = None; name = name.now; deed = Deed.Kept }) }
+fn kept_entry(ticket: u64, name: Text) -> Entry
+    ensures { result ≡ record { ticket = ticket; late = None; name = name; deed = Deed.Kept } }
 {
-    let name = Text::from_slice(alloc, name.as_bytes())?;
-    Ok(Entry {
+    Entry {
         ticket,
         late: None,
         name,
         deed: Deed::Kept,
-    })
+    }
 }
 
 /// Why an audit has no place for an entry.

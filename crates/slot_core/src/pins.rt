@@ -1,9 +1,7 @@
 //! Pins that end.
 
-ghost use Rattle.std.specs.Prelude.{◌≡◌, ◌+◌, ◌<◌, ◌^◌, ℕ, All, MatchOption, length, slice_index_or};
-ghost use Rattle.slot_data.specs.declared.rows.PinRow.{PinRow};
+ghost use Rattle.std.specs.Prelude.{◌≡◌, ◌+◌, ◌<◌, ◌^◌};
 ghost use Rattle.slot_core.specs.Sections.{MayLetGo, PinGoes, ShowsNoMore};
-ghost use Rattle.slot_core.specs.Taking.{TakesRow};
 ghost use Rattle.slot_core.specs.Turning.{Leaves, TurnsQuietly};
 ghost use Rattle.slot_core.specs.Views.{audit_of, holding_of, lanes_of, numbers_of};
 
@@ -12,7 +10,8 @@ use crate::slot::Slot;
 use crate::stub::Turn;
 use audit_trail::Audit;
 use drive_base::Drive;
-use slot_data::{PinRow, pin_laws};
+use slot_data::pin_laws;
+use slot_rules::take_pin;
 
 impl<D: Drive, A: Audit> Slot<D, A> {
     /// Ends a read: its pin is gone. A pin that isn't listed changes nothing. It takes no memory, and is always done.
@@ -36,21 +35,4 @@ impl<D: Drive, A: Audit> Slot<D, A> {
             stub: None,
         }
     }
-}
-
-/// Takes the pin of this ticket off the list, if it is there. It takes no memory.
-fn take_pin(pins: &mut Vec<PinRow>, ticket: u64) -> Option<PinRow>
-    ensures takes { TakesRow (λ (row : PinRow). row.ticket ≡ ticket) result pins.old.items pins.new.items }
-    ensures before { (turns : ℕ) → All (λ (row : PinRow). row.ticket < turns) pins.old.items → All (λ (row : PinRow). row.ticket < turns) pins.new.items }
-{
-    let place = place_of(pins, ticket)?;
-    Some(pins.remove(place))
-}
-
-/// The place of the pin of this ticket in the list.
-fn place_of(pins: &[PinRow], ticket: u64) -> Option<usize>
-    ensures { MatchOption result (All (λ (row : PinRow). row.ticket ≡ ticket → ⊥) pins.now)
-        (λ place. (place < length pins.now) × ((d : PinRow) → (slice_index_or pins.now place d).ticket ≡ ticket)) }
-{
-    pins.iter().position(|row| row.ticket == ticket)
 }

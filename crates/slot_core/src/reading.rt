@@ -13,7 +13,6 @@ ghost use Rattle.slot_core.specs.Reading.{AreEntries, IsFound, PlansRead, found_
 
 use crate::handles::Pin;
 use crate::pen::Entries;
-use crate::site::Site;
 use audit_trail::{Deed, Entry};
 use call_types::{
     Brief, Key, KeyRefusal, Mode, Pick, Refusal, Reply, Span, Version, VersionName, What,
@@ -21,12 +20,13 @@ use call_types::{
 use fault_base::NoMemory;
 use seal_file::Text;
 use slot_data::{PinFor, PinRow};
+use slot_rules::Site;
 use stamp_id::VersionId;
 use std::alloc::Global;
 use version_list::{KeyState, find};
 
 /// A version that was found, an object, and the pin of its data.
-#[derive(Debug, Drop)]
+#[derive(Drop)]
 pub struct ReadStart {
     /// The version.
     pub version: Version,
@@ -161,8 +161,13 @@ fn entries_of(
     ensures { IfOk result (λ entries. AreEntries (read_entry site.now.turns at.now mode pick.now reply.now) entries) }
 {
     let audit = entry_of(alloc, site, name, at, mode, pick, reply)?;
-    let stub = entry_of(alloc, site, name, at, mode, pick, reply)?;
-    Ok(Entries { audit, stub })
+    match entry_of(alloc, site, name, at, mode, pick, reply) {
+        Ok(stub) => Ok(Entries { audit, stub }),
+        Err(why) => {
+            drop(audit);
+            Err(why)
+        }
+    }
 }
 
 fn entry_of(

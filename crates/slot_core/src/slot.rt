@@ -4,7 +4,7 @@ ghost use Rattle.std.specs.Prelude.{◌≡◌, ◌+◌, ◌*◌, ◌<◌, ◌≤
 ghost use Rattle.slot_history.specs.Contents.{number_of_id};
 ghost use Rattle.slot_data.specs.declared.rows.FlightRow.{FlightRow};
 ghost use Rattle.slot_data.specs.declared.rows.PinRow.{PinRow};
-ghost use Rattle.slot_core.specs.Fields.{AreApart};
+ghost use Rattle.slot_rules.specs.Fields.{AreApart};
 
 use audit_trail::AuditFault;
 use drive_base::SetPlan;

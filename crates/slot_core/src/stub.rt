@@ -8,7 +8,7 @@ use crate::fault::SlotFault;
 use audit_trail::Entry;
 
 /// What a section leaves of itself: its slot, its ticket, its entry where it wrote one, and its refusal where it was refused. Sections alone make one.
-#[derive(Debug, Drop)]
+#[derive(Drop)]
 pub struct Stub {
     /// The slot.
     pub(crate) slot: u8,
@@ -66,7 +66,7 @@ impl Stub {
 }
 
 /// What a section answers, and its stub, if it has one.
-#[derive(Debug, Drop)]
+#[derive(Drop)]
 pub struct Turn<T> {
     /// The answer.
     pub answer: Result<T, SlotFault>,

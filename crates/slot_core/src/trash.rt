@@ -1,8 +1,6 @@
 //! Trash that is taken.
 
-ghost use Rattle.std.specs.Prelude.{◌≡◌, ◌+◌, ◌<◌, ◌≤◌, ◌^◌, None, filter, not, take, vec_capacity, vec_len, IfOk};
-ghost use Rattle.std.specs.List.{list_any};
-ghost use Rattle.slot_data.specs.Rows.{is_id, pin_names};
+ghost use Rattle.std.specs.Prelude.{◌≡◌, ◌+◌, ◌<◌, ◌^◌, None};
 ghost use Rattle.slot_core.specs.Sections.{ShowsNoMore, TakesInHand, TrashHolds};
 ghost use Rattle.slot_core.specs.Turning.{Leaves, TurnsQuietly};
 ghost use Rattle.slot_core.specs.Views.{audit_of, holding_of, lanes_of, numbers_of, pins_of};
@@ -13,8 +11,8 @@ use crate::stub::Turn;
 use audit_trail::Audit;
 use call_types::Listing;
 use drive_base::Drive;
-use fault_base::NoMemory;
-use slot_data::{PinRow, hands_laws, is_pinned, row_laws};
+use slot_data::{hands_laws, row_laws};
+use slot_rules::{first_free, leave_out};
 use stamp_id::VersionId;
 use std::alloc::Global;
 
@@ -48,33 +46,4 @@ impl<D: Drive, A: Audit> Slot<D, A> {
             stub: None,
         }
     }
-}
-
-/// The first ids that no pin names, so many at most.
-fn first_free(
-    alloc: Global,
-    trash: &[VersionId],
-    pins: &[PinRow],
-    most: u32,
-) -> Result<Vec<VersionId>, NoMemory>
-    ensures { IfOk result (λ ids. ids.items ≡ take most (filter (λ id. not (list_any (pin_names id) pins.now)) trash.now)) }
-{
-    let free = trash.iter().copied().filter(|id| !is_pinned(pins, *id));
-    Ok(free.take(most as usize).collect(alloc)?)
-}
-
-/// Takes these ids out of the trash, and leaves the others in their order. It takes no memory.
-fn leave_out(trash: &mut Vec<VersionId>, ids: &[VersionId])
-    ensures left { trash.new.items ≡ filter (λ id. not (list_any (is_id id) ids.now)) trash.old.items }
-    ensures fewer { vec_len trash.new ≤ vec_len trash.old }
-    ensures room { vec_capacity trash.new ≡ vec_capacity trash.old }
-{
-    trash.retain(|id| !is_among(ids, *id));
-}
-
-/// Whether an id is one of these. It takes no memory.
-fn is_among(ids: &[VersionId], id: VersionId) -> bool
-    ensures { result ≡ list_any (is_id id) ids.now }
-{
-    ids.iter().any(|other| *other == id)
 }

@@ -53,6 +53,3 @@ pub use plain::PlainDesk;
 pub use receipt::Receipt;
 pub use shared::{SharedDesk, SharedPass};
 pub use turned::TurnedSlot;
-
-#[cfg(test)]
-mod tests;

@@ -6,13 +6,14 @@ use Rattle.register_core.specs.Found.{content_of}
 use Rattle.register_core.specs.declared.faults.QuorumFault.{QuorumFault}
 use Rattle.slot_history.specs.Standing.{Records}
 use Rattle.slot_history.specs.State.{Register, State}
+use Rattle.slot_rules.specs.Deeds.{name_of}
+use Rattle.slot_rules.specs.Owning.{again_takes, base_after}
+use Rattle.slot_rules.specs.Planning.{IsGoneBy}
+use Rattle.slot_rules.specs.declared.site.Drawn.{Drawn}
 use Rattle.slot_core.specs.Carrying.{EntryLeaves, answer_of, answer_told, deed_told, entry_told, kept_with}
-use Rattle.slot_core.specs.Committing.{MayCommitData, ShowsTrash, name_of}
-use Rattle.slot_core.specs.Owning.{again_takes}
-use Rattle.slot_core.specs.Planning.{IsGoneBy}
-use Rattle.slot_core.specs.Settling.{SettledOn, SettlesAfter, base_after, numbers_at}
+use Rattle.slot_core.specs.Committing.{MayCommitData, ShowsTrash}
+use Rattle.slot_core.specs.Settling.{SettledOn, SettlesAfter, numbers_at}
 use Rattle.slot_core.specs.declared.carrying.Outcome.TheVariants.{Done, Kept}
-use Rattle.slot_core.specs.declared.site.Drawn.{Drawn}
 use Rattle.register_caller.proofs.StepLemmas.{tells_twice}
 use Rattle.slot_core.proofs.CarryLemmas.{entry_leaves, finds_leaves, kept_leaves}
 use Rattle.slot_core.proofs.CarryOutLemmas.{gone_none, mid_low, none_told, own_over, plan_fits, plan_none, plan_own, writes_calls, writes_entry, writes_told}

@@ -8,9 +8,9 @@ use Rattle.register_core.specs.OnLanes.{AreLanes}
 use Rattle.register_core.specs.Records.{base_of, next_of}
 use Rattle.register_core.specs.declared.faults.QuorumFault.{QuorumFault}
 use Rattle.register_caller.specs.Calling.{BothLeave}
-use Rattle.slot_core.specs.Committing.{name_of}
+use Rattle.slot_rules.specs.Deeds.{name_of}
+use Rattle.slot_rules.specs.declared.site.Drawn.{Drawn}
 use Rattle.slot_core.specs.Settling.{numbers_at}
-use Rattle.slot_core.specs.declared.site.Drawn.{Drawn}
 use Rattle.slot_core.proofs.CarryLemmas.{begun_leaves, done_leaves, entry_leaves}
 use Rattle.slot_core.proofs.LaneLemmas.{have_after_write}
 use Rattle.slot_core.proofs.OwnWriteLemmas.{OwnLaws, own_begun, own_done}

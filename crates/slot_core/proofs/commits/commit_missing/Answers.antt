@@ -2,12 +2,12 @@ use Rattle.std.proofs.Common.{◌≡◌, ◌++◌, ◌∙◌, ℕ, List, [], Non
 use Rattle.std.proofs.lemmas.List.{append-nil}
 use Rattle.stamp_id.specs.declared.version.VersionId.{VersionId}
 use Rattle.audit_trail.specs.declared.entry.Entry.{Entry}
+use Rattle.slot_rules.specs.declared.commit.Committed.{Committed}
 use Rattle.slot_core.specs.CommitCauses.{CommitCause, deed_in}
 use Rattle.slot_core.specs.Committing.{GoneByAnswer, NothingBegun, SaysCommit, ShowsTrash}
 use Rattle.slot_core.specs.Pen.{has_late, kept_entry}
 use Rattle.slot_core.specs.Settling.{numbers_at}
 use Rattle.slot_core.specs.Stubs.{entry_of}
-use Rattle.slot_core.specs.declared.commit.Committed.{Committed}
 use Rattle.slot_core.specs.declared.fault.SlotFault.{SlotFault}
 use Rattle.slot_core.specs.declared.fault.SlotFault.TheVariants.{NotInFlight}
 use Rattle.slot_core.proofs.CommitLemmas.{lost_begun, lost_cause, lost_entry, lost_gone, lost_leaves, lost_not_missing, lost_says, lost_turns, missing_leaves, missing_same, missing_says, missing_turns}

@@ -1,12 +1,13 @@
 use Rattle.std.proofs.Common.{◌≡◌, ◌++◌, ◌∙◌, ℕ, List, None, Result, ap, subst, subst₂, sym, refl, arith}
 use Rattle.stamp_id.specs.declared.version.VersionId.{VersionId}
 use Rattle.audit_trail.specs.declared.entry.Deed.{Deed}
+use Rattle.slot_rules.specs.Deeds.{name_of}
+use Rattle.slot_rules.specs.declared.commit.Committed.{Committed}
 use Rattle.slot_core.specs.Carrying.{answer_told, deed_told, entry_told}
 use Rattle.slot_core.specs.CommitCauses.{CommitCause, deed_in}
-use Rattle.slot_core.specs.Committing.{GoneByAnswer, SaysCommit, ShowsTrash, name_of}
+use Rattle.slot_core.specs.Committing.{GoneByAnswer, SaysCommit, ShowsTrash}
 use Rattle.slot_core.specs.Settling.{numbers_at}
 use Rattle.slot_core.specs.Stubs.{entry_of}
-use Rattle.slot_core.specs.declared.commit.Committed.{Committed}
 use Rattle.slot_core.specs.declared.fault.SlotFault.{SlotFault}
 use Rattle.slot_core.proofs.AuditLemmas.{audit_since}
 use Rattle.slot_core.proofs.CommitLemmas.{lost_cause, lost_entry, lost_gone, lost_leaves, lost_not_missing, lost_says, lost_turns, outcome_leaves}

@@ -3,19 +3,19 @@ use Rattle.stamp_id.specs.declared.version.VersionId.{VersionId}
 use Rattle.register_core.specs.Found.{content_of}
 use Rattle.register_caller.proofs.StepLemmas.{tells_twice}
 use Rattle.bucket_book.specs.Content.{content_fault}
-use Rattle.slot_core.specs.declared.rules.TheConstants.{BUCKET_BYTES}
+use Rattle.slot_rules.specs.Deeds.{name_of}
+use Rattle.slot_rules.specs.Owning.{again_takes}
+use Rattle.slot_rules.specs.Planning.{IsPlanned, most_for}
+use Rattle.slot_rules.specs.declared.commit.Commit.{Commit}
+use Rattle.slot_rules.specs.declared.rules.TheConstants.{BUCKET_BYTES}
+use Rattle.slot_rules.specs.declared.site.Drawn.{Drawn}
 use Rattle.slot_core.specs.Carrying.{IsTold, answer_told, deed_told}
 use Rattle.slot_core.specs.CommitCauses.{CommitCause, IsRuleOf}
-use Rattle.slot_core.specs.Committing.{name_of}
 use Rattle.slot_core.specs.Finishing.{CommitLeaves}
 use Rattle.slot_core.specs.Looked.{LooksAt}
-use Rattle.slot_core.specs.Owning.{again_takes}
-use Rattle.slot_core.specs.Planning.{IsPlanned, most_for}
 use Rattle.slot_core.specs.Settling.{IsReady, numbers_at}
 use Rattle.slot_core.specs.declared.carrying.Outcome.{Outcome}
 use Rattle.slot_core.specs.declared.carrying.Outcome.TheVariants.{LacksMemory}
-use Rattle.slot_core.specs.declared.commit.Commit.{Commit}
-use Rattle.slot_core.specs.declared.site.Drawn.{Drawn}
 use Rattle.slot_core.proofs.CarryOutLemmas.{gone_none}
 use Rattle.slot_core.proofs.CommitCauseLemmas.{finish_cause, look_refused}
 use Rattle.slot_core.proofs.FinishLemmas.{bucket_most, bucket_rule, id_drawn, kept_cases, lacks_leaves, look_leaves, ready_fits}

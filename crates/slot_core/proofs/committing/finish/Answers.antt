@@ -1,10 +1,11 @@
 use Rattle.std.proofs.Common.{◌≡◌, ◌+◌, ◌∙◌, ℕ, List, Option, subst, sym, refl, inr}
 use Rattle.stamp_id.specs.declared.version.VersionId.{VersionId}
 use Rattle.audit_trail.specs.declared.entry.Entry.{Entry}
+use Rattle.slot_rules.specs.Deeds.{name_of}
+use Rattle.slot_rules.specs.Owning.{again_takes}
+use Rattle.slot_rules.specs.Plans.{IsPlan}
 use Rattle.slot_core.specs.Carrying.{EntryLeaves, answer_told, entry_told, kept_with}
-use Rattle.slot_core.specs.Committing.{MayCommitData, ShowsTrash, name_of}
-use Rattle.slot_core.specs.Owning.{again_takes}
-use Rattle.slot_core.specs.Plans.{IsPlan}
+use Rattle.slot_core.specs.Committing.{MayCommitData, ShowsTrash}
 use Rattle.slot_core.specs.Settling.{numbers_at}
 use Rattle.slot_core.proofs.FinishLemmas.{lacks_leaves, plan_can}
 use Rattle.slot_core.proofs.LandLemmas.{LandLaws}

@@ -1,6 +1,6 @@
 use Rattle.std.proofs.Common.{◌≡◌, false, ap, sym}
 use Rattle.register_core.specs.Found.{content_of}
-use Rattle.slot_core.specs.Rules.{is_bucket_name}
+use Rattle.slot_rules.specs.Rules.{is_bucket_name}
 use Rattle.slot_core.proofs.CauseLemmas.{look_cause, ready_at}
 use Rattle.slot_core.proofs.ReadTurnLemmas.{spelled}
 use Rattle.slot_core.proofs.finding.look_and_plan.Goals as goal

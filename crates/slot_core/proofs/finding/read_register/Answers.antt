@@ -1,9 +1,9 @@
 use Rattle.std.proofs.Common.{List, ℕ, subst, arith}
 use Rattle.register_caller.proofs.StepLemmas.{tells_twice}
 use Rattle.slot_history.specs.Names.{key_name}
+use Rattle.slot_rules.specs.Rules.{longest_for, rule_for}
 use Rattle.slot_core.specs.Causes.{LookCause}
 use Rattle.slot_core.specs.Reading.{KnownRead, PlansRead, ReadGave}
-use Rattle.slot_core.specs.Rules.{longest_for, rule_for}
 use Rattle.slot_core.specs.Settling.{numbers_at}
 use Rattle.slot_core.proofs.FinishReadLemmas.{finished_calls, finished_leaves}
 use Rattle.slot_core.proofs.SettlingLemmas.{looked_settled}

@@ -2,7 +2,7 @@ use Rattle.std.proofs.Common.{◌+◌, refl, arith}
 use Rattle.std.specs.Prelude.{Ok, Err}
 use Rattle.call_types.specs.declared.why.Whys.{Whys}
 use Rattle.register_core.specs.declared.faults.QuorumFault.{QuorumFault}
-use Rattle.slot_core.specs.declared.site.Drawn.{Drawn}
+use Rattle.slot_rules.specs.declared.site.Drawn.{Drawn}
 use Rattle.slot_core.proofs.SettlingLemmas.{settled_none, settled_wrote}
 use Rattle.slot_core.proofs.looked.forward.Goals as goal
 

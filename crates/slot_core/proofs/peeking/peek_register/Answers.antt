@@ -4,10 +4,11 @@ use Rattle.register_core.specs.Found.{content_of}
 use Rattle.register_caller.proofs.StepLemmas.{tells_twice}
 use Rattle.slot_history.specs.Standing.{Records}
 use Rattle.slot_history.specs.State.{State}
+use Rattle.slot_rules.specs.Owning.{base_after}
+use Rattle.slot_rules.specs.Rules.{longest_for, rule_for}
 use Rattle.slot_core.specs.Causes.{PeekCause}
 use Rattle.slot_core.specs.Peeking.{KnownContent}
-use Rattle.slot_core.specs.Rules.{longest_for, rule_for}
-use Rattle.slot_core.specs.Settling.{SettledOn, base_after, numbers_at}
+use Rattle.slot_core.specs.Settling.{SettledOn, numbers_at}
 use Rattle.slot_core.proofs.CauseLemmas.{cause_of_forward, gives_of, longest_at, look_cause, ready_at, rule_at}
 use Rattle.slot_core.proofs.SettlingLemmas.{looked_settled}
 use Rattle.slot_core.proofs.TurnLemmas.{forward_has_memory, known_content, refusal_calls, refusal_leaves, settled_known, stands_looked}
@@ -74,8 +75,8 @@ returns-in-Ok-forward-clause-tells g c =
     tells_twice g.D.Drive.tells g.D.Drive.files g.D.Drive.count c.args.lanes.now c.look_at.new.lanes c.forward.new.lanes (omega (arith, c.look_at.auto.lanes))
     c.in-Ok.ensures.tells c.in-Ok-forward.ensures.tells
 
-pub returns-clause-leaves : goal.returns-clause-leaves
-returns-clause-leaves g c holding records state s =
+pub returns-in-Err-forward-clause-leaves : goal.returns-in-Err-forward-clause-leaves
+returns-in-Err-forward-clause-leaves g c holding records state s =
     let D = g.D.Drive in
     let site = c.args.site.now in
     let name = c.args.name.now in
@@ -90,8 +91,8 @@ returns-clause-leaves g c holding records state s =
     (λ same. absurd (forward_has_memory D.tells D.files D.count site c.args.drawn.now c.forward.new.drawn ready.first fault c.look_at.new.lanes c.forward.new.lanes
     c.in-Err-forward.ensures.calls same))
 
-pub returns-clause-calls : goal.returns-clause-calls
-returns-clause-calls g c =
+pub returns-in-Err-forward-clause-calls : goal.returns-in-Err-forward-clause-calls
+returns-in-Err-forward-clause-calls g c =
     let D = g.D.Drive in
     let site = c.args.site.now in
     let name = c.args.name.now in
@@ -108,7 +109,7 @@ returns-clause-calls g c =
     (λ same. absurd (forward_has_memory D.tells D.files D.count site c.args.drawn.now c.forward.new.drawn ready.first fault c.look_at.new.lanes c.forward.new.lanes
     c.in-Err-forward.ensures.calls same))
 
-pub returns-clause-tells : goal.returns-clause-tells
-returns-clause-tells g c =
+pub returns-in-Err-forward-clause-tells : goal.returns-in-Err-forward-clause-tells
+returns-in-Err-forward-clause-tells g c =
     tells_twice g.D.Drive.tells g.D.Drive.files g.D.Drive.count c.args.lanes.now c.look_at.new.lanes c.forward.new.lanes (omega (arith, c.look_at.auto.lanes))
     c.in-Ok.ensures.tells c.in-Err-forward.ensures.tells

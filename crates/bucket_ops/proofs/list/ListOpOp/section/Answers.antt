@@ -15,12 +15,12 @@ returns-in-Paging-clause-turns g c =
     let was = slot_seen g.A.Audit.entries g.A.Audit.count c.args.slot.now in
     let after = slot_seen g.A.Audit.entries g.A.Audit.count c.list_names-turn.new.self in
     let state_is : op.state ≡ Paging work = sym c.replace.ensures.value ∙ c.in-Paging.is in
-    subst (λ state. TurnsSo g.D.Drive (ListStands op.set op.now state) (ListStands op.set op.now c.after_names.result)
+    rw c.replace-in-Paging.ensures.after (subst (λ state. TurnsSo g.D.Drive (ListStands op.set op.now state) (ListStands op.set op.now c.after_names-state.result)
     c.list_names-turn.result.stub was after (views g.D.Drive c.args.disks.now) (views g.D.Drive c.args.disks.now)) (sym state_is)
-    (names_so g.D.Drive op.set op.now work c.after_names.result c.as_str.result.now was after c.list_names-turn.result.answer c.list_names-turn.result.stub
+    (names_so g.D.Drive op.set op.now work c.after_names-state.result c.as_str.result.now was after c.list_names-turn.result.answer c.list_names-turn.result.stub
     c.args.disks.now c.names_law.ensures (sym (ap list_step state_is) ∙ c.requires.next) c.as_str.ensures.value
     (record { turns = list.turns; says = list.says; holds = list.holds; lists = list.lists; leaves = list.leaves })
-    (are_listed g.D.Drive _ _ c.list_names-turn.result.answer _ _ list.lists) c.after_names.ensures.after)
+    (are_listed g.D.Drive _ _ c.list_names-turn.result.answer _ _ list.lists) c.after_names-state.ensures.after))
 
 pub returns-in-Looking-clause-turns : goal.returns-in-Looking-clause-turns
 returns-in-Looking-clause-turns g c =
@@ -31,9 +31,9 @@ returns-in-Looking-clause-turns g c =
     let was = slot_seen g.A.Audit.entries g.A.Audit.count c.args.slot.now in
     let after = slot_seen g.A.Audit.entries g.A.Audit.count c.peek-turn.new.self in
     let state_is : op.state ≡ Looking work wanted = sym c.replace.ensures.value ∙ c.in-Looking.is in
-    subst (λ state. TurnsSo g.D.Drive (ListStands op.set op.now state) (ListStands op.set op.now c.after_look.result)
+    rw c.replace-in-Looking.ensures.after (subst (λ state. TurnsSo g.D.Drive (ListStands op.set op.now state) (ListStands op.set op.now c.after_look-state.result)
     c.peek-turn.result.stub was after (views g.D.Drive c.args.disks.now) (views g.D.Drive c.peek-turn.new.disks)) (sym state_is)
-    (look_so g.D.Drive c.row_laws.ensures.injective op.set op.now work wanted c.after_look.result c.as_str-in-Looking.result.now was after c.peek-turn.result.answer
+    (look_so g.D.Drive c.row_laws.ensures.injective op.set op.now work wanted c.after_look-state.result c.as_str-in-Looking.result.now was after c.peek-turn.result.answer
     c.peek-turn.result.stub c.args.disks.now c.peek-turn.new.disks c.look_law.ensures (sym (ap list_step state_is) ∙ c.requires.next)
     c.as_str-in-Looking.ensures.value
     (record {
@@ -44,4 +44,4 @@ returns-in-Looking-clause-turns g c =
       leaves = peek.leaves;
       read = record { long = c.peek-turn.auto.disks; files = peek.disk_files; tells = peek.disk_tells; counts = peek.disk_counts };
     })
-    c.after_look.ensures.after)
+    c.after_look-state.ensures.after))

@@ -14,8 +14,8 @@ begin_put-answer-requires-clause-bucket g c = IsUtf8-had c.args.self.now.at.buck
 pub begin_put-answer-requires-clause-key : goal.begin_put-answer-requires-clause-key
 begin_put-answer-requires-clause-key g c = IsUtf8-had c.args.self.now.at.key c.args.self.now.key_text
 
-pub begun-requires-clause-short : goal.begun-requires-clause-short
-begun-requires-clause-short g c =
+pub begun-state-requires-clause-short : goal.begun-state-requires-clause-short
+begun-state-requires-clause-short g c =
     let op = c.args.self.now in
     subst (λ (l : List ℕ). length l < 2 ^ 16) (sym (c.as_str.ensures.value ∙ op.registered)) (omega (arith, op.key_short))
 
@@ -23,32 +23,32 @@ pub returns-clause-turns : goal.returns-clause-turns
 returns-clause-turns g c = λ disks long.
     let op = c.args.self.now in
     let turn = c.begin_put-answer in
-    begin_so (ask_of op) op.read g.D.Drive op.clearing op.state c.begun.result c.args.mode turn.result.answer turn.result.stub
+    rw c.go_to.ensures (begin_so (ask_of op) op.read g.D.Drive op.clearing op.state c.begun-state.result c.args.mode turn.result.answer turn.result.stub
     (slot_seen g.A.Audit.entries g.A.Audit.count c.args.slot.now) (slot_seen g.A.Audit.entries g.A.Audit.count turn.new.self) disks c.requires.state
     (none_read_yet op.long op.read op.state c.args.mode c.requires.state op.counted) c.requires.next
     (record { turns = turn.ensures.turns; spent = turn.ensures.spent.0; holds = turn.ensures.holds; leaves = turn.ensures.leaves })
-    (subst (λ r. BeginsTo op.set r op.long op.md5 c.args.mode turn.result.answer c.begun.result) (c.as_str.ensures.value ∙ op.registered) c.begun.ensures)
+    (subst (λ r. BeginsTo op.set r op.long op.md5 c.args.mode turn.result.answer c.begun-state.result) (c.as_str.ensures.value ∙ op.registered) c.begun-state.ensures))
 
 pub returns-clause-left : goal.returns-clause-left
 returns-clause-left g c =
     let op = c.args.self.now in
-    begin_to_left op.set c.as_str.result.now op.long op.read op.md5 op.clearing op.state c.begun.result c.args.mode c.begin_put-answer.result.answer c.requires.state
-    (none_read_yet op.long op.read op.state c.args.mode c.requires.state op.counted) c.begun.ensures
+    rw c.go_to.ensures (begin_to_left op.set c.as_str.result.now op.long op.read op.md5 op.clearing op.state c.begun-state.result c.args.mode c.begin_put-answer.result.answer c.requires.state
+    (none_read_yet op.long op.read op.state c.args.mode c.requires.state op.counted) c.begun-state.ensures)
 
 pub invariant_of-self-clause-counted : goal.invariant_of-self-clause-counted
 invariant_of-self-clause-counted g c =
     let op = c.args.self.now in
-    (begin_sound op.set c.as_str.result.now op.long op.read op.md5 c.args.mode c.begin_put-answer.result.answer c.begun.result
-    (none_read_yet op.long op.read op.state c.args.mode c.requires.state op.counted) c.begun.ensures).counted
+    rw c.go_to.ensures ((begin_sound op.set c.as_str.result.now op.long op.read op.md5 c.args.mode c.begin_put-answer.result.answer c.begun-state.result
+    (none_read_yet op.long op.read op.state c.args.mode c.requires.state op.counted) c.begun-state.ensures).counted)
 
 pub invariant_of-self-clause-reached : goal.invariant_of-self-clause-reached
 invariant_of-self-clause-reached g c =
     let op = c.args.self.now in
-    (begin_sound op.set c.as_str.result.now op.long op.read op.md5 c.args.mode c.begin_put-answer.result.answer c.begun.result
-    (none_read_yet op.long op.read op.state c.args.mode c.requires.state op.counted) c.begun.ensures).reached
+    rw c.go_to.ensures ((begin_sound op.set c.as_str.result.now op.long op.read op.md5 c.args.mode c.begin_put-answer.result.answer c.begun-state.result
+    (none_read_yet op.long op.read op.state c.args.mode c.requires.state op.counted) c.begun-state.ensures).reached)
 
 pub invariant_of-self-clause-over : goal.invariant_of-self-clause-over
 invariant_of-self-clause-over g c =
     let op = c.args.self.now in
-    (begin_sound op.set c.as_str.result.now op.long op.read op.md5 c.args.mode c.begin_put-answer.result.answer c.begun.result
-    (none_read_yet op.long op.read op.state c.args.mode c.requires.state op.counted) c.begun.ensures).over
+    rw c.go_to.ensures ((begin_sound op.set c.as_str.result.now op.long op.read op.md5 c.args.mode c.begin_put-answer.result.answer c.begun-state.result
+    (none_read_yet op.long op.read op.state c.args.mode c.requires.state op.counted) c.begun-state.ensures).over)

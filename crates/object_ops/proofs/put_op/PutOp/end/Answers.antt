@@ -36,7 +36,7 @@ returns-in-Commits-clause-turns g c =
     let is = sym c.moved_out.ensures.out ∙ c.in-Staging.is in
     let turn = c.commit-turn in
     let commit = c.commit-turn.ensures in
-    end_commits op out c.begin.new.self work is (finishing op.state work c.requires.state is)
+    rw c.go_to.ensures (end_commits op out c.begin.new.self work is (finishing op.state work c.requires.state is)
     (c.begin.ensures.queue ∙ ap (λ k. k.queue.items) c.moved_out.ensures.clearing) c.moved_out.ensures.same c.moved_out.ensures.read g.D.Drive c.id.result
     c.in-Commits.deed turn.result.answer turn.result.stub c.put_committed.result (slot_seen g.A.Audit.entries g.A.Audit.count c.args.slot.now)
     (slot_seen g.A.Audit.entries g.A.Audit.count turn.new.self) c.args.disks.now turn.new.disks c.id.ensures c.requires.slot_set c.requires.next
@@ -50,19 +50,19 @@ returns-in-Commits-clause-turns g c =
       read = record { long = turn.auto.disks; files = commit.disk_files; tells = commit.disk_tells; counts = commit.disk_counts };
       cause = commit.cause;
     })
-    c.put_committed.ensures
+    c.put_committed.ensures)
 
 pub returns-in-Commits-clause-left : goal.returns-in-Commits-clause-left
 returns-in-Commits-clause-left g c =
     let op = c.args.self.now in
     let out = c.moved_out.new.self in
     let same = c.begin.ensures.queue ∙ ap (λ k. k.queue.items) c.moved_out.ensures.clearing in
-    subst (λ n. n < left_at op.set op.long op.read op.clearing op.state)
+    rw c.go_to.ensures (subst (λ n. n < left_at op.set op.long op.read op.clearing op.state)
     (sym (lefts_on op out c.begin.new.self c.put_committed.result c.moved_out.ensures.same c.moved_out.ensures.read))
     (staging_over op.set op.long op.read op.clearing c.begin.new.self op.state c.put_committed.result c.in-Staging.work
     (sym c.moved_out.ensures.out ∙ c.in-Staging.is)
     (over_left op.set op.long op.read op.clearing c.begin.new.self c.put_committed.result c.begin.ensures.takes same
-    (committed_left op.set op.long op.read c.begin.new.self c.commit-turn.result.answer c.put_committed.result c.put_committed.ensures)))
+    (committed_left op.set op.long op.read c.begin.new.self c.commit-turn.result.answer c.put_committed.result c.put_committed.ensures))))
 
 pub returns-in-GivesUp-clause-turns : goal.returns-in-GivesUp-clause-turns
 returns-in-GivesUp-clause-turns g c =
@@ -76,11 +76,11 @@ returns-in-GivesUp-clause-turns g c =
     let after = slot_seen g.A.Audit.entries g.A.Audit.count c.drop_put.new.self in
     let none = no_stub was.numbers c.drop_put.result.answer c.drop_put.result.stub drop.done drop.turns.stub_is in
     let D = g.D.Drive in
-    subst (λ s. TurnsSo D (PutStands op) (PutStandsAt (ask_of out) out.read c.begin.new.self (Telling (Refused c.in-GivesUp.why))) s was after
+    rw c.go_to-in-GivesUp.ensures (subst (λ s. TurnsSo D (PutStands op) (PutStandsAt (ask_of out) out.read c.begin.new.self (Telling (Refused c.in-GivesUp.why))) s was after
     (views D c.args.disks.now) (views D c.args.disks.now)) (sym none)
     (end_gives_up op out c.begin.new.self work is may (c.begin.ensures.queue ∙ ap (λ k. k.queue.items) c.moved_out.ensures.clearing) c.moved_out.ensures.same c.moved_out.ensures.read D c.id.result c.in-GivesUp.why c.drop_put.result.answer was after (views D c.args.disks.now)
     (all_read op.long op.read op.state work is op.counted may.whole) c.requires.next
-    (subst (Ends out.at out.kind work.mode c.id.result work.stage) c.in-GivesUp.is c.end_of.ensures) (drop_says D was after work.flight.id c.drop_put.result.answer c.drop_put.result.stub none (record { turns = drop.turns; holds = drop.holds; leaves = drop.leaves })))
+    (subst (Ends out.at out.kind work.mode c.id.result work.stage) c.in-GivesUp.is c.end_of.ensures) (drop_says D was after work.flight.id c.drop_put.result.answer c.drop_put.result.stub none (record { turns = drop.turns; holds = drop.holds; leaves = drop.leaves }))))
 
 pub returns-in-LacksMemory-clause-turns : goal.returns-in-LacksMemory-clause-turns
 returns-in-LacksMemory-clause-turns g c =
@@ -94,24 +94,24 @@ returns-in-LacksMemory-clause-turns g c =
     let after = slot_seen g.A.Audit.entries g.A.Audit.count c.drop_put-in-LacksMemory.new.self in
     let none = no_stub was.numbers c.drop_put-in-LacksMemory.result.answer c.drop_put-in-LacksMemory.result.stub drop.done drop.turns.stub_is in
     let D = g.D.Drive in
-    subst (λ s. TurnsSo D (PutStands op) (PutStandsAt (ask_of out) out.read c.begin.new.self (Told (Some NoMemory))) s was after
+    rw c.go_to-in-LacksMemory.ensures (subst (λ s. TurnsSo D (PutStands op) (PutStandsAt (ask_of out) out.read c.begin.new.self (Told (Some NoMemory))) s was after
     (views D c.args.disks.now) (views D c.args.disks.now)) (sym none)
-    (end_lacks op out c.begin.new.self work is may (c.begin.ensures.queue ∙ ap (λ k. k.queue.items) c.moved_out.ensures.clearing) c.moved_out.ensures.same c.moved_out.ensures.read D c.drop_put-in-LacksMemory.result.answer was after (views D c.args.disks.now) c.requires.next (drop_says D was after work.flight.id c.drop_put-in-LacksMemory.result.answer c.drop_put-in-LacksMemory.result.stub none (record { turns = drop.turns; holds = drop.holds; leaves = drop.leaves })))
+    (end_lacks op out c.begin.new.self work is may (c.begin.ensures.queue ∙ ap (λ k. k.queue.items) c.moved_out.ensures.clearing) c.moved_out.ensures.same c.moved_out.ensures.read D c.drop_put-in-LacksMemory.result.answer was after (views D c.args.disks.now) c.requires.next (drop_says D was after work.flight.id c.drop_put-in-LacksMemory.result.answer c.drop_put-in-LacksMemory.result.stub none (record { turns = drop.turns; holds = drop.holds; leaves = drop.leaves }))))
 
 pub invariant_of-self-clause-counted : goal.invariant_of-self-clause-counted
 invariant_of-self-clause-counted g c =
     let out = c.moved_out.new.self in
-    (commit_sound out.long out.read out.set.drives c.commit-turn.result.answer c.put_committed.result c.put_committed.ensures).counted
+    rw c.go_to.ensures ((commit_sound out.long out.read out.set.drives c.commit-turn.result.answer c.put_committed.result c.put_committed.ensures).counted)
 
 pub invariant_of-self-clause-reached : goal.invariant_of-self-clause-reached
 invariant_of-self-clause-reached g c =
     let out = c.moved_out.new.self in
-    (commit_sound out.long out.read out.set.drives c.commit-turn.result.answer c.put_committed.result c.put_committed.ensures).reached
+    rw c.go_to.ensures ((commit_sound out.long out.read out.set.drives c.commit-turn.result.answer c.put_committed.result c.put_committed.ensures).reached)
 
 pub invariant_of-self-clause-over : goal.invariant_of-self-clause-over
 invariant_of-self-clause-over g c =
     let out = c.moved_out.new.self in
-    (commit_sound out.long out.read out.set.drives c.commit-turn.result.answer c.put_committed.result c.put_committed.ensures).over
+    rw c.go_to.ensures ((commit_sound out.long out.read out.set.drives c.commit-turn.result.answer c.put_committed.result c.put_committed.ensures).over)
 
 pub invariant_of-self-clause-due : goal.invariant_of-self-clause-due
 invariant_of-self-clause-due g c =

@@ -13,9 +13,9 @@ returns-in-Staging-clause-calls g c =
     let out = c.moved_out.new.self in
     let D = g.D.Drive in
     let later = c.stepped.result in
-    subst (λ (k : Clearing). CallsSo (PutStands op) (PutStandsAt (ask_of out) out.read k (Staging later)) op.set (views D c.args.disks.now) (views D c.stepped.new.disks))
+    rw c.go_to.ensures (subst (λ (k : Clearing). CallsSo (PutStands op) (PutStandsAt (ask_of out) out.read k (Staging later)) op.set (views D c.args.disks.now) (views D c.stepped.new.disks))
     (sym c.moved_out.ensures.clearing)
     (subst (λ P. CallsSo (PutStands op) P op.set (views D c.args.disks.now) (views D c.stepped.new.disks))
     (stands_on op out op.clearing (Staging later) c.moved_out.ensures.same c.moved_out.ensures.read)
     (work_so (ask_of op) op.read D op.clearing op.state c.in-Staging.work later c.args.disks.now c.stepped.new.disks
-    (sym c.moved_out.ensures.out ∙ c.in-Staging.is) c.requires.disks c.stepped.ensures.disks c.stepped.ensures.steps))
+    (sym c.moved_out.ensures.out ∙ c.in-Staging.is) c.requires.disks c.stepped.ensures.disks c.stepped.ensures.steps)))

@@ -2,12 +2,12 @@ use Rattle.std.proofs.Common.{◌≡◌, ◌+◌, ◌∙◌, List, map, refl, sy
 use Rattle.std.proofs.lemmas.List.{with_items_is}
 use Rattle.std.specs.Vec.{with_items}
 use Rattle.register_core.specs.Loops.{CountsRise, TellsStay}
+use Rattle.slot_rules.specs.declared.site.Site.{Site}
 use Rattle.slot_core.specs.Hands.{HandsStay}
 use Rattle.slot_core.specs.Sections.{ShowsNoMore}
 use Rattle.slot_core.specs.Settling.{numbers_at}
 use Rattle.slot_core.specs.Stubs.{completed_by}
 use Rattle.slot_core.specs.Views.{holding_of, numbers_of}
-use Rattle.slot_core.specs.declared.site.Site.{Site}
 use Rattle.slot_data.specs.Moves.{with_pins}
 use Rattle.slot_data.specs.Rows.{pinned_of}
 use Rattle.slot_core.proofs.BeginReadLemmas.{flights_drawn_on, new_ticket, pins_before_next, read_cause_turned, read_holds}

@@ -5,6 +5,8 @@ use Rattle.stamp_id.specs.declared.version.VersionId.{VersionId}
 use Rattle.register_core.specs.Loops.{CountsRise, TellsStay}
 use Rattle.slot_history.specs.Standing.{Flying}
 use Rattle.slot_data.specs.Rows.{flying_of}
+use Rattle.slot_rules.specs.declared.site.Drawn.{Drawn}
+use Rattle.slot_rules.specs.declared.site.Site.{Site}
 use Rattle.slot_core.specs.Carrying.{kept_with}
 use Rattle.slot_core.specs.CommitCauses.{deed_in}
 use Rattle.slot_core.specs.Committing.{MayCommitData, ShowsTrash}
@@ -13,8 +15,6 @@ use Rattle.slot_core.specs.Settling.{numbers_at}
 use Rattle.slot_core.specs.Stubs.{entry_of}
 use Rattle.slot_core.specs.Views.{holding_of, numbers_of}
 use Rattle.slot_core.specs.declared.fault.SlotFault.TheVariants.{SeqSpent}
-use Rattle.slot_core.specs.declared.site.Drawn.{Drawn}
-use Rattle.slot_core.specs.declared.site.Site.{Site}
 use Rattle.slot_core.proofs.CommitLemmas.{lost_leaves}
 use Rattle.slot_core.proofs.LandLemmas.{LandLaws}
 use Rattle.slot_core.proofs.PeekLemmas.{leaves_turned}

@@ -2,12 +2,12 @@ use Rattle.std.proofs.Common.{◌≡◌, ◌+◌, ◌∙◌, List, sym}
 use Rattle.std.proofs.lemmas.List.{with_items_is}
 use Rattle.std.specs.Vec.{with_items}
 use Rattle.register_core.specs.Loops.{CountsRise, TellsStay}
+use Rattle.slot_rules.specs.declared.site.Site.{Site}
 use Rattle.slot_core.specs.Hands.{HandsStay}
 use Rattle.slot_core.specs.Sections.{ShowsContent}
 use Rattle.slot_core.specs.Settling.{numbers_at}
 use Rattle.slot_core.specs.Stubs.{completed_by}
 use Rattle.slot_core.specs.Views.{holding_of, numbers_of}
-use Rattle.slot_core.specs.declared.site.Site.{Site}
 use Rattle.slot_core.proofs.PeekLemmas.{cause_turned, leaves_turned}
 use Rattle.slot_core.proofs.KeptLemmas.{on_lanes}
 use Rattle.slot_core.proofs.slot.Slot.peek.Goals as goal

@@ -1,5 +1,0 @@
-use Rattle.slot_core.proofs.SizeLemmas.{content_short}
-use Rattle.slot_core.proofs.rules.read_key.Goals as goal
-
-pub returns-in-None-place_in-clause-within : goal.returns-in-None-place_in-clause-within
-returns-in-None-place_in-clause-within c = content_short c.args.content.now c.in-Ok.state c.in-Ok.ensures.found.0 c.in-Ok.ensures.found.1

@@ -1,0 +1,4 @@
+pub mod OwnPlanLemmas
+pub mod PlanLemmas
+pub mod SizeLemmas
+pub mod TakingLemmas
