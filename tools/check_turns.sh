@@ -14,11 +14,10 @@ cp -r "$top/crates/turn_lock" "$copy/crates/"
 rm -rf "$copy/crates/turn_lock/out"
 
 tests="$copy/crates/turn_lock/src/tests.rt"
-sed -i -e 's/3_000,$/100_000,/' -e 's/first.len() + second.len(), 6_000/first.len() + second.len(), 200_000/' -e 's/pass.seen(), 6_005/pass.seen(), 200_005/' \
-    -e 's/(6_005, 18_027_000)/(200_005, 20_000_900_000)/' -e 's/pass, 2_000, none/pass, 100_000, none/' -e 's/list.len(), 2_000/list.len(), 100_000/' \
-    -e 's/(8_000, 31_996_000)/(400_000, 79_999_800_000)/' "$tests"
+sed -i -e 's/5, false, 3_000/5, false, 100_000/' -e 's/\[6_000, 6_000, 6_005, 6_005, 18_027_000\]/[200_000, 200_000, 200_005, 200_005, 20_000_900_000]/' \
+    -e 's/0, true, 2_000/0, true, 100_000/' -e 's/\[8_000, 8_000, 8_000, 8_000, 31_996_000\]/[400_000, 400_000, 400_000, 400_000, 79_999_800_000]/' "$tests"
 changed="$(diff "$top/crates/turn_lock/src/tests.rt" "$tests" | grep -c '^>' || true)"
-if [[ "$changed" != 7 ]]; then
+if [[ "$changed" != 4 ]]; then
     echo "check_turns: the tests have other numbers than this script knows" >&2
     exit 1
 fi

@@ -7,10 +7,9 @@ use Rattle.io_base.specs.Door.{IsOwed, told_more}
 use Rattle.call_types.specs.declared.feed.Cut.{Cut}
 use Rattle.desk_base.specs.Answering.{Task}
 use Rattle.desk_base.specs.Telling.{Telling}
-use Rattle.serve_loop.specs.Doors.{AreVisited, DoorEndsSo, DoorServed, DoorView, GaveVisits, IsEven, IsVisited, RoundGoes, ServedSince, ServesOne, Sight, Visit, given_of, returned_of, told_all}
+use Rattle.serve_loop.specs.Doors.{AreVisited, DoorEndsSo, DoorServed, DoorView, GaveVisits, IsEven, IsVisited, ServedSince, ServesOne, Sight, Visit, given_of, returned_of, told_all}
 use Rattle.serve_loop.specs.declared.doors.DoorEnd.{DoorEnd}
 use Rattle.serve_loop.specs.declared.doors.DoorEnd.TheVariants.{Over, DoorFailed}
-use Rattle.serve_loop.specs.declared.doors.Round.TheVariants as round
 use Rattle.serve_loop.specs.declared.ends.ConnectionEnd.{ConnectionEnd}
 
 told_none : {X : Type 0} (known : Option (List X)) → known ≡ told_all known []
@@ -107,34 +106,24 @@ module _ {M R S T : Type 0} (answers : Task → M → M → List ℕ → List Te
     counted = one.counted ∙ so_far.counted;
   }
 
-  pub door_over : (old mid new : M) (start here there : DoorView S T) → DoorSoFar old mid start here → RoundGoes answers clock seen round.Over mid new here there
-      → DoorServed answers clock seen Over old new start there
-  door_over old mid new start here there so_far goes = record {
-    visits = so_far.visits ++ [];
-    visited = visited_more so_far.visits [] old mid new so_far.visited (sym goes.0);
-    passed = visits_more so_far.visits [] start here there so_far.passed (λ shut. so_far.over ∙ shut) goes.1;
-    ends = (goes.2, goes.3 ∙ so_far.counted);
-  }
-
-  pub door_failed : (old mid new : M) (start here there : DoorView S T) (before after : ℕ) → DoorSoFar old mid start here → RoundGoes answers clock seen round.Failed mid new here there
-      → before ≡ start.faults → after ≡ there.faults → DoorServed answers clock seen (DoorFailed before after) old new start there
-  door_failed old mid new start here there before after so_far goes first last = record {
-    visits = so_far.visits ++ [];
-    visited = visited_more so_far.visits [] old mid new so_far.visited (sym goes.0);
-    passed = visits_more so_far.visits [] start here there so_far.passed (λ shut. so_far.over ∙ shut) goes.1;
-    ends = (goes.2 ∙ so_far.over, first, last, subst (λ n. Rose n there.faults) so_far.counted goes.3);
-  }
-
   -- no connection came any more, or the door failed
   pub ends_over : (old mid : M) (start here there : DoorView S T) → DoorSoFar old mid start here → there.gave ≡ here.gave → there.returned ≡ here.returned
       → there.over ≡ true → there.faults ≡ here.faults → DoorServed answers clock seen Over old mid start there
-  ends_over old mid start here there so_far gave returned shut counted =
-      door_over old mid mid start here there so_far (refl, visits_none here there gave returned, shut, counted)
+  ends_over old mid start here there so_far gave returned shut counted = record {
+    visits = so_far.visits ++ [];
+    visited = visited_more so_far.visits [] old mid mid so_far.visited refl;
+    passed = visits_more so_far.visits [] start here there so_far.passed (λ over. so_far.over ∙ over) (visits_none here there gave returned);
+    ends = (shut, counted ∙ so_far.counted);
+  }
 
   pub ends_failed : (old mid : M) (start here there : DoorView S T) → DoorSoFar old mid start here → there.gave ≡ here.gave → there.returned ≡ here.returned
       → there.over ≡ here.over → Rose here.faults there.faults → DoorServed answers clock seen (DoorFailed start.faults there.faults) old mid start there
-  ends_failed old mid start here there so_far gave returned over counted =
-      door_failed old mid mid start here there start.faults there.faults so_far (refl, visits_none here there gave returned, over, counted) refl refl
+  ends_failed old mid start here there so_far gave returned over rose = record {
+    visits = so_far.visits ++ [];
+    visited = visited_more so_far.visits [] old mid mid so_far.visited refl;
+    passed = visits_more so_far.visits [] start here there so_far.passed (λ shut. so_far.over ∙ shut) (visits_none here there gave returned);
+    ends = (over ∙ so_far.over, refl, refl, subst (λ n. Rose n there.faults) so_far.counted rose);
+  }
 
   -- a door that was over is over when it was served
   stays_over : (end : DoorEnd) (old new : DoorView S T) → DoorEndsSo end old new → old.over ≡ true → new.over ≡ true

@@ -5,7 +5,6 @@ pub mod DoorLemmas
 pub mod HeadLemmas
 pub mod IntakeLemmas
 pub mod RestLemmas
-pub mod ScriptLemmas
 pub mod SendLemmas
 pub mod SessionLemmas
 pub mod TellingLemmas

@@ -8,8 +8,6 @@ use Rattle.serve_loop.specs.Deeds.{Wires, wires}
 use Rattle.serve_loop.specs.Session.{Session}
 use Rattle.serve_loop.specs.declared.doors.DoorEnd.{DoorEnd}
 use Rattle.serve_loop.specs.declared.doors.DoorEnd.TheVariants.{Over, DoorFailed}
-use Rattle.serve_loop.specs.declared.doors.Round.{Round}
-use Rattle.serve_loop.specs.declared.doors.Round.TheVariants as round
 use Rattle.serve_loop.specs.declared.ends.ConnectionEnd.{ConnectionEnd}
 
 -- how the ends of connections are seen: what of a source was not taken, what was given to a sink, and their counts of faults
@@ -125,10 +123,3 @@ module _ {M R S T : Type 0} (answers : Task → M → M → List ℕ → List Te
     pub passed : GaveVisits (visit ∷ []) before after
     pub over : after.over ≡ before.over
     pub counted : after.faults ≡ before.faults
-
-  -- what one round comes to: a connection was served, or the door is over, or it failed
-  abbrev pub RoundGoes : Round → (old new : M) → (before after : DoorView S T) → Type 0
-  RoundGoes round.Served old new before after = ServesOne old new before after
-  RoundGoes round.Over old new before after = (new ≡ old) × GaveVisits [] before after × (after.over ≡ true) × (after.faults ≡ before.faults)
-  RoundGoes round.Failed old new before after =
-      (new ≡ old) × GaveVisits [] before after × (after.over ≡ before.over) × Rose before.faults after.faults

@@ -7,7 +7,7 @@ use crate::manner::Manner;
 use call_types::{Cut, Whys};
 
 /// How a connection ended.
-#[derive(Clone, Copy, Debug, PartialEq, Eq)]
+#[derive(Clone, Copy)]
 pub enum ConnectionEnd {
     /// The source was read to its end, or the client asked to close.
     Over,
@@ -26,7 +26,7 @@ pub enum ConnectionEnd {
 }
 
 /// What one request led to.
-#[derive(Clone, Copy, Debug, PartialEq, Eq)]
+#[derive(Clone, Copy)]
 pub enum Turn {
     /// It was answered, and the next may be read.
     Answered,

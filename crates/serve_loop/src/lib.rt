@@ -7,8 +7,8 @@
 //! bytes that were given, in order, each a call of the desk or a refusal that the head explains, and an end with its cause. It knows nothing of what a
 //! desk is: each exchange moves the pass as the desk's own relation says.
 //!
-//! [`serve_door`] serves the connections of a door so, one after another, and hands each back. A [`ServeWork`] is that as a work for a thread: workers
-//! share one desk, each with a pass and a door of its own. It stands on `io_base` for doors and works.
+//! A [`ServeWork`] serves the connections of a door so, one after another, and hands each back. It is a work for a thread: workers share one desk, each
+//! with a pass and a door of its own. It stands on `io_base` for doors and works.
 //!
 //! Where the store itself is the trouble, with a 5xx refusal but for 501, a line on standard error says so too, of which nothing is promised.
 #![tactic(auto)]
@@ -26,10 +26,7 @@ mod telling;
 mod works;
 
 pub use connection::{MOST_REQUESTS, Served, serve_connection};
-pub use doors::{DoorEnd, serve_door};
+pub use doors::DoorEnd;
 pub use ends::ConnectionEnd;
 pub use serving::MOST_BODY;
 pub use works::ServeWork;
-
-#[cfg(test)]
-mod tests;

@@ -10,7 +10,7 @@ use call_types::Refusal;
 use http_wire::Head;
 
 /// What becomes of the connection after a reply.
-#[derive(Clone, Copy, Debug, PartialEq, Eq)]
+#[derive(Clone, Copy)]
 pub enum Manner {
     /// The next request may be read.
     Stays,

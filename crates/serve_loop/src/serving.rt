@@ -211,6 +211,7 @@ pub(crate) fn serve_head<R: Eprint, K: Desk, S: Source + Drop, T: Sink>(
             let manner = manner_of(head, is_last, false);
             let close = manner.closes();
             let answer = serve_call(rt, alloc, desk, pass, now, head, &call, close, intake, sink);
+            drop(call);
             turn_of(answer, manner)
         }
         Err(CallFault::Refused(why)) => {

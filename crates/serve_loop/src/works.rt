@@ -113,7 +113,8 @@ impl<
         × ∥ ServedSince (K.answers w.desk.now) (C.moment w.clock.now) (sight O.In.left O.In.faults O.Out.given O.Out.faults) K.holds w.first.value w.pass
         (door_view O.over O.gave O.returned O.faults w.entrance.value) (door_view O.over O.gave O.returned O.faults w.door) ∥₁ };
 
-    /// Serves the door, as `serve_door` does; a call that hands on the bound of a door gets no proof in a trait's method.
+    /// Serves the connections of the door one after another, and hands each of them back, however it ended, until no more will come or the door fails. It may wait
+    /// for connections without an end.
     fn work(&mut self)
         ensures over { IsServedOut (O.over self.new.door) (O.faults self.new.entrance.value) (O.faults self.new.door)
             × ∥ ServedSince (K.answers self.new.desk.now) (C.moment self.new.clock.now) (sight O.In.left O.In.faults O.Out.given O.Out.faults)
