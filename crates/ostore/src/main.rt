@@ -37,7 +37,7 @@ use drive_base::Drive;
 use folders::{file_rig, root_lock};
 use io_base::{Sink, Source, Spawner, StdSink, StdSource, SystemClock, TcpDoor, TcpLimits};
 use memory::memory_rig;
-use notices::tell_listening;
+use notices::{tell_in_memory, tell_listening, tell_usage};
 use program::run_alone;
 use rig::Rig;
 use running::run;
@@ -66,7 +66,12 @@ fn main(rt: HostRuntime) -> ExitCode {
             let mut sink = StdSink::new(rt.stdout());
             match &plan.root {
                 None => match memory_rig(rt.alloc(), plan.set) {
-                    Ok(rig) => run_over(&rt, words, &plan, source, &mut sink, rig),
+                    Ok(rig) => {
+                        if !matches!(plan.command, Command::Status) {
+                            tell_in_memory(&rt);
+                        }
+                        run_over(&rt, words, &plan, source, &mut sink, rig)
+                    }
                     Err(_) => OUT_OF_MEMORY,
                 },
                 Some(root) => {
@@ -81,6 +86,9 @@ fn main(rt: HostRuntime) -> ExitCode {
         }
         Err(status) => status,
     };
+    if status == USAGE {
+        tell_usage(&rt);
+    }
     if let Some(cause) = cause_of(status) {
         let _ = eprintln!(rt; "ostore: {cause}");
     }

@@ -1,74 +1,112 @@
-//! The program over streams and drives in memory: what it gives, and how it ends.
+//! The command `serve` over doors and drives in memory. What is found behind a run is kept as numbers, and compared where no rig is alive any more.
 
 mod overlap;
 mod serving;
 
+ghost use Rattle.std.specs.Prelude.{IfOk};
+ghost use Rattle.ostore.specs.Rigs.{IsRigOf};
+
 use crate::memory::memory_rig;
-use crate::program::run_alone;
-use command_line::plan_of;
-use io_base::{MemClock, MemSink, MemSource};
+use crate::rig::{Ended, Rig};
+use audit_trail::MemAudit;
+use drive_base::SetPlan;
+use drive_memory::MemDrive;
+use io_base::{MemDoor, MemSink, MemSource};
 use std::alloc::{AllocError, Global};
-use std::test::Fail;
 
 /// The moment of each run, in Unix seconds.
 const NOW: u64 = 784_111_777;
 
-/// A bucket is made and gets versioning, and an object is put and got.
-const REQUESTS: &[u8] =
-    b"PUT /pic HTTP/1.1\r\n\r\nPUT /pic?versioning HTTP/1.1\r\nContent-Length: 75\r\n\r\n<VersioningConfiguration><Status>Enabled</Status></VersioningConfiguration>PUT /pic/a HTTP/1.1\r\nContent-Length: 5\r\n\r\nhelloGET /pic/a HTTP/1.1\r\n\r\n";
+/// The slots of the keys `a` and `k` of the bucket `pic`.
+const SLOTS: [u8; 2] = [28, 38];
 
-/// The replies to these.
-const REPLIES: &[u8] =
-    b"HTTP/1.1 200 OK\r\nDate: Sun, 06 Nov 1994 08:49:37 GMT\r\nContent-Length: 0\r\nLocation: /pic\r\n\r\nHTTP/1.1 200 OK\r\nDate: Sun, 06 Nov 1994 08:49:37 GMT\r\nContent-Length: 0\r\n\r\nHTTP/1.1 200 OK\r\nDate: Sun, 06 Nov 1994 08:49:37 GMT\r\nContent-Length: 0\r\nETag: \"5d41402abc4b2a76b9719d911017c592\"\r\nx-amz-version-id: 00000000-0001-801c-8000-000000000001\r\n\r\nHTTP/1.1 200 OK\r\nDate: Sun, 06 Nov 1994 08:49:37 GMT\r\nContent-Length: 5\r\nContent-Type: binary/octet-stream\r\nLast-Modified: Sun, 06 Nov 1994 08:49:37 GMT\r\nETag: \"5d41402abc4b2a76b9719d911017c592\"\r\nAccept-Ranges: bytes\r\nx-amz-version-id: 00000000-0001-801c-8000-000000000001\r\n\r\nhello";
+/// The reply to a PUT of `hello`, but for its front.
+const STORED: &[u8] = b"Content-Length: 0\r\nETag: \"5d41402abc4b2a76b9719d911017c592\"\r\n\r\n";
 
-/// These words.
-fn words_of(alloc: Global, words: &[&str]) -> Result<Vec<String>, AllocError> {
-    let mut owned = Vec::new(alloc);
-    for word in words {
-        owned.push(String::from_str(alloc, word)?)?;
+/// The number of a call that no connection of the tests makes.
+const NO_CALL: u64 = 9;
+
+/// A rig of fresh drives, four with two of parity.
+fn fresh_rig(alloc: Global) -> Result<Rig<MemDrive, MemAudit>, AllocError>
+    ensures rig { IfOk result (λ rig. IsRigOf rig.set rig) }
+{
+    memory_rig(alloc, SetPlan::new([0; 16], 4, 2))
+}
+
+/// A connection that gives these bytes, whose source fails at this take and whose sink at this give.
+fn pair_of(
+    alloc: Global,
+    bytes: &[u8],
+    take: u64,
+    give: u64,
+) -> Result<(MemSource, MemSink), AllocError> {
+    let source = MemSource::new(Vec::from_slice(alloc, bytes)?, vec![in alloc; take]?);
+    Ok((source, MemSink::new(vec![in alloc; give]?)))
+}
+
+/// A door of connections, which fails at this call.
+fn door_over(
+    alloc: Global,
+    pairs: Vec<(MemSource, MemSink)>,
+    fails: u64,
+) -> Result<MemDoor, AllocError> {
+    let fails = vec![in alloc; fails]?;
+    match MemDoor::new(alloc, pairs, fails) {
+        Ok(door) => Ok(door),
+        Err(_) => Err(AllocError),
     }
-    Ok(owned)
 }
 
-/// How a run with these words over this input and fresh memory drives ended, and what it gave.
-fn run_on(rt: &HostRuntime, words: &[&str], input: &[u8]) -> Result<(u8, Vec<u8>), Fail> {
-    let alloc = rt.alloc();
-    let owned = words_of(alloc, words)?;
-    let words = owned.as_slice();
-    let Ok(plan) = plan_of(alloc, words) else {
-        return Err(Fail::new("the words are no command line"));
+/// What is found behind a run of `serve`: its status, how many entries the audits of the two slots have, and the doors.
+#[derive(Drop)]
+struct Found {
+    status: u8,
+    entries: [usize; 2],
+    doors: Vec<MemDoor>,
+}
+
+/// How many entries the audit of a slot of a rig has: of a key's slot, that of the opening, and one for each PUT and GET.
+fn entries_at<D>(rig: &Option<Rig<D, MemAudit>>, slot: u8) -> usize {
+    let Some(rig) = rig else {
+        return 0;
     };
-    let rig = memory_rig(alloc, plan.set)?;
-    let source = MemSource::new(Vec::from_slice(alloc, input)?, Vec::new(alloc));
-    let mut sink = MemSink::new(Vec::new(alloc));
-    let clock = MemClock::new(NOW);
-    let finished = run_alone(rt, words, source, &mut sink, rig, &clock);
-    Ok((finished.ended.status, Vec::from_slice(alloc, sink.given())?))
+    match rig.slots.get(usize::from(slot)) {
+        Some(parts) => parts.audit.entries().len(),
+        None => 0,
+    }
 }
 
-#[test]
-fn an_object_is_stored_and_found(rt: HostRuntime) -> Result<(), Fail> {
-    let (status, given) = run_on(&rt, &["pipe"], REQUESTS)?;
-    assert_eq!(rt; status, 0);
-    assert_eq!(rt; given.as_slice(), REPLIES);
-    Ok(())
+/// Takes the end of a run apart.
+fn find<D: Drop>(ended: Ended<D, MemAudit, Vec<MemDoor>>) -> Found {
+    let Ended {
+        status,
+        rig,
+        opening,
+        line: _,
+        door,
+    } = ended;
+    let entries = [entries_at(&rig, SLOTS[0]), entries_at(&rig, SLOTS[1])];
+    drop(rig);
+    drop(opening);
+    Found {
+        status,
+        entries,
+        doors: door,
+    }
 }
 
-#[test]
-fn a_cut_head_ends_with_8(rt: HostRuntime) -> Result<(), Fail> {
-    let (status, given) = run_on(&rt, &["pipe"], b"GET /pic")?;
-    assert_eq!(rt; status, 8);
-    assert_eq!(rt; given.len(), 0);
-    Ok(())
-}
-
-#[test]
-fn fresh_drives_have_no_format(rt: HostRuntime) -> Result<(), Fail> {
-    let (status, given) = run_on(&rt, &["status"], b"")?;
-    assert_eq!(rt; status, 0);
-    assert_eq!(rt;
-        given.as_slice(),
-        b"{\"drives\":4,\"formats\":[\"absent\",\"absent\",\"absent\",\"absent\"],\"parity\":2,\"set\":\"00000000-0000-0000-0000-000000000000\",\"term\":0}\n".as_slice()
-    );
-    Ok(())
+/// Of the connections that came back, door by door: how many there are, how many were given texts with these ends, and how many bytes were given to all.
+fn count_given(doors: Vec<MemDoor>, ends: &[&[u8]]) -> [usize; 3] {
+    let (mut came, mut same, mut bytes) = (0usize, 0usize, 0usize);
+    for door in doors {
+        for (_, sink) in &door.into_returned() {
+            let given = sink.given();
+            if let Some(end) = ends.get(came) {
+                same = same.saturating_add(usize::from(given.ends_with(end)));
+            }
+            came = came.saturating_add(1);
+            bytes = bytes.saturating_add(given.len());
+        }
+    }
+    [came, same, bytes]
 }

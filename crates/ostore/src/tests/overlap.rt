@@ -2,20 +2,13 @@
 
 ghost use Rattle.std.specs.Prelude.{◌≡◌, IfOk, length};
 
-use super::serving::{door_of, entries_at, given};
-use super::words_of;
-use crate::memory::memory_rig;
+use super::{Found, NO_CALL, NOW, SLOTS, STORED, count_given, door_over, find, fresh_rig, pair_of};
 use crate::serving::serve;
 use crate::ways::with_ways;
-use command_line::plan_of;
 use desk_base::Gate;
 use io_base::{MemClock, MemDoor, Spawner};
-use std::alloc::Global;
+use std::alloc::{AllocError, Global};
 use std::sync::atomic::{AtomicU64, Ordering};
-use std::test::Fail;
-
-/// The slots of the keys `a` and `k` of the bucket `pic`.
-const SLOTS: [u8; 2] = [28, 38];
 
 /// How often a call looks for the other one at most.
 const MOST_LOOKS: u32 = 100_000_000;
@@ -48,48 +41,47 @@ impl Gate for Meeting<'_> {
     }
 }
 
-/// A door for each of two connections, which both make the bucket and then a key of their own.
-fn two_doors(alloc: Global) -> Result<Vec<MemDoor>, Fail>
+/// A door of one connection, which makes the bucket and then a key.
+fn door_to(alloc: Global, bytes: &[u8]) -> Result<MemDoor, AllocError> {
+    let mut pairs = Vec::new(alloc);
+    pairs.push(pair_of(alloc, bytes, NO_CALL, NO_CALL)?)?;
+    door_over(alloc, pairs, NO_CALL)
+}
+
+/// A door for each of two keys.
+fn two_doors(alloc: Global) -> Result<Vec<MemDoor>, AllocError>
     ensures { IfOk result (λ doors. length doors.items ≡ 2) }
 {
     let mut doors = Vec::new(alloc);
-    doors.push(door_of(
+    doors.push(door_to(
         alloc,
         b"PUT /pic HTTP/1.1\r\n\r\nPUT /pic/a HTTP/1.1\r\nContent-Length: 5\r\n\r\nhello",
-        &[],
     )?)?;
-    doors.push(door_of(
+    doors.push(door_to(
         alloc,
         b"PUT /pic HTTP/1.1\r\n\r\nPUT /pic/k HTTP/1.1\r\nContent-Length: 5\r\n\r\nhello",
-        &[],
     )?)?;
     Ok(doors)
 }
 
 #[test]
-fn calls_on_two_slots_overlap(rt: HostRuntime) -> Result<(), Fail> {
-    let alloc = rt.alloc();
-    let words = words_of(alloc, &["serve"])?;
-    let Ok(plan) = plan_of(alloc, words.as_slice()) else {
-        return Err(Fail::new("the words are no command line"));
-    };
-    let rig = with_ways(rt, alloc, memory_rig(alloc, plan.set)?)?;
-    let clock = MemClock::new(super::NOW);
-    let doors = two_doors(alloc)?;
+fn calls_on_two_slots_overlap(rt: HostRuntime) -> Result<(), AllocError> {
+    let (alloc, clock) = (rt.alloc(), MemClock::new(NOW));
     let (seen, alone) = (AtomicU64::new(0), AtomicU64::new(0));
     let gate = Meeting {
         seen: &seen,
         alone: &alone,
     };
+    let doors = two_doors(alloc)?;
+    let rig = with_ways(rt, alloc, fresh_rig(alloc)?)?;
     let ended = serve(&rt, alloc, rig, &clock, doors, &mut Spawner::Threads, gate);
-    assert_eq!(rt; (ended.status, alone.load(Ordering::SeqCst)), (0, 0));
-    for slot in SLOTS {
-        assert_eq!(rt; entries_at(&ended.rig, usize::from(slot)), 2);
-    }
-    let replies = given(alloc, ended.door)?;
-    assert_eq!(rt; replies.len(), 2);
-    for reply in &replies {
-        assert!(rt; reply.ends_with(b"ETag: \"5d41402abc4b2a76b9719d911017c592\"\r\n\r\n"));
-    }
+    let Found {
+        status,
+        entries,
+        doors,
+    } = find(ended);
+    let [came, stored, _] = count_given(doors, &[STORED, STORED]);
+    assert!(rt; (status, alone.load(Ordering::SeqCst), entries) == (0, 0, [2, 2]));
+    assert!(rt; (came, stored) == (2, 2));
     Ok(())
 }
