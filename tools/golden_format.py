@@ -1,7 +1,7 @@
 #!/usr/bin/env python3
 """Prints two format files, worked out from the table in docs/FORMATS.md alone, as arrays of Rust.
 
-They stand in crates/term_gate/src/tests.rt. Run it again with `python3 tools/golden_format.py`.
+They stand in crates/trial_registers/stdin. Run it again with `python3 tools/golden_format.py`.
 """
 
 import hashlib

@@ -15,6 +15,3 @@ mod names;
 
 pub use laws::body_laws;
 pub use names::{loose_name_of_manifest, loose_name_of_shard, name_of_manifest, name_of_shard};
-
-#[cfg(test)]
-mod tests;

@@ -15,6 +15,3 @@ pub use content::{read, row_laws, write};
 pub use name::check_name;
 pub use record::{BucketRecord, MOMENT_LIMIT};
 pub use step::{BucketAct, BucketStep, apply, step_laws};
-
-#[cfg(test)]
-mod tests;

@@ -15,7 +15,7 @@ use std::alloc::{AllocError, Global};
 pub const MOMENT_LIMIT: u64 = 253_402_300_800;
 
 /// A bucket.
-#[derive(Clone, Copy, Debug, PartialEq, Eq)]
+#[derive(Clone, Copy, PartialEq, Eq)]
 pub struct BucketRecord {
     /// When it was made, in Unix seconds.
     pub created: u64,

@@ -11,7 +11,7 @@ use crate::record::BucketRecord;
 use call_types::{Mode, Refusal, Reply};
 
 /// What a call does to a bucket, or asks of it.
-#[derive(Clone, Copy, Debug, PartialEq, Eq)]
+#[derive(Clone, Copy, PartialEq, Eq)]
 pub enum BucketAct {
     /// CreateBucket.
     Make,
@@ -24,7 +24,7 @@ pub enum BucketAct {
 }
 
 /// What a step on a bucket leaves, and answers.
-#[derive(Debug, Drop)]
+#[derive(Drop)]
 pub struct BucketStep {
     /// The bucket that is made or changed, none where the register stays as it is.
     pub changed: Option<BucketRecord>,

@@ -7,7 +7,7 @@ use seal_file::Text;
 use stamp_id::{ChangeId, VersionId};
 
 /// What a call does to the state of a key.
-#[derive(Debug, PartialEq, Eq, Drop)]
+#[derive(Drop)]
 pub enum Act {
     /// PutObject: a version of this data.
     Put {
@@ -53,7 +53,7 @@ pub enum Act {
 
 /// A call or a reply as plain data, without the bytes of a body. `change` is what the call drew for the
 /// change that it made, and `now` the second at which it was made.
-#[derive(Debug, PartialEq, Eq, Drop)]
+#[derive(Drop)]
 pub enum Brief {
     /// A read of a key in a bucket of this mode.
     Read {

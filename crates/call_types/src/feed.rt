@@ -6,7 +6,7 @@ ghost use Rattle.call_types.specs.Feeds.{FeedView, Gives, GivesCause};
 use crate::Whys;
 
 /// Why a call was cut before its reply was whole, or before its body was.
-#[derive(Clone, Copy, Debug, PartialEq, Eq)]
+#[derive(Clone, Copy, PartialEq, Eq)]
 pub enum Cut {
     /// The source of the body failed.
     ReadFault,

@@ -28,6 +28,3 @@ pub use reply::{
 };
 pub use version::{PartRecord, PartRef, PartRefs, Upload, Uploads, Version, Versions, What};
 pub use why::{FileKind, Why, Whys};
-
-#[cfg(test)]
-mod tests;

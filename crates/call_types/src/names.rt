@@ -4,7 +4,7 @@ use seal_file::Text;
 use stamp_id::VersionId;
 
 /// The versioning of a bucket. A bucket never returns to `Never`.
-#[derive(Clone, Copy, Debug, PartialEq, Eq)]
+#[derive(Clone, Copy, PartialEq, Eq)]
 pub enum Mode {
     /// Versioning was never set.
     Never,
@@ -15,7 +15,7 @@ pub enum Mode {
 }
 
 /// A key of a bucket.
-#[derive(Debug, PartialEq, Eq, Drop)]
+#[derive(Drop)]
 pub struct Key {
     /// The bucket's name.
     pub bucket: Text,
@@ -24,7 +24,7 @@ pub struct Key {
 }
 
 /// The version that a read or a delete names by its `versionId`.
-#[derive(Clone, Copy, Debug, PartialEq, Eq)]
+#[derive(Clone, Copy, PartialEq, Eq)]
 pub enum Pick {
     /// No version: the call is about the current one.
     Current,
@@ -35,7 +35,7 @@ pub enum Pick {
 }
 
 /// The name of a version of a key.
-#[derive(Clone, Copy, Debug, PartialEq, Eq)]
+#[derive(Clone, Copy, PartialEq, Eq)]
 pub enum VersionName {
     /// The version `null`, of a bucket without versioning.
     Null,
@@ -44,7 +44,7 @@ pub enum VersionName {
 }
 
 /// The part of a body that a request asks for (RFC 9110, one range of bytes).
-#[derive(Clone, Copy, Debug, PartialEq, Eq)]
+#[derive(Clone, Copy, PartialEq, Eq)]
 pub enum RangeAsk {
     /// All of it.
     Whole,
@@ -57,7 +57,7 @@ pub enum RangeAsk {
 }
 
 /// A part of a body: `length` bytes from the place `at` on.
-#[derive(Clone, Copy, Debug, PartialEq, Eq)]
+#[derive(Clone, Copy, PartialEq, Eq)]
 pub struct Span {
     /// The first byte's place.
     pub at: u64,
@@ -66,7 +66,7 @@ pub struct Span {
 }
 
 /// An entity tag: the MD5 with the number of parts.
-#[derive(Clone, Copy, Debug, PartialEq, Eq)]
+#[derive(Clone, Copy, PartialEq, Eq)]
 pub struct Etag {
     /// The MD5 of a body, or that of the joined MD5s of its parts.
     pub md5: [u8; 16],

@@ -9,7 +9,7 @@ use seal_file::Text;
 use stamp_id::VersionId;
 
 /// Why the state of a key refuses a call.
-#[derive(Clone, Copy, Debug, PartialEq, Eq)]
+#[derive(Clone, Copy, PartialEq, Eq)]
 pub enum KeyRefusal {
     /// The key has no version, or its current version is this delete marker.
     NoSuchKey {
@@ -40,7 +40,7 @@ pub enum KeyRefusal {
 }
 
 /// Why a call is refused, as plain data. The code and the text that a client gets are the reply's matter.
-#[derive(Debug, PartialEq, Eq, Drop)]
+#[derive(Drop)]
 pub enum Refusal {
     /// The request head is malformed.
     BadHead,
@@ -153,7 +153,7 @@ impl From<KeyRefusal> for Refusal {
 }
 
 /// Why the content of a key's state is not read.
-#[derive(Clone, Copy, Debug, PartialEq, Eq)]
+#[derive(Clone, Copy, PartialEq, Eq)]
 pub enum ListFault {
     /// The content spells no state: the place of its first fault, from 0.
     NotCanonical(u64),

@@ -8,7 +8,7 @@ use seal_file::Text;
 use stamp_id::VersionId;
 
 /// The reply to a call. `id` is the version id that the reply tells, none where it tells none.
-#[derive(Debug, PartialEq, Eq, Drop)]
+#[derive(Drop)]
 pub enum Reply {
     /// The call is done, and nothing more is told.
     Plain,
@@ -57,7 +57,7 @@ pub enum Reply {
 }
 
 /// A row of a list of buckets.
-#[derive(Debug, PartialEq, Eq, Drop)]
+#[derive(Drop)]
 pub struct BucketRow {
     /// The bucket's name.
     pub name: Text,
@@ -66,7 +66,7 @@ pub struct BucketRow {
 }
 
 /// A row of a list of keys.
-#[derive(Debug, PartialEq, Eq, Drop)]
+#[derive(Drop)]
 pub enum PageRow {
     /// A key whose current version is an object.
     Object {
@@ -84,7 +84,7 @@ pub enum PageRow {
 }
 
 /// A row of a list of versions.
-#[derive(Debug, PartialEq, Eq, Drop)]
+#[derive(Drop)]
 pub enum VersionRow {
     /// An object.
     Object {
@@ -117,7 +117,7 @@ pub enum VersionRow {
 }
 
 /// Where a page of a list ends.
-#[derive(Debug, PartialEq, Eq, Drop)]
+#[derive(Drop)]
 pub struct PageCut {
     /// Whether there is a further row.
     pub truncated: bool,

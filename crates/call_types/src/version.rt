@@ -6,7 +6,7 @@ use seal_file::Text;
 use stamp_id::VersionId;
 
 /// A version of a key.
-#[derive(Debug, PartialEq, Eq, Drop)]
+#[derive(Drop)]
 pub struct Version {
     /// Its name.
     pub id: VersionName,
@@ -17,7 +17,7 @@ pub struct Version {
 }
 
 /// What a version is.
-#[derive(Debug, PartialEq, Eq, Drop)]
+#[derive(Drop)]
 pub enum What {
     /// A delete marker.
     Marker,
@@ -41,7 +41,7 @@ pub enum What {
 }
 
 /// An open multipart upload.
-#[derive(Debug, PartialEq, Eq, Drop)]
+#[derive(Drop)]
 pub struct Upload {
     /// Its id.
     pub id: VersionId,
@@ -52,7 +52,7 @@ pub struct Upload {
 }
 
 /// A part that a Complete lists.
-#[derive(Clone, Copy, Debug, PartialEq, Eq)]
+#[derive(Clone, Copy, PartialEq, Eq)]
 pub struct PartRef {
     /// Its number, from 1 to 10,000.
     pub number: u16,
@@ -61,7 +61,7 @@ pub struct PartRef {
 }
 
 /// A part of an upload as its register holds it.
-#[derive(Clone, Copy, Debug, PartialEq, Eq)]
+#[derive(Clone, Copy, PartialEq, Eq)]
 pub struct PartRecord {
     /// The id of its data.
     pub data_id: VersionId,

@@ -10,7 +10,7 @@ use stamp_id::Ballot;
 use std::marker::Model;
 
 /// A kind of file on a drive.
-#[derive(Clone, Copy, Debug, PartialEq, Eq)]
+#[derive(Clone, Copy, PartialEq, Eq)]
 pub enum FileKind {
     /// The format file.
     Format,
@@ -23,7 +23,7 @@ pub enum FileKind {
 }
 
 /// Why a drive served a call or did not.
-#[derive(Clone, Copy, Debug, PartialEq, Eq)]
+#[derive(Clone, Copy, PartialEq, Eq)]
 pub enum Why {
     /// It served.
     Good,
@@ -69,7 +69,7 @@ const PLACES: usize = MOST_DRIVES as usize;
 
 /// One `Why` for each drive of a set, in order of the drives: 1 to 16 of them, kept in place. A contract sees the
 /// list of them.
-#[derive(Clone, Copy, Debug, PartialEq, Eq)]
+#[derive(Clone, Copy, PartialEq, Eq)]
 pub struct Whys {
     whys: [Why; PLACES],
     count: u8,

@@ -20,8 +20,6 @@ mod rows;
 mod steps;
 mod sums;
 mod tables;
-#[cfg(test)]
-mod tests;
 mod twin;
 
 pub use fold::{fold_into, is_foldable};

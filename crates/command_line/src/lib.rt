@@ -9,8 +9,6 @@ mod line;
 mod numbers;
 mod options;
 mod plan;
-#[cfg(test)]
-mod tests;
 mod words;
 
 pub use numbers::{number_between, number_of};

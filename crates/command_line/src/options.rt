@@ -5,7 +5,7 @@ ghost use Rattle.command_line.specs.Words.{option_names};
 ghost use Rattle.command_line.specs.Values.{name_text, value_in, Takes, IsNoName};
 
 /// The name of an option.
-#[derive(Clone, Copy, Debug, PartialEq, Eq)]
+#[derive(Clone, Copy, PartialEq, Eq)]
 pub enum OptionName {
     /// The folder of the drives.
     Root,

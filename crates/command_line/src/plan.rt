@@ -4,7 +4,7 @@ use drive_base::SetPlan;
 use std::alloc::AllocError;
 
 /// What is to be done.
-#[derive(Clone, Copy, Debug, PartialEq, Eq)]
+#[derive(Clone, Copy, PartialEq, Eq)]
 pub enum Command {
     /// One connection, from the source to the sink.
     Pipe,
@@ -30,7 +30,7 @@ pub struct Plan {
 }
 
 /// Why words were not read as a command line.
-#[derive(Clone, Copy, Debug, PartialEq, Eq)]
+#[derive(Clone, Copy, PartialEq, Eq)]
 pub enum Usage {
     /// They are none.
     NotACommand,

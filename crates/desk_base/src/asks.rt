@@ -4,7 +4,7 @@ use call_types::VersionName;
 use seal_file::Text;
 
 /// What ListObjectsV2 asks for.
-#[derive(Debug, PartialEq, Eq, Drop)]
+#[derive(Drop)]
 pub struct ListAsk {
     /// What the keys begin with.
     pub prefix: Text,
@@ -21,7 +21,7 @@ pub struct ListAsk {
 }
 
 /// What ListObjectVersions asks for.
-#[derive(Debug, PartialEq, Eq, Drop)]
+#[derive(Drop)]
 pub struct VersionsAsk {
     /// What the keys begin with.
     pub prefix: Text,

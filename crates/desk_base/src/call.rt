@@ -10,7 +10,7 @@ use stamp_id::VersionId;
 
 /// A call of the S3 API, as its head states it. `length` is the stated length of its body in bytes, and `upload` is none for a text that is no
 /// version id, which no upload has.
-#[derive(Debug, PartialEq, Eq, Drop)]
+#[derive(Drop)]
 pub enum Call {
     /// ListBuckets.
     ListBuckets,

@@ -18,6 +18,3 @@ pub use asks::{ListAsk, VersionsAsk};
 pub use call::Call;
 pub use desk::{Desk, Gate};
 pub use teller::Teller;
-
-#[cfg(test)]
-mod tests;

@@ -9,7 +9,7 @@ use std::marker::Model;
 
 /// A set of drives of one erasure set, each named by its index from 0 to 15. A contract sees the mask of it, whose bit k
 /// stands for drive k.
-#[derive(Clone, Copy, Debug, PartialEq, Eq)]
+#[derive(Clone, Copy, PartialEq, Eq)]
 pub struct DriveSet {
     mask: u16,
 }

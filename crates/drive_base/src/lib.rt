@@ -22,8 +22,6 @@ mod drive_set;
 mod fault;
 mod listing;
 mod plan;
-#[cfg(test)]
-mod tests;
 mod trouble;
 mod views;
 

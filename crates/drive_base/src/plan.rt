@@ -10,7 +10,7 @@ use crate::DriveSet;
 pub const MOST_DRIVES: u8 = 16;
 
 /// An erasure set of 4 to 16 drives, with indices from 0, of which 1 to half are parity.
-#[derive(Clone, Copy, Debug, PartialEq, Eq)]
+#[derive(Clone, Copy, PartialEq, Eq)]
 pub struct SetPlan {
     /// The set's id, a UUID.
     pub id: [u8; 16],

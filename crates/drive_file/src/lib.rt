@@ -22,7 +22,7 @@
 //! drive over a folder and a shared one tell nothing.
 //!
 //! The crate stands on `drive_base`, which has the trait and the listing of names, on `fault_base`, which says when a count rose,
-//! and on the kit's `core`, `hex` and `thiserror`; its tests and two lemmas on `drive_memory`.
+//! and on the kit's `core`, `hex` and `thiserror`; two lemmas on `drive_memory`.
 #![tactic(auto)]
 
 mod calls;
@@ -36,8 +36,6 @@ mod paths;
 mod root_lock;
 mod share;
 mod shared;
-#[cfg(test)]
-mod tests;
 
 pub use drive::FileDrive;
 pub use fault::FileFault;

@@ -6,7 +6,7 @@ ghost use Rattle.drive_memory.specs.Fuses.{is_spent, is_due, burned};
 /// A fuse: a drive with it lets `calls` calls pass, and then fails each.
 ///
 /// Where it is `late`, the first failing call takes effect before it fails.
-#[derive(Clone, Copy, Debug, PartialEq, Eq, Drop)]
+#[derive(Clone, Copy, Drop)]
 pub struct Fuse {
     /// How many calls still pass.
     pub calls: u64,

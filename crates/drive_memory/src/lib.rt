@@ -26,8 +26,6 @@ mod loose;
 mod maps;
 mod placed;
 mod scripted;
-#[cfg(test)]
-mod tests;
 mod troubles;
 
 pub use drive::MemDrive;

@@ -10,7 +10,7 @@ use drive_base::{Drive, DriveFault};
 use std::alloc::Global;
 
 /// Which calls of a drive fail. Each counts a fault and has no effect.
-#[derive(Clone, Copy, Debug, Drop)]
+#[derive(Clone, Copy, Drop)]
 pub enum Script {
     /// No call fails.
     Pass,
@@ -23,7 +23,7 @@ pub enum Script {
 }
 
 /// Whether a drive tells what it holds, and whether it shows that.
-#[derive(Clone, Copy, Debug, Drop)]
+#[derive(Clone, Copy, Drop)]
 pub enum Voice {
     /// It tells what it holds, and shows it.
     Tells,
@@ -34,7 +34,7 @@ pub enum Voice {
 }
 
 /// How often each method of `Drive` was called. A count stands still at the last value of a `u64`.
-#[derive(Clone, Copy, Debug, Default, PartialEq, Eq, Drop)]
+#[derive(Clone, Copy, Default, Drop)]
 pub struct Calls {
     pub size: u64,
     pub read: u64,

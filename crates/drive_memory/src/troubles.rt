@@ -6,15 +6,15 @@ use crate::{Fuse, MemDrive};
 use drive_base::Trouble;
 
 /// The drive is lost, as by [`MemDrive::lose`].
-#[derive(Clone, Copy, Debug, PartialEq, Eq, Drop)]
+#[derive(Clone, Copy, Drop)]
 pub struct Lose;
 
 /// The drive is back, as by [`MemDrive::back`].
-#[derive(Clone, Copy, Debug, PartialEq, Eq, Drop)]
+#[derive(Clone, Copy, Drop)]
 pub struct Back;
 
 /// One shown byte is hurt, as by [`MemDrive::hurt`].
-#[derive(Debug, Drop)]
+#[derive(Drop)]
 pub struct Hurt {
     /// The name of the file.
     pub name: String,

@@ -12,6 +12,3 @@ mod memory;
 
 pub use counts::{count_after, count_laws};
 pub use memory::NoMemory;
-
-#[cfg(test)]
-mod tests;

@@ -7,11 +7,11 @@ use std::alloc::{AllocError, AllocFailed};
 
 /// A content is no spelling. It tells the place of the first fault: the start of the first field that breaks its rule,
 /// the number of bytes of the content where bytes are missing, or the first byte too many.
-#[derive(Clone, Copy, Debug, PartialEq, Eq)]
+#[derive(Clone, Copy, PartialEq, Eq)]
 pub struct Misspelled(pub u64);
 
 /// Why a content could not be read into values that take memory.
-#[derive(Clone, Copy, Debug, PartialEq, Eq)]
+#[derive(Clone, Copy, PartialEq, Eq)]
 pub enum ReadFault {
     /// It is no spelling: the place of the first fault, as [`Misspelled`] tells it.
     At(u64),

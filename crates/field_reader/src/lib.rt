@@ -14,6 +14,3 @@ mod put;
 pub use fault::{Misspelled, ReadFault, refuse_unless};
 pub use fields::Fields;
 pub use put::{put_bytes, put_short_text, put_u8, put_u16, put_u32, put_u64};
-
-#[cfg(test)]
-mod tests;

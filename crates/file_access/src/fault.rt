@@ -6,7 +6,7 @@ ghost use Rattle.file_access.specs.declared.fault.FetchFault.TheVariants.{Becaus
 use call_types::Why;
 
 /// Why a drive gave nothing of a file.
-#[derive(Clone, Copy, Debug, PartialEq, Eq)]
+#[derive(Clone, Copy, PartialEq, Eq)]
 pub enum FetchFault {
     /// For this cause.
     Because(Why),

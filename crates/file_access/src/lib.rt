@@ -22,6 +22,3 @@ pub use fault::FetchFault;
 pub use reading::{bytes_at, file_on, piece_into, piece_on, size_on};
 pub use steps::{append_on, discard_on, place, remove_on, sync_on};
 pub use writing::{write_file, write_loose};
-
-#[cfg(test)]
-mod tests;

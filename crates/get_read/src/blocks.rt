@@ -17,7 +17,7 @@ use std::alloc::AllocError;
 
 /// Blocks of a stripe, of one size: the numbers of their drives, the digests that the tables have for them, and the
 /// blocks joined.
-#[derive(Debug, Drop)]
+#[derive(Drop)]
 pub struct Blocks {
     /// The numbers of the drives, rising.
     pub rows: Vec<u8>,

@@ -7,7 +7,7 @@ use call_types::Whys;
 use std::alloc::{AllocError, AllocFailed};
 
 /// Why a read was refused.
-#[derive(Clone, Copy, Debug, PartialEq, Eq)]
+#[derive(Clone, Copy, PartialEq, Eq)]
 pub enum BodyFault {
     /// The range has no byte of a body of this length. No call asks for a range yet.
     InvalidRange(u64),

@@ -33,6 +33,3 @@ mod windows;
 
 pub use faults::BodyFault;
 pub use reader::{ReadStep, Reader};
-
-#[cfg(test)]
-mod tests;

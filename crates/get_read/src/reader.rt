@@ -6,7 +6,7 @@ ghost use Rattle.get_read.specs.States.{asked_in};
 use crate::state::{Asked, State};
 
 /// What a step of a reader did.
-#[derive(Clone, Copy, Debug, PartialEq, Eq)]
+#[derive(Clone, Copy, PartialEq, Eq)]
 pub enum ReadStep {
     /// One drive call, and more are due.
     More,

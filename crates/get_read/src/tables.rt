@@ -12,7 +12,7 @@ pub fn byte_law(bytes: &[u8])
 {}
 
 /// A block as its drive shows it, and the digest that the drive's table has for it. They are not compared yet.
-#[derive(Debug, Drop)]
+#[derive(Drop)]
 pub struct Fetched {
     /// The digest in the table.
     pub stored: [u8; 32],

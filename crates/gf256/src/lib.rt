@@ -13,8 +13,6 @@
 mod laws;
 mod ops;
 mod tables;
-#[cfg(test)]
-mod tests;
 
 pub use laws::{field_laws, polynomial_laws};
 pub use ops::{inv, mul, pow};

@@ -24,6 +24,3 @@ mod words;
 
 pub use blocks::hash_blocks;
 pub use equal::hash_equal_blocks;
-
-#[cfg(test)]
-mod tests;

@@ -10,7 +10,7 @@ use httparse::spans::{HeaderSpan, RequestSpans};
 use io_base::Source;
 
 /// Why no more was taken from the source.
-#[derive(Clone, Copy, Debug, PartialEq, Eq)]
+#[derive(Clone, Copy, PartialEq, Eq)]
 pub enum Arrival {
     /// What waits begins with a whole head.
     Whole(RequestSpans),
@@ -52,7 +52,7 @@ pub fn await_head<S: Source>(
 }
 
 /// What one take comes to.
-#[derive(Clone, Copy, Debug, PartialEq, Eq)]
+#[derive(Clone, Copy, PartialEq, Eq)]
 enum Piece {
     /// Bytes came.
     Came,

@@ -10,7 +10,7 @@ use std::marker::Model;
 
 /// The head of a request: one buffer, and where its parts stand in it. A contract sees it as a record of the method,
 /// the target, the minor version, and the name and the value of each header line.
-#[derive(Debug, Drop)]
+#[derive(Drop)]
 pub struct Head {
     bytes: Vec<u8>,
     method: Span,

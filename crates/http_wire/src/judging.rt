@@ -16,7 +16,7 @@ pub const MOST_BYTES: usize = 65_536;
 pub const MOST_LINES: usize = 64;
 
 /// What the bytes at hand are.
-#[derive(Clone, Copy, Debug, PartialEq, Eq)]
+#[derive(Clone, Copy, PartialEq, Eq)]
 pub enum Judged {
     /// They begin with a whole head within the limits, whose parts are here.
     Whole(RequestSpans),
@@ -29,7 +29,7 @@ pub enum Judged {
 }
 
 /// What the parser answers of bytes.
-#[derive(Clone, Copy, Debug, PartialEq, Eq)]
+#[derive(Clone, Copy, PartialEq, Eq)]
 enum Parsed {
     /// They begin with a whole head.
     Whole(RequestSpans),

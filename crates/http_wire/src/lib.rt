@@ -22,8 +22,6 @@ mod judging;
 mod line_limit;
 mod names;
 mod reading;
-#[cfg(test)]
-mod tests;
 mod window;
 mod wire;
 

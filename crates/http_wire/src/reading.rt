@@ -16,7 +16,7 @@ use io_base::{IoFault, Source};
 use std::alloc::Global;
 
 /// What the reading of a head comes to.
-#[derive(Debug, Drop)]
+#[derive(Drop)]
 pub enum Reading {
     /// A head, and the stated length of its body.
     Whole(Head, u64),

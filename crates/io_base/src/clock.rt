@@ -26,7 +26,7 @@ pub trait Clock {
 }
 
 /// A clock that stands at one moment, which it tells. Its `rest` answers at once.
-#[derive(Clone, Copy, Debug, PartialEq, Eq)]
+#[derive(Clone, Copy, PartialEq, Eq)]
 pub struct MemClock {
     moment: u64,
 }

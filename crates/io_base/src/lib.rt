@@ -23,8 +23,6 @@
 
 mod clock;
 mod door;
-#[cfg(test)]
-mod door_tests;
 mod fault;
 mod memory_door;
 mod memory_sink;
@@ -38,10 +36,6 @@ mod standard_source;
 mod tcp_door;
 mod tcp_ends;
 mod tcp_limits;
-#[cfg(test)]
-mod tcp_tests;
-#[cfg(test)]
-mod tests;
 mod turns;
 mod work;
 

@@ -8,7 +8,7 @@ use crate::{IoFault, Sink};
 use std::marker::Model;
 
 /// A sink that keeps its bytes in memory, tells them, and fails at chosen calls.
-#[derive(Debug, Drop)]
+#[derive(Drop)]
 pub struct MemSink {
     given: Vec<u8>,
     fails: Vec<u64>,

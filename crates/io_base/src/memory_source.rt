@@ -8,7 +8,7 @@ use crate::{IoFault, Source};
 use std::marker::Model;
 
 /// A source over bytes in memory, which tells what is left and fails at chosen calls.
-#[derive(Debug, Drop)]
+#[derive(Drop)]
 pub struct MemSource {
     bytes: Vec<u8>,
     taken: usize,

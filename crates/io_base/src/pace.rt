@@ -10,7 +10,7 @@ use std::time::Duration;
 const LEAST_BYTES: u64 = 1024;
 
 /// How long a peer was waited for since it last had given `LEAST_BYTES`, and what it gave in that time.
-#[derive(Clone, Copy, Debug, PartialEq, Eq)]
+#[derive(Clone, Copy, PartialEq, Eq)]
 pub(crate) struct Pace {
     waited: Duration,
     bytes: u64,

@@ -10,7 +10,7 @@ use std::thread;
 use std::thread::Threads;
 
 /// How works are done: each by a thread of its own, or one after another.
-#[derive(Debug, Drop)]
+#[derive(Drop)]
 pub enum Spawner {
     /// Real threads. Where the system gives none, works are done one after another.
     Threads,

@@ -171,7 +171,7 @@ fn accept_from<R: rt::Clock + Copy>(
 }
 
 /// What follows where the system gave no connection.
-#[derive(Clone, Copy, Debug, PartialEq, Eq)]
+#[derive(Clone, Copy, PartialEq, Eq)]
 pub(crate) enum Step {
     Retry,
     Rest,

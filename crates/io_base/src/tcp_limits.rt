@@ -6,7 +6,7 @@ ghost use Rattle.std.specs.Duration.{as_nanos};
 use std::time::Duration;
 
 /// How long a connection over TCP is waited for.
-#[derive(Clone, Copy, Debug, PartialEq, Eq)]
+#[derive(Clone, Copy, PartialEq, Eq)]
 pub struct TcpLimits {
     /// How long a read waits for the next byte, so also between two requests. Some time.
     pub idle: Duration,

@@ -11,7 +11,7 @@ use std::alloc::Global;
 use std::marker::Model;
 
 /// Does works one after another, and leaves those of chosen numbers.
-#[derive(Debug, Drop)]
+#[derive(Drop)]
 pub struct Turns {
     fails: Vec<u64>,
     begun: u64,

@@ -19,6 +19,3 @@ pub use file::{manifest_laws, read, write};
 pub use lists::{Parts, Roots};
 pub use manifest::{KIND, LONGEST_FILE, MOST_PART_BYTES, MOST_PARTS, Manifest, ManifestPart};
 pub use print::{print_laws, print_of};
-
-#[cfg(test)]
-mod tests;

@@ -7,7 +7,7 @@ use crate::manifest::ManifestPart;
 use std::marker::Model;
 
 /// The parts of a body, in their order.
-#[derive(Debug, Drop)]
+#[derive(Drop)]
 pub struct Parts(Vec<ManifestPart>);
 
 impl Model for Parts {
@@ -57,7 +57,7 @@ impl Parts {
 }
 
 /// The root of a part's shard on each drive: the SHA-256 of the digests of its blocks.
-#[derive(Debug, Drop)]
+#[derive(Drop)]
 pub struct Roots(Vec<[u8; 32]>);
 
 impl Model for Roots {

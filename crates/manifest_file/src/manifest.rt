@@ -19,7 +19,7 @@ pub const MOST_PART_BYTES: u64 = 5_368_709_120;
 pub const LONGEST_FILE: u64 = 36 + 7 + 65_535 + 10_000 * (16 + 8 + 16 * 32);
 
 /// The manifest of a body.
-#[derive(Debug, Drop)]
+#[derive(Drop)]
 pub struct Manifest {
     /// The name of the register that the body is for, of fewer than 2^16 bytes.
     pub name: Text,
@@ -32,7 +32,7 @@ pub struct Manifest {
 }
 
 /// A part of a body.
-#[derive(Debug, Drop)]
+#[derive(Drop)]
 pub struct ManifestPart {
     /// The id of its data.
     pub id: VersionId,

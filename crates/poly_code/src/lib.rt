@@ -16,8 +16,6 @@
 mod block;
 mod code;
 mod laws;
-#[cfg(test)]
-mod tests;
 mod weight;
 
 pub use code::{encode, rebuild};

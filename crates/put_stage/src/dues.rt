@@ -4,7 +4,7 @@ ghost use Rattle.std.specs.Prelude.{◌≡◌};
 ghost use Rattle.put_stage.specs.Dues.{after, is_block, is_nothing};
 
 /// The next call of a stage on a drive.
-#[derive(Clone, Copy, Debug, PartialEq, Eq)]
+#[derive(Clone, Copy, PartialEq, Eq)]
 pub enum Due {
     /// `append` of the drive's block of the last stripe to the shard file.
     Block,

@@ -32,6 +32,3 @@ mod window;
 pub use laws::stage_laws;
 pub use stage::{Stage, StageNext};
 pub use staged::{StageFault, Staged};
-
-#[cfg(test)]
-mod tests;

@@ -9,7 +9,7 @@ use stamp_id::VersionId;
 use std::alloc::{AllocError, Global};
 
 /// The names of the files of one id, and the loose names under which they are written.
-#[derive(Debug, Drop)]
+#[derive(Drop)]
 pub struct Names {
     /// The id.
     pub id: VersionId,

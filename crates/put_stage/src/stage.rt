@@ -70,7 +70,7 @@ pub struct Stage {
 }
 
 /// What comes next for a stage.
-#[derive(Clone, Copy, Debug, PartialEq, Eq)]
+#[derive(Clone, Copy, PartialEq, Eq)]
 pub enum StageNext {
     /// The next bytes of the body.
     Fill,

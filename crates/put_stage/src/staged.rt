@@ -8,7 +8,7 @@ use drive_base::DriveSet;
 use std::alloc::{AllocError, AllocFailed};
 
 /// A body that is staged.
-#[derive(Clone, Copy, Debug, PartialEq, Eq)]
+#[derive(Clone, Copy, PartialEq, Eq)]
 pub struct Staged {
     /// The print of the body.
     pub print: [u8; 32],
@@ -21,7 +21,7 @@ pub struct Staged {
 }
 
 /// Why a body wasn't staged.
-#[derive(Clone, Copy, Debug, PartialEq, Eq)]
+#[derive(Clone, Copy, PartialEq, Eq)]
 pub enum StageFault {
     /// Fewer drives than a write needs did all calls: why, for each drive.
     WriteQuorum(Whys),

@@ -1,7 +1,7 @@
 //! A stripe of a body, coded.
 
 /// A stripe's blocks, one after another, the data blocks first, and the SHA-256 of each.
-#[derive(Debug, Drop)]
+#[derive(Drop)]
 pub struct Stripe {
     /// The bytes of a block.
     pub size: usize,

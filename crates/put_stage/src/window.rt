@@ -9,7 +9,7 @@ use std::alloc::Global;
 
 /// The blocks of a stripe, or of whole ones that follow one another, and the SHA-256 of each. Those of one drive adjoin, as
 /// in its shard file. First come those of the data drives.
-#[derive(Debug, Drop)]
+#[derive(Drop)]
 pub struct Window {
     /// How many stripes.
     pub count: usize,

@@ -1,7 +1,7 @@
 //! Why a section can't be done.
 
 /// Why a section of a slot can't be done, where it hasn't begun.
-#[derive(Clone, Copy, Debug, PartialEq, Eq)]
+#[derive(Clone, Copy, PartialEq, Eq)]
 pub enum Barred {
     /// The slot's turns are spent.
     Spent,

@@ -5,7 +5,7 @@ use drive_base::{DriveSet, SetPlan};
 use register_file::Base;
 
 /// The files that a change, or a mend, writes.
-#[derive(Debug, Drop)]
+#[derive(Drop)]
 pub struct Draft {
     /// The register's name.
     pub name: String,

@@ -8,7 +8,7 @@ use fault_base::NoMemory;
 use std::alloc::{AllocError, AllocFailed};
 
 /// Why a register's call was refused. Each carries a `Why` for each lane, or for each data drive.
-#[derive(Clone, Copy, Debug, PartialEq, Eq)]
+#[derive(Clone, Copy, PartialEq, Eq)]
 pub enum QuorumFault {
     /// Too few lanes have a good file, or the content that they have is refused: why, for each lane.
     ReadQuorum(Whys),

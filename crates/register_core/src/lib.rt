@@ -39,6 +39,3 @@ pub use looked::Looked;
 pub use looking::look;
 pub use mending::{Mended, mend};
 pub use proposing::{Prepared, mark, propose};
-
-#[cfg(test)]
-mod tests;

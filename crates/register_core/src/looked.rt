@@ -16,7 +16,7 @@ use std::alloc::Global;
 use vote_core::Row;
 
 /// What a look found: the register's value, or a change on its way that must be completed first.
-#[derive(Debug, Drop)]
+#[derive(Drop)]
 pub struct Looked {
     /// The register's name.
     pub name: String,

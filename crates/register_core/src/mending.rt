@@ -19,7 +19,7 @@ use drive_base::{Drive, DriveSet};
 use vote_core::{calm_laws, mend_law, number_laws, place_laws};
 
 /// What a mend did.
-#[derive(Clone, Copy, Debug, PartialEq, Eq)]
+#[derive(Clone, Copy, PartialEq, Eq)]
 pub struct Mended {
     /// How many lanes were written.
     pub lanes: u8,

@@ -24,7 +24,7 @@ use drive_base::{Drive, DriveSet};
 use vote_core::{mark_laws, number_laws, place_laws, prepare_laws};
 
 /// The lanes that took the first file of a draft.
-#[derive(Clone, Copy, Debug, PartialEq, Eq)]
+#[derive(Clone, Copy, PartialEq, Eq)]
 pub struct Prepared {
     /// The lanes that are out.
     pub out: DriveSet,

@@ -14,6 +14,3 @@ mod writing;
 
 pub use file::{file_laws, longest_file, read, write};
 pub use record::{Adds, Base, KIND, Next, RegFile};
-
-#[cfg(test)]
-mod tests;

@@ -8,7 +8,7 @@ pub const KIND: [u8; 4] = *b"OREG";
 
 /// What one lane holds of a register. A lane without a file holds a base of ballot (0, 0), change (0, 0) and empty
 /// content, and no next.
-#[derive(Debug, PartialEq, Eq, Drop)]
+#[derive(Drop)]
 pub struct RegFile {
     /// What is settled on this lane.
     pub base: Base,
@@ -17,7 +17,7 @@ pub struct RegFile {
 }
 
 /// A settled content.
-#[derive(Debug, PartialEq, Eq, Drop)]
+#[derive(PartialEq, Eq, Drop)]
 pub struct Base {
     /// The ballot under which it was marked.
     pub ballot: Ballot,
@@ -28,7 +28,7 @@ pub struct Base {
 }
 
 /// A change that was prepared and is not settled yet.
-#[derive(Debug, PartialEq, Eq, Drop)]
+#[derive(Drop)]
 pub struct Next {
     /// The ballot under which it was prepared.
     pub ballot: Ballot,
@@ -43,7 +43,7 @@ pub struct Next {
 }
 
 /// Data that a change adds.
-#[derive(Clone, Copy, Debug, PartialEq, Eq)]
+#[derive(Clone, Copy, PartialEq, Eq)]
 pub struct Adds {
     /// The id of the data.
     pub id: VersionId,

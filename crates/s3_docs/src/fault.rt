@@ -6,7 +6,7 @@ ghost use Rattle.s3_docs.specs.declared.fault.DocFault.TheVariants.{NoMemory};
 use std::alloc::AllocError;
 
 /// Why a document was not read.
-#[derive(Clone, Copy, Debug, PartialEq, Eq)]
+#[derive(Clone, Copy, PartialEq, Eq)]
 pub enum DocFault {
     /// The place, in bytes, of the first byte at which no document goes on, or the number of bytes where a document
     /// ends early.

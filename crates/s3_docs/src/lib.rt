@@ -99,6 +99,3 @@ pub fn read_complete(alloc: Global, bytes: &[u8]) -> Result<PartRefs, DocFault>
         Err(PartsFault::NoMemory) => Err(DocFault::NoMemory),
     }
 }
-
-#[cfg(test)]
-mod tests;

@@ -28,6 +28,3 @@ pub use escaping::escaping_laws;
 pub use refusals::{code, push_message};
 pub use status::refusal_status;
 pub use text::{document, head_text, reply_text};
-
-#[cfg(test)]
-mod tests;

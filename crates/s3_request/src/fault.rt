@@ -11,7 +11,7 @@ use seal_file::Text;
 use std::alloc::{AllocError, Global};
 
 /// Why no call was read.
-#[derive(Debug, PartialEq, Eq, Drop)]
+#[derive(Drop)]
 pub enum CallFault {
     /// The call is refused.
     Refused(Refusal),

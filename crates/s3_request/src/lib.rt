@@ -23,6 +23,3 @@ mod unkept;
 pub use fault::CallFault;
 pub use laws::name_laws;
 pub use reading::read_call;
-
-#[cfg(test)]
-mod tests;

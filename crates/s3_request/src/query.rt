@@ -10,14 +10,14 @@ use std::alloc::Global;
 use std::marker::Model;
 
 /// An argument: a name and its value, both decoded.
-#[derive(Debug, Drop)]
+#[derive(Drop)]
 pub struct Argument {
     name: String,
     value: String,
 }
 
 /// The arguments of a query. A contract sees the pairs of names and values.
-#[derive(Debug, Drop)]
+#[derive(Drop)]
 pub struct Query {
     arguments: Vec<Argument>,
 }

@@ -6,7 +6,7 @@ ghost use Rattle.s3_request.specs.Routes.{method_of, bucket_get, bucket_row, key
 use crate::query::Query;
 
 /// The methods that the table has.
-#[derive(Clone, Copy, Debug, PartialEq, Eq)]
+#[derive(Clone, Copy, PartialEq, Eq)]
 pub enum Method {
     Get,
     Put,
@@ -18,7 +18,7 @@ pub enum Method {
 }
 
 /// The calls of a bucket.
-#[derive(Clone, Copy, Debug, PartialEq, Eq)]
+#[derive(Clone, Copy, PartialEq, Eq)]
 pub enum BucketRow {
     /// CreateBucket.
     Create,
@@ -35,7 +35,7 @@ pub enum BucketRow {
 }
 
 /// The calls of a key.
-#[derive(Clone, Copy, Debug, PartialEq, Eq)]
+#[derive(Clone, Copy, PartialEq, Eq)]
 pub enum KeyRow {
     /// PutObject.
     Put,

@@ -13,7 +13,7 @@ use seal_file::Text;
 use std::alloc::Global;
 
 /// What a path names.
-#[derive(Debug, PartialEq, Eq, Drop)]
+#[derive(Drop)]
 pub enum Place {
     /// The service.
     Service,

@@ -7,7 +7,7 @@ use fault_base::NoMemory;
 use std::alloc::{AllocError, AllocFailed};
 
 /// What is wrong with the bytes of a file.
-#[derive(Clone, Copy, Debug, PartialEq, Eq)]
+#[derive(Clone, Copy, PartialEq, Eq)]
 pub enum Damage {
     /// The file has so many bytes, fewer than were needed: for a sealed file, than the 36 of a kind and a digest. Of a
     /// piece that was read without asking for the file's length it tells where the reading ended: the end of the file,
@@ -30,7 +30,7 @@ pub enum Damage {
 }
 
 /// Why no record was read from a file.
-#[derive(Clone, Copy, Debug, PartialEq, Eq)]
+#[derive(Clone, Copy, PartialEq, Eq)]
 pub enum RecordFault {
     /// The file is damaged.
     Unsealed(Damage),

@@ -16,6 +16,3 @@ mod sealing;
 pub use damage::{Damage, RecordFault};
 pub use octets::{Bytes, Text};
 pub use sealing::{seal, sealing_laws, unseal};
-
-#[cfg(test)]
-mod tests;

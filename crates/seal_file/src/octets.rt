@@ -12,7 +12,7 @@ use std::marker::Model;
 
 /// Bytes, such as the content of a register. They are ordered byte by byte. A contract sees the list of
 /// them.
-#[derive(Debug, Drop)]
+#[derive(Drop)]
 pub struct Bytes(Vec<u8>);
 
 /// A text, such as a key or a content type: its bytes, which need not be UTF-8.

@@ -23,6 +23,3 @@ pub use body::{read_body, write_body};
 pub use fields::{take_flag, take_format};
 pub use file::{read, write};
 pub use record::Record;
-
-#[cfg(test)]
-mod tests;

@@ -19,6 +19,3 @@ mod places;
 pub use digests::{block_digests, check_block, root};
 pub use laws::shard_laws;
 pub use places::{Place, STRIPE, block_len, file_len, layout};
-
-#[cfg(test)]
-mod tests;

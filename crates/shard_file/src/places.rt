@@ -14,7 +14,7 @@ pub const STRIPE: u64 = 1_048_576;
 const DIGEST: u64 = 32;
 
 /// Where a stripe's block and its digest stand in a shard file, in bytes from the front.
-#[derive(Clone, Copy, Debug, PartialEq, Eq)]
+#[derive(Clone, Copy, PartialEq, Eq)]
 pub struct Place {
     /// Where the block begins.
     pub block: u64,

@@ -22,6 +22,3 @@ pub use laws::{
     again_data_laws, flight_laws, fresh_data_law, hands_laws, out_law, own_data_laws, pin_laws,
 };
 pub use rows::{FlightRow, PinFor, PinRow, is_in_flight, is_pinned, row_laws};
-
-#[cfg(test)]
-mod tests;

@@ -8,7 +8,7 @@ use seal_file::Text;
 use stamp_id::VersionId;
 
 /// A put that is under way.
-#[derive(Debug, PartialEq, Eq, Drop)]
+#[derive(Drop)]
 pub struct FlightRow {
     /// The id of its data.
     pub id: VersionId,
@@ -17,7 +17,7 @@ pub struct FlightRow {
 }
 
 /// What a pin is for.
-#[derive(Clone, Copy, Debug, PartialEq, Eq)]
+#[derive(Clone, Copy, PartialEq, Eq)]
 pub enum PinFor {
     /// A read of a version.
     Read,
@@ -28,7 +28,7 @@ pub enum PinFor {
 }
 
 /// A pin: the data of these ids must stay.
-#[derive(Debug, PartialEq, Eq, Drop)]
+#[derive(Drop)]
 pub struct PinRow {
     /// The ticket of the section that made it.
     pub ticket: u64,

@@ -18,6 +18,3 @@ mod names;
 
 pub use laws::{fresh_law, name_laws, own_laws, pending_law, resting_laws, run_laws, value_law};
 pub use names::{SLOTS, bucket_name, bucket_slot, key_name, key_slot, part_name};
-
-#[cfg(test)]
-mod tests;

@@ -9,6 +9,3 @@
 mod ranges;
 
 pub use ranges::{InvalidRange, is_partial, plan, span_laws};
-
-#[cfg(test)]
-mod tests;

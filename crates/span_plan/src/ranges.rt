@@ -9,7 +9,7 @@ ghost use Rattle.span_plan.specs.Laws.{PlansAreOne, SpansAreAsked, SpansAreWithi
 use call_types::{RangeAsk, Refusal, Span};
 
 /// The range is not satisfiable in a body of this length, in bytes (RFC 9110, section 15.5.17).
-#[derive(Clone, Copy, Debug, PartialEq, Eq)]
+#[derive(Clone, Copy, PartialEq, Eq)]
 pub struct InvalidRange(pub u64);
 
 /// The refusal as that of the call.

@@ -23,6 +23,3 @@ pub use order::{rank, rank_laws};
 pub use spelling::spelling_laws;
 pub use stamp::{Ballot, ChangeId};
 pub use version::VersionId;
-
-#[cfg(test)]
-mod tests;

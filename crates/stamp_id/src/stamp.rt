@@ -3,7 +3,7 @@
 ghost use Rattle.std.specs.Prelude.{◌<◌, ◌^◌};
 
 /// One round of writing: a term, and a sequence number within it. Their order is that of [`rank`](crate::rank).
-#[derive(Clone, Copy, Debug, PartialEq, Eq, Hash)]
+#[derive(Clone, Copy, PartialEq, Eq, Hash)]
 pub struct Ballot {
     /// The term, below 2^48.
     pub term: u64,
@@ -14,5 +14,5 @@ pub struct Ballot {
 }
 
 /// The name of one change: the ballot under which it was first proposed.
-#[derive(Clone, Copy, Debug, PartialEq, Eq, Hash)]
+#[derive(Clone, Copy, PartialEq, Eq, Hash)]
 pub struct ChangeId(pub Ballot);

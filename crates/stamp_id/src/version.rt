@@ -7,7 +7,7 @@ use crate::stamp::{Ballot, ChangeId};
 use crate::words;
 
 /// The id of a version: the change that made it, and the slot of the key's register.
-#[derive(Clone, Copy, Debug, PartialEq, Eq, Hash)]
+#[derive(Clone, Copy, PartialEq, Eq, Hash)]
 pub struct VersionId {
     /// The change. Its term and its sequence number are at least 1.
     pub change: ChangeId,

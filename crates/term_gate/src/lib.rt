@@ -34,6 +34,3 @@ pub use record::Format;
 pub use refusal::OpenRefusal;
 pub use seen::{Seen, Seens, Survey};
 pub use surveying::survey;
-
-#[cfg(test)]
-mod tests;

@@ -18,7 +18,7 @@ use std::alloc::Global;
 const LAST_TERM: u64 = 0xFFFF_FFFF_FFFF;
 
 /// A set that was opened.
-#[derive(Clone, Copy, Debug, PartialEq, Eq)]
+#[derive(Clone, Copy, PartialEq, Eq)]
 pub struct Opened {
     /// The term of its life, at least 1 and below 2^48.
     pub term: u64,

@@ -6,7 +6,7 @@ ghost use Rattle.term_gate.specs.Formats.{IsOf, format_of};
 use drive_base::SetPlan;
 
 /// Which drive of which set a drive is.
-#[derive(Clone, Copy, Debug, PartialEq, Eq)]
+#[derive(Clone, Copy, PartialEq, Eq)]
 pub struct Format {
     /// The set's id, a UUID.
     pub id: [u8; 16],

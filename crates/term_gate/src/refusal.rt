@@ -9,7 +9,7 @@ use fault_base::NoMemory;
 use std::alloc::{AllocError, AllocFailed};
 
 /// Why a set was not opened.
-#[derive(Clone, Copy, Debug, PartialEq, Eq)]
+#[derive(Clone, Copy, PartialEq, Eq)]
 pub enum OpenRefusal {
     /// A drive has the format of another set, or of another drive of this one.
     WrongSet {

@@ -3,7 +3,7 @@
 use call_types::Listing;
 
 /// What was found on a drive in place of its format.
-#[derive(Clone, Copy, Debug, PartialEq, Eq)]
+#[derive(Clone, Copy, PartialEq, Eq)]
 pub enum Seen {
     /// The drive's format in this set.
     Good,
@@ -21,7 +21,7 @@ pub enum Seen {
 pub type Seens = Listing<Seen>;
 
 /// What the drives of a set have for formats.
-#[derive(Debug, PartialEq, Eq, Drop)]
+#[derive(Drop)]
 pub struct Survey {
     /// What was found on each drive.
     pub formats: Seens,

@@ -20,7 +20,7 @@ pub const PART_LEAST: u64 = 5_242_880;
 pub type PartRecords = Listing<PartRecord>;
 
 /// A part that is listed, and what the register of its number holds.
-#[derive(Clone, Copy, Debug, PartialEq, Eq)]
+#[derive(Clone, Copy, PartialEq, Eq)]
 pub struct ListedPart {
     /// Its number and entity tag.
     pub part: PartRef,
@@ -29,7 +29,7 @@ pub struct ListedPart {
 }
 
 /// Why no parts are gathered.
-#[derive(Clone, Copy, Debug, PartialEq, Eq)]
+#[derive(Clone, Copy, PartialEq, Eq)]
 pub enum GatherFault {
     /// The state of the key, or one of its parts, refuses it.
     Refused(KeyRefusal),

@@ -9,7 +9,7 @@ use call_types::{Etag, PartRecord};
 use md5::{Digest, Md5};
 
 /// What an object of several parts is.
-#[derive(Clone, Copy, Debug, PartialEq, Eq)]
+#[derive(Clone, Copy, PartialEq, Eq)]
 pub struct Joined {
     /// The length of its body in bytes.
     pub length: u64,

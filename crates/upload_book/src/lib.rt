@@ -20,6 +20,3 @@ pub use gathering::{
 };
 pub use joining::{Joined, join};
 pub use storing::{StoredPart, store_part};
-
-#[cfg(test)]
-mod tests;

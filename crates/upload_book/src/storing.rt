@@ -8,7 +8,7 @@ use stamp_id::VersionId;
 use version_list::{KeyState, find_upload};
 
 /// A part that is stored, and the reply.
-#[derive(Debug, Drop)]
+#[derive(Drop)]
 pub struct StoredPart {
     /// What its register holds from now on.
     pub part: PartRecord,

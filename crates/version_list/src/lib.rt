@@ -35,6 +35,3 @@ pub use state::{KeyState, MOMENT_LIMIT, MOST_UPLOADS, MOST_VERSIONS};
 pub use step::apply;
 pub use uploads::find_upload;
 pub use writing::write;
-
-#[cfg(test)]
-mod tests;

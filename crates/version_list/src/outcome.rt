@@ -10,7 +10,7 @@ use seal_file::Bytes;
 use std::alloc::{AllocError, Global};
 
 /// What a change of a key leaves, and answers.
-#[derive(Debug, Drop)]
+#[derive(Drop)]
 pub struct Applied {
     /// The new state, none where it is the old one.
     pub state: Option<KeyState>,
@@ -21,7 +21,7 @@ pub struct Applied {
 }
 
 /// Why a change is not made.
-#[derive(Clone, Copy, Debug, PartialEq, Eq)]
+#[derive(Clone, Copy, PartialEq, Eq)]
 pub enum ActFault {
     /// The state of the key refuses it.
     Refused(KeyRefusal),

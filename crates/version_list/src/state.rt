@@ -12,7 +12,7 @@ pub const MOST_UPLOADS: usize = 1_000;
 pub const MOMENT_LIMIT: u64 = 253_402_300_800;
 
 /// What a key holds.
-#[derive(Debug, Drop)]
+#[derive(Drop)]
 pub struct KeyState {
     /// Its versions, newest first.
     pub versions: Versions,

@@ -303,6 +303,3 @@ fn abort(alloc: Global, state: &KeyState, upload: VersionId) -> Result<Applied, 
     let outcome = close_upload(alloc, state, upload)?;
     Ok(outcome.answered(Reply::Plain))
 }
-
-#[cfg(test)]
-mod tests;

@@ -21,6 +21,3 @@ pub use laws::{
 };
 pub use row::{NextRow, Row};
 pub use verdict::{Onward, Verdict, decide, judge};
-
-#[cfg(test)]
-mod tests;

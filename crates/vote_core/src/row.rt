@@ -6,7 +6,7 @@ ghost use Rattle.vote_core.specs.Row.{is_good, base_height, next_height, base_ch
 use stamp_id::{Ballot, ChangeId, rank};
 
 /// What was read of one lane.
-#[derive(Clone, Copy, Debug, PartialEq, Eq)]
+#[derive(Clone, Copy, PartialEq, Eq)]
 pub enum Row {
     /// No good file: the lane is out, its read failed, or what it showed is damaged.
     Bad,
@@ -22,7 +22,7 @@ pub enum Row {
 }
 
 /// A change on its way.
-#[derive(Clone, Copy, Debug, PartialEq, Eq)]
+#[derive(Clone, Copy, PartialEq, Eq)]
 pub struct NextRow {
     /// The ballot under which it was last proposed.
     pub ballot: Ballot,

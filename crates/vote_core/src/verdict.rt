@@ -9,7 +9,7 @@ use crate::row::{Row, base_change, base_height, carries, next_change, next_heigh
 use drive_base::SetPlan;
 
 /// What the rows of a register's lanes say.
-#[derive(Clone, Copy, Debug, PartialEq, Eq)]
+#[derive(Clone, Copy, PartialEq, Eq)]
 pub enum Verdict {
     /// Fewer rows are good than a read takes.
     TooFew {
@@ -35,7 +35,7 @@ pub enum Verdict {
 }
 
 /// What becomes of a pending change.
-#[derive(Clone, Copy, Debug, PartialEq, Eq)]
+#[derive(Clone, Copy, PartialEq, Eq)]
 pub enum Onward {
     /// It is completed.
     Forward,

@@ -1,6 +1,0 @@
-use Rattle.std.proofs.Common.{◌≡◌, length}
-use Rattle.get_read.proofs.tests.made.fresh_drives.Given as goal
-
--- as many drives as were counted
-abbrev pub invariant-loop : goal.invariant-loop
-invariant-loop l = length l.drives.items ≡ l.counter

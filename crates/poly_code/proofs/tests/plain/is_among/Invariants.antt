@@ -1,5 +1,0 @@
-use Rattle.std.proofs.Common.{◌≢◌, ◌<◌, ℕ, get_or}
-use Rattle.poly_code.proofs.tests.plain.is_among.Given as goal
-
-abbrev pub invariant-loop-other : goal.invariant-loop-other
-invariant-loop-other l = (i : ℕ) → i < l.other-index → get_or l.rows i 0 ≢ l.row

@@ -1,0 +1,33 @@
+//! Sources of bytes that come in pieces.
+
+use io_base::{IoFault, MemSource, Source};
+
+/// A source in memory that gives at most `first` bytes in its first take, and at most `most` in each other. It tells
+/// nothing.
+#[derive(Drop)]
+pub struct Pieces {
+    /// Where the bytes come from, and which takes fail.
+    pub source: MemSource,
+    /// The most bytes of the next take.
+    pub first: usize,
+    /// The most bytes of each take behind it.
+    pub most: usize,
+}
+
+impl Source for Pieces {
+    ghost use Rattle.std.specs.Prelude.{None};
+
+    ghost left = { λ _. None };
+
+    ghost faults = { λ s. s.source.faults };
+
+    fn take(&mut self, into: &mut [u8]) -> Result<usize, IoFault> {
+        let most = into.len().min(self.first);
+        self.first = self.most;
+        self.source.take(&mut into[..most])
+    }
+
+    fn read_faults(&self) -> u64 {
+        self.source.read_faults()
+    }
+}

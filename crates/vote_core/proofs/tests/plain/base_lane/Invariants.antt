@@ -1,6 +1,0 @@
-use Rattle.vote_core.specs.Row.{base_height}
-use Rattle.vote_core.proofs.Searching.{NoneIsTop}
-use Rattle.vote_core.proofs.tests.plain.base_lane.Given as goal
-
-abbrev pub invariant-loop-lane : goal.invariant-loop-lane
-invariant-loop-lane l = NoneIsTop base_height l.rows l.lane
