@@ -12,7 +12,7 @@ set -uo pipefail
 if [[ -z "${TMPDIR:-}" && -d /dev/shm && -w /dev/shm ]]; then
     export TMPDIR=/dev/shm
 fi
-source "$(dirname "$(readlink -f "${BASH_SOURCE[0]}")")/run_program.sh"
+source "$(dirname "$(readlink -f "${BASH_SOURCE[0]}")")/lib/run_program.sh"
 
 longest=300
 aws="${AWS:-aws}"

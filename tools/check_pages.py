@@ -20,6 +20,7 @@ import sys
 TOP = pathlib.Path(__file__).resolve().parent.parent
 sys.path.insert(0, str(TOP / "tools"))
 
+import rows_page
 import theorem_size
 
 COLUMNS = 120
@@ -102,12 +103,18 @@ def number_of(text):
 def figures():
     """The figures that the README has to say: each a form with its numbers, and what these are."""
     found = theorem_size.count()["found"]
-    edits = sum(1 for _ in (TOP / "crates").glob("*/must-fail/*.edit"))
+    edits = [it.read_text() for it in (TOP / "crates").glob("*/must-fail/*.edit")]
+    of_definitions = sum("\nfile: specs/" in f"\n{it}" for it in edits)
+    by_hand = sum(1 for _ in (TOP / "crates").glob("*/must-fail/more/*.edit.md"))
+    rows = sum(sum(rows_page.rows_of(it).values()) for it in rows_page.programs())
+    tests = sum(it.read_text().count("#[test]") for it in (TOP / "crates").glob("*/src/**/*.rt"))
     crates = sum(1 for line in (TOP / "crates.txt").read_text().splitlines() if line and not line.startswith("#"))
     return [
         (r"([\d,]+) definitions in ([\d,]+) lines", (len(found), theorem_size.lines_of(found))),
         (r"all ([\d,]+) crates", (crates,)),
-        (r"changed in ([\d,]+) ways", (edits,)),
+        (r"([\d,]+) wrong edits of code and ([\d,]+) of definitions", (len(edits) - of_definitions, of_definitions)),
+        (r"([\d,]+) more are tried by hand", (by_hand,)),
+        (r"([\d,]+) rows and ([\d,]+) tests", (rows, tests)),
     ]
 
 

@@ -1,6 +1,6 @@
 #!/usr/bin/env bash
 # Runs the built program as a user does, and compares its replies, its exit status and what it says on standard error. Each refusal that a
-# client can bring about is asked for once, and one of drives; the others of drives stand in tools/check_kill.sh. With the word `slow` a key gets
+# client can bring about is asked for once, and one of drives; the others of drives stand in tools/check_kill.py. With the word `slow` a key gets
 # its 10,000 versions too, which takes minutes. Its last line is 'N passed, M failed'; it ends with 1 where a case failed.
 set -uo pipefail
 
@@ -24,7 +24,7 @@ timeless() {
 
 # unopened FILE: what was said on standard error but for an opening
 unopened() {
-    sed -E '/^ostore: (opened set .*|drive [0-9]+ is out)$/d' "$1"
+    sed -E '/^ostore: (opened set .*|drive [0-9]+ is out|the drives were new, .*|no --root: .*)$/d' "$1"
 }
 
 # check NAME STATUS REPLIES ERRORS WORD..: standard input is the request. What `pipe` says of its opening is looked at by `says`
@@ -98,6 +98,7 @@ part="HTTP/1.1 206 Partial Content\r\nDate\r\nContent-Length: 3\r\n${kind}Conten
 headed="HTTP/1.1 200 OK\r\nDate\r\nContent-Length: 5\r\n${kind}Last-Modified\r\n${tag}Accept-Ranges: bytes\r\n\r\n"
 named="HTTP/1.1 200 OK\r\nDate\r\nContent-Length: 0\r\n$tag$first\r\n"
 gone='HTTP/1.1 204 No Content\r\nDate\r\n\r\n'
+headless='HTTP/1.1 404 Not Found\r\nDate\r\n\r\n'
 hidden="HTTP/1.1 204 No Content\r\nDate\r\n$marker\r\n"
 make='PUT /pic HTTP/1.1\r\n\r\n'
 document='<VersioningConfiguration><Status>Enabled</Status></VersioningConfiguration>'
@@ -123,6 +124,7 @@ no_range="$(refusal '416 Range Not Satisfiable' InvalidRange 'The range is not s
 of_hello='Content-MD5: XUFAKrxLKna5cZ2REBfFkg==\r\n'
 differs="$(refusal '400 Bad Request' BadDigest 'The Content-MD5 differs from the body.' /pic/a '')"
 opened() { echo "ostore: opened set 00000000-0000-0000-0000-000000000000, term $1, 4 drives, parity 2\n"; }
+usage="$(sed -n '/^    usage: ostore/,/^      --workers/s/^ \{0,4\}//p' "$top/docs/OPERATING.md")"'\nostore: usage\n'
 no_bucket="$(refusal '404 Not Found' NoSuchBucket 'The specified bucket does not exist.' /none/a '')"
 
 "$ostore" pipe </dev/null 2>"$work/said" || {
@@ -143,17 +145,35 @@ check 'an empty body' 0 "$made$no_bytes$empty$no_range" '' \
 check 'a body with its MD5, and one with another' 0 "$made$stored$differs$found" '' \
     pipe < <(ask "$make${put/Content/${of_hello}Content}PUT /pic/a HTTP/1.1\r\n${of_hello}Content-Length: 5\r\n\r\njello$get")
 check 'a body without its bucket' 0 "$no_bucket$made" '' pipe < <(ask "PUT /none/a HTTP/1.1\r\nContent-Length: 5\r\n\r\nhello$make")
+check 'a body that is cut without its bucket' 8 '' 'ostore: input cut\n' pipe < <(ask 'PUT /none/a HTTP/1.1\r\nContent-Length: 9\r\n\r\nhello')
+check 'a body that is replaced' 0 "$made$stored$no_bytes$empty" '' pipe < <(ask "$make${put}PUT /pic/a HTTP/1.1\r\nContent-Length: 0\r\n\r\n$get")
+check 'a body that was deleted' 0 "$made$stored$gone$unknown" '' pipe < <(ask "$make$put$delete$get")
+check 'a head and a deletion of no key' 0 "$made$headless$gone" '' pipe < <(ask "$make$head$delete")
+check 'a head and a deletion without a bucket' 0 "$headless$no_bucket" '' pipe < <(ask 'HEAD /none/a HTTP/1.1\r\n\r\nDELETE /none/a HTTP/1.1\r\n\r\n')
 check 'six drives' 0 "$made$stored$found" '' --drives 6 --parity=2 pipe < <(ask "$make$put$get")
 check 'no input' 0 '' '' pipe </dev/null
 check 'the client closes' 0 "${made/Date/Date\\r\\nConnection: close}" '' pipe < <(ask 'PUT /pic HTTP/1.1\r\nConnection: close\r\n\r\n')
-check 'no words' 2 '' 'ostore: usage\n' </dev/null
-check 'an address that is none' 4 '' "ostore: can't listen on nowhere\nostore: read fault\n" --listen nowhere serve </dev/null
-check 'a word too many' 2 '' 'ostore: usage\n' pipe pipe </dev/null
-check 'an option twice' 2 '' 'ostore: usage\n' --drives 4 --drives 4 pipe </dev/null
-check 'too many drives' 2 '' 'ostore: usage\n' --drives 17 pipe </dev/null
-check 'too much parity' 2 '' 'ostore: usage\n' --drives 5 --parity 3 pipe </dev/null
-check 'a bare dash' 2 '' 'ostore: usage\n' --root - pipe </dev/null
-check 'a word that is not UTF-8' 2 '' 'ostore: usage\n' $'pipe\xff' </dev/null
+# Connections whose bytes come at once: with a body that is awaited, and what comes behind it; with one that ends early; with a token that closes, behind which
+# nothing is served; and with a refused call whose body is passed over.
+awaited='PUT /pic/a HTTP/1.1\r\nContent-Length: 5\r\nExpect: 100-Continue\r\n\r\n'
+goes_on='HTTP/1.1 100 Continue\r\n\r\n'
+closing='DELETE /pic/a HTTP/1.1\r\nConnection: keep-alive , Close\r\n\r\n'
+unserved="$(refusal '501 Not Implemented' NotImplemented 'This call is not served.' /pic/a '')"
+check 'two requests at once' 0 "$made$gone" '' pipe < <(ask "$make$delete")
+check 'a body that is awaited' 0 "$made$goes_on$stored$found" '' pipe < <(ask "$make${awaited}hello$get")
+check 'an awaited body that is cut' 8 "$made$goes_on" 'ostore: input cut\n' pipe < <(ask "$make${awaited}hel")
+check 'a token that closes' 0 "$made${gone/Date/Date\\r\\nConnection: close}" '' pipe < <(ask "$make$closing$get")
+check 'a refused call with a body' 0 "$made$unserved$gone" '' pipe < <(ask "${make}PUT /pic/a?acl HTTP/1.1\r\nContent-Length: 3\r\n\r\nabc$delete")
+
+check 'no words' 2 '' "$usage" </dev/null
+in_memory='ostore: no --root: the store is in memory, and ends with this process\n'
+check 'an address that is none' 4 '' "${in_memory}ostore: can't listen on nowhere\nostore: read fault\n" --listen nowhere serve </dev/null
+check 'a word too many' 2 '' "$usage" pipe pipe </dev/null
+check 'an option twice' 2 '' "$usage" --drives 4 --drives 4 pipe </dev/null
+check 'too many drives' 2 '' "$usage" --drives 17 pipe </dev/null
+check 'too much parity' 2 '' "$usage" --drives 5 --parity 3 pipe </dev/null
+check 'a bare dash' 2 '' "$usage" --root - pipe </dev/null
+check 'a word that is not UTF-8' 2 '' "$usage" $'pipe\xff' </dev/null
 check 'an input that fails' 4 '' 'ostore: read fault\n' pipe <"$work"
 check 'an input that is cut' 8 '' 'ostore: input cut\n' pipe < <(ask 'GET /pic')
 check 'a body that is cut' 8 "$made" 'ostore: input cut\n' pipe < <(ask "${make}PUT /pic/a HTTP/1.1\r\nContent-Length: 9\r\n\r\nhello")
@@ -173,7 +193,7 @@ fresh='"absent","absent","absent","absent"'
 good='"good","good","good","good"'
 check 'fresh drives' 0 "$(line "$fresh" 0)\n" '' "${root[@]}" status </dev/null
 check 'a body is stored on folders' 0 "$made$stored" '' "${root[@]}" pipe < <(ask "$make$put")
-says 'an opening' "$(opened 1)"
+says 'an opening' "ostore: the drives were new, and are a new store now\n$(opened 1)"
 check 'the next process finds it' 0 "$found" '' "${root[@]}" pipe < <(ask "$get")
 check 'drives that were opened twice' 0 "$(line "$good" 2)\n" '' "${root[@]}" status </dev/null
 mv "$work/store/1" "$work/away"
@@ -184,13 +204,47 @@ rm -rf "$work/store/1"
 mv "$work/away" "$work/store/1"
 check 'it is back' 0 "$found$stored" '' "${root[@]}" pipe < <(ask "$get$put")
 
-# A refusal for which the drives are the cause is a line on standard error, also where the key has a line break.
+# A refusal for which the drives are the cause is one line on standard error, also where the key has a line break, and one of a call that isn't served is none.
 cp -a "$work/store" "$work/hurt"
 check 'a key with a line break' 0 "$stored" '' --root "$work/hurt" pipe < <(ask "${put/a HTTP/a%0Ab HTTP}")
 rm -r "$work/hurt"/[012]/data/732f*
 lost="$(refusal '503 Service Unavailable' SlowDown 'Shard quorum: lllg' /pic/a%0Ab '')"
-check 'too few drives have it' 0 "$lost" 'ostore: 503 SlowDown for GetObject: Shard quorum: lllg\n' \
-    --root "$work/hurt" pipe < <(ask "${get/a HTTP/a%0Ab HTTP}")
+check 'too few drives have it, and a call that is not served' 0 "$lost$unserved" 'ostore: 503 SlowDown for GetObject: Shard quorum: lllg\n' \
+    --root "$work/hurt" pipe < <(ask "${get/a HTTP/a%0Ab HTTP}PUT /pic/a?acl HTTP/1.1\r\n\r\n")
+
+# One byte of each of two shards is hurt, then one of a third. The same of the lanes of the key, of which two are enough to read it.
+cp -a "$work/store" "$work/torn"
+hurt() { printf '\377' | dd of="$1" bs=1 count=1 conv=notrunc status=none; }
+for drive in 0 1; do hurt "$work/torn/$drive"/data/732f* && hurt "$work/torn/$drive"/28/*; done
+check 'it is found though two shards and two lanes are hurt' 0 "$found" '' --root "$work/torn" pipe < <(ask "$get")
+cp -a "$work/store" "$work/worse"
+for drive in 0 1 2; do hurt "$work/worse/$drive"/data/732f*; done
+check 'a third shard is hurt' 0 "$(refusal '503 Service Unavailable' SlowDown 'Shard quorum: dddg' /pic/a '')" \
+    'ostore: 503 SlowDown for GetObject: Shard quorum: dddg\n' --root "$work/worse" pipe < <(ask "$get")
+for drive in 0 1 2; do hurt "$work/worse/$drive"/28/*; done
+check 'a third lane is hurt' 0 "$(refusal '503 Service Unavailable' SlowDown 'Read quorum: dddg' /pic/a '')" \
+    'ostore: 503 SlowDown for GetObject: Read quorum: dddg\n' --root "$work/worse" pipe < <(ask "$get")
+rm -r "$work/worse"/[012]
+check 'three drives are away' 3 '' 'ostore: opening refused\n' --root "$work/worse" pipe </dev/null
+
+# A body that replaces another one leaves its own files alone, a shard and a manifest on each drive. One that is deleted, given up or cut leaves none.
+keeps() {
+    local count
+    count="$(find "$work/files" -path '*/data/*' -type f ! -name 666f726d6174 | wc -l)"
+    if [[ $count == "$2" ]]; then passed=$((passed + 1)); else fails "$1: $count files of data are left"; fi
+}
+mkdir "$work/files"
+files=(--root "$work/files")
+check 'a body with another MD5 is given up' 0 "$made$differs" '' "${files[@]}" \
+    pipe < <(ask "${make}PUT /pic/a HTTP/1.1\r\n${of_hello}Content-Length: 5\r\n\r\njello")
+keeps 'a body that is given up' 0
+check 'a body is cut on folders' 8 '' 'ostore: input cut\n' "${files[@]}" pipe < <(ask "${put%hello}hell")
+keeps 'a body that is cut on folders' 0
+check 'a body is replaced on folders' 0 "$stored$no_bytes" '' "${files[@]}" \
+    pipe < <(ask "${put}PUT /pic/a HTTP/1.1\r\nContent-Length: 0\r\n\r\n")
+keeps 'a body that is replaced on folders' 8
+check 'a body is deleted on folders' 0 "$gone" '' "${files[@]}" pipe < <(ask "$delete")
+keeps 'a body that is deleted on folders' 0
 
 check 'another set' 3 '' 'ostore: opening refused\n' "${root[@]}" --set 00000000-0000-0000-0000-000000000001 pipe </dev/null
 check 'other numbers' 3 '' 'ostore: opening refused\n' "${root[@]}" --parity 1 pipe </dev/null

@@ -1,12 +1,22 @@
-"""Runs the commands of pages in their order, and compares what they print; tools/check_readme.sh calls it.
+#!/usr/bin/env python3
+"""Does what the README says, as a reader does: runs the commands of its blocks in their order, and compares what they print with what the
+page shows. Then it does the same with the blocks of docs/CLIENTS.md that need curl alone, and with the word `clients` with those of all
+clients that are installed, which may take minutes.
 
-In a block that is fenced as `console`, a line behind `$ ` is a command, and the lines below it are what it prints: on standard output, and for a command
-that ends with `&` on standard error too. A command below which nothing stands has to print nothing. A block that is fenced as `sh` is run as one script,
-of which only the status counts. Each page has a shell and a fresh folder of its own, with `./ostore` and the README in it.
+    tools/check_readme.py [clients | release]
 
-In place of `/tmp/` comes a fresh folder, and in place of `127.0.0.1:9000` an address with a free port, which a `serve` without `--listen` gets too. Ids,
-terms and times are masked before they are compared. Behind a `kill` it waits until that process has ended. A block that needs another client than curl is
-left out; with the word `clients` it is so, with a word on standard error, where that client isn't installed.
+With the word `release` the commands are those of the release, and no folder with the command `rt` is on the path.
+
+In a block that is fenced as `console`, a line behind `$ ` is a command, and the lines below it are what it prints: on standard output, and
+for a command that ends with `&` on standard error too. A command below which nothing stands has to print nothing. A block that is fenced as
+`sh` is run as one script, of which only the status counts. Each page has a shell and a fresh folder of its own, with `./ostore` and the
+README in it. Blocks fenced otherwise are only shown.
+
+In place of `/tmp/` comes a fresh folder, and in place of `127.0.0.1:9000` an address with a free port, which a `serve` without `--listen`
+gets too. Ids, terms and times are masked before they are compared. Behind a `kill` it waits until that process has ended. A block that
+needs another client than curl is left out; with the word `clients` it is so, with a word on standard error, where that client isn't
+installed. OSTORE may name another program. Folders are in memory, where the system has a place for that, unless TMPDIR names another.
+Its last line is 'N passed, M failed'; it ends with 1 where a command failed or printed something else, or where a page has none.
 """
 
 import os
@@ -19,6 +29,9 @@ import subprocess
 import sys
 import tempfile
 import time
+
+sys.path.insert(0, str(pathlib.Path(__file__).resolve().parent / "lib"))
+from program import prefer_memory, program
 
 TOP = pathlib.Path(__file__).resolve().parent.parent
 PAGES = ("README.md", "docs/CLIENTS.md")
@@ -82,7 +95,7 @@ class Reader:
         self.address = free_address()
         here = work / "here"
         here.mkdir()
-        (here / "ostore").symlink_to(os.environ.get("OSTORE") or TOP / "ostore")
+        (here / "ostore").symlink_to(program())
         shutil.copy(TOP / "README.md", here)
         unset = {it for it in os.environ if it.startswith(("AWS_", "RCLONE_"))}
         env = {name: value for name, value in os.environ.items() if name not in unset}
@@ -195,13 +208,23 @@ def check(page, work, with_clients):
     return passed, 0
 
 
+def use_release():
+    """Has the release be the program, and takes the kit off the path."""
+    os.environ["OSTORE"] = subprocess.run([TOP / "ostore", "--unpack"], stdout=subprocess.PIPE, text=True, check=True).stdout.strip()
+    folders = os.environ["PATH"].split(os.pathsep)
+    os.environ["PATH"] = os.pathsep.join(it for it in folders if not os.access(f"{it}/rt", os.X_OK))
+
+
 def main():
     passed = failed = 0
-    if sys.argv[1:] not in ([], ["clients"]):
-        sys.exit("usage: tools/check_readme.sh [clients]")
+    if sys.argv[1:] not in ([], ["clients"], ["release"]):
+        sys.exit("usage: tools/check_readme.py [clients | release]")
+    prefer_memory()
+    if sys.argv[1:] == ["release"]:
+        use_release()
     for page in PAGES:
         with tempfile.TemporaryDirectory() as work:
-            good, bad = check(page, pathlib.Path(work).resolve(), bool(sys.argv[1:]))
+            good, bad = check(page, pathlib.Path(work).resolve(), sys.argv[1:] == ["clients"])
         passed, failed = passed + good, failed + bad
     print(f"{passed} passed, {failed} failed")
     return 1 if failed else 0

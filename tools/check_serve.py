@@ -1,4 +1,23 @@
-"""What `tools/check_serve.sh` does, over the program that OSTORE names: check_serve.py [full]"""
+#!/usr/bin/env python3
+"""Looks at `serve` as many clients at once do: tools/check_serve.py [full]
+
+Each check prints a line with what it found:
+  search     the search for a history of calls takes right ones and refuses wrong ones, as a read of a value that was replaced
+  many       64 connections do PUTs, GETs, HEADs and DELETEs of 8 keys, each over a worker of its own. The calls of each key, as
+             the clients recorded them, are those of one register: each GET has the body of a PUT that wasn't replaced before
+  slow       8 clients beside 16 that give a byte a second of a head or body do at least half of the requests that they do alone,
+             in the best of three tries; the slow ones are served as well
+  killed     the server is killed in the midst of such calls and opened anew, and the calls of all its lives are such a history
+  signals    SIGTERM and SIGINT end it, in the midst of calls and where it waits, and nothing that was acknowledged is lost
+  addresses  it ends where the address is in use or is none, or where the root is in use
+  queue      more connections than workers wait until a worker is free
+  order      a client that holds its bytes back has each reply before the next request, `100 Continue` before a body, and a refusal
+             that closes without one
+
+64 connections do 12 calls each and two lives are killed; with the word `full` it is 200 calls and 20 lives. TMPDIR says on which
+disk the folders are. Without it and without `full` they are in memory, where the system has a place for that, since a disk may
+take seconds for an opening. Its last line is 'N passed, M failed'; it ends with 1 where a check failed.
+"""
 
 import pathlib
 import random
@@ -9,7 +28,9 @@ import tempfile
 import threading
 import time
 
+sys.path.insert(0, str(pathlib.Path(__file__).resolve().parent / "lib"))
 from histories import look_at_search
+from program import prefer_memory
 from serve_client import Cut, Failed, Server, at_once, must
 from serve_load import PLAIN, WEIGHTS, Load, eight_keys
 
@@ -228,6 +249,30 @@ class Checks:
             must(line.ask("GET", "/").status == 200, "the first server serves no more")
         return "status 4 and 'read fault', as where it is none; a root that is in use has status 3"
 
+    def order(self):
+        """Each reply is given before more is read: a client that holds its bytes back sees it."""
+        server = self.serve(self.root("order"), 1).is_ready()
+        refused = b"PUT /order/a HTTP/1.1\r\nHost: order\r\n%s\r\n"
+        with server.connect() as line:
+            for target, wanted in (("/order", 200), ("/order", 409)):
+                reply = line.ask("PUT", target, b"")
+                must(reply.status == wanted, f"PUT of {target}: {reply}")
+            line.say(refused % b"Content-Length: 4\r\nExpect: 100-continue\r\n")
+            must(line.head() == (100, {}), "a body that is awaited is not asked for")
+            line.say(b"abcd")
+            must(line.reply("PUT").status == 200, "a body that was awaited is not taken")
+        for name, request, wanted in (
+            ("no length", refused % b"", (411, "close")),
+            ("too long a body", refused % b"Content-Length: 5368709121\r\n", (400, "close")),
+            ("HTTP/1.0", b"HEAD /order/a HTTP/1.0\r\nHost: order\r\n\r\n", (200, "close")),
+        ):
+            with server.connect() as line:
+                line.say(request)
+                reply = line.reply(request.split()[0].decode())
+                must((reply.status, reply.headers.get("connection")) == wanted, f"{name}: {reply}")
+                must(line.told.read(1) == b"", f"{name}: the connection goes on")
+        return "a reply comes before the next request is read, and what closes waits for no body"
+
     def queue(self):
         """More connections than workers wait until a worker is free."""
         server = self.serve(self.root("queue"), 2).is_ready()
@@ -257,6 +302,8 @@ def main():
     is_full = sys.argv[1:] == ["full"]
     if sys.argv[1:] and not is_full:
         sys.exit("check_serve: the words are none, or `full`")
+    if not is_full:
+        prefer_memory()
     folder = pathlib.Path(tempfile.mkdtemp(prefix="check_serve-"))
     checks = Checks(folder, Sizes(is_full))
     try:
@@ -267,6 +314,7 @@ def main():
         checks.check("signals", checks.signalled)
         checks.check("addresses", checks.address)
         checks.check("queue", checks.queue)
+        checks.check("order", checks.order)
     finally:
         shutil.rmtree(folder, ignore_errors=True)
     print(f"{checks.passed} passed, {checks.failed} failed")

@@ -1,10 +1,11 @@
 #!/usr/bin/env python3
-"""Prints `docs/CRATES.md`: each crate with what it is for, what it stands on, what is proved of it, only tested, and neither.
+"""Prints `docs/CRATES.md`: each layer of `crates.txt`, and each crate with what it is for, what it stands on, what is proved of it, only tested, and neither.
 
     tools/crates_page.py            prints the page
     tools/crates_page.py --check    fails where docs/CRATES.md is another, and says from which line on
 
 It takes the first paragraph of the head of `src/lib.rt` (of `src/main.rt` in a program), the line of `crates.txt`, and `crates/NAME/README.md`.
+A layer of `crates.txt` is a line `# NAME: WHAT` and the lines of its crates. A crate stands below those that name it, also in its layer.
 """
 
 import itertools
@@ -18,32 +19,36 @@ PARTS = ("Proved", "Only tested", "Neither")
 HEAD = """# The crates
 
 Printed by `tools/crates_page.py` from the heads of the crates, `crates.txt` and `crates/NAME/README.md`; the gate compares it.
-Crates come after those that they stand on.
+Crates come after those that they stand on, layer by layer.
 
 Every function of every crate is proved safe (no index out of range, no overflow, no lost bits), to return, and to meet its contract.
 Want of memory may be answered by whatever takes memory; no clause says when it comes.
 """
 
 
-def crates():
-    """The names of the crates, each with those that it names."""
-    named = {}
+def layers():
+    """The layers, each with its title and its crates, and these with what they name."""
+    found = []
     for line in (TOP / "crates.txt").read_text().splitlines():
-        if line and not line.startswith("#"):
-            name, _, below = line.partition(":")
-            named[name.split()[0]] = below.split()
-    return named
+        name, colon, rest = line.partition(":")
+        if line.startswith("# "):
+            found.append((line[2:], {}))
+        elif colon:
+            if not found:
+                sys.exit("crates_page: crates.txt has a crate above its first layer")
+            found[-1][1][name.split()[0]] = rest.split()
+    return found
 
 
-def in_order(named):
-    """The names, each after those that it stands on, and else by the alphabet."""
-    done = []
-    while len(done) < len(named):
-        ready = [it for it in sorted(named) if it not in done and all(below in done for below in named[it] if below in named)]
-        if not ready:
-            sys.exit("crates_page: crates.txt goes round in a circle")
-        done += ready
-    return done
+def stop_unless_lowest_first(found):
+    """Ends where a crate stands above one that it names."""
+    named = {name: below for _, crates in found for name, below in crates.items()}
+    done = set()
+    for name, below in named.items():
+        above = [it for it in below if it in named and it not in done]
+        if above:
+            sys.exit(f"crates_page: crates.txt has {name} above {above[0]}, on which it stands")
+        done.add(name)
 
 
 def first_paragraph(name):
@@ -67,6 +72,8 @@ def parts_of(name):
     for part in page.split("\n## ")[1:]:
         title, _, body = part.partition("\n")
         parts[title] = body.strip()
+    # How a row of a trial program is written is on the page of rows.
+    parts.pop("A row", None)
     if tuple(parts) != PARTS:
         sys.exit(f"crates_page: crates/{name}/README.md has not the parts {', '.join(PARTS)}")
     return parts
@@ -89,7 +96,7 @@ def section(name, named):
     stands = f"Stands on {lists[0]}." if own else "Stands on no crate of ours."
     if kit:
         stands += f" Of the kit: {lists[1]}."
-    lines = [f"## `{name}`", "", wrapped(first_paragraph(name)), "", wrapped(stands)]
+    lines = [f"### `{name}`", "", wrapped(first_paragraph(name)), "", wrapped(stands)]
     for title, body in parts_of(name).items():
         if body != "Nothing.":
             lines += ["", titled(title, body)]
@@ -97,8 +104,14 @@ def section(name, named):
 
 
 def page():
-    named = crates()
-    return HEAD + "".join("\n" + section(name, named) for name in in_order(named))
+    found = layers()
+    stop_unless_lowest_first(found)
+    named = {name: below for _, crates in found for name, below in crates.items()}
+    text = [HEAD]
+    for title, crates in found:
+        text.append(f"\n## {title}\n")
+        text += ["\n" + section(name, named) for name in crates]
+    return "".join(text)
 
 
 def check(made):

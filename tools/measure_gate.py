@@ -5,7 +5,8 @@
     tools/measure_gate.py --beside PID   looks at what a process has started, until it is told to end (SIGTERM), and prints the table
 
 It looks each second at the provers that the command has started, and adds up the processor time that each of them had used
-when it was last seen. Of a crate that an earlier run kept nothing is seen, so measure where nothing is kept.
+when it was last seen. Of a crate that an earlier run kept nothing is seen, so measure where nothing is kept. All crates of
+crates.txt have a row, and the last line is the sum, with the minutes that the command took and the number of processors.
 """
 
 import collections
@@ -69,10 +70,16 @@ def look(seen, ancestor):
             continue
 
 
-def print_table(seen):
-    spent = collections.defaultdict(lambda: collections.Counter())
+def crates():
+    """The names of the repository's crates."""
+    top = pathlib.Path(__file__).resolve().parent.parent
+    return [line.partition(":")[0] for line in (top / "crates.txt").read_text().splitlines() if line[:1].isalpha()]
+
+
+def print_table(seen, minutes):
+    spent = {crate: collections.Counter() for crate in crates()}
     for (_, crate, kind), seconds in seen.items():
-        spent[crate][kind] += seconds / 60
+        spent.setdefault(crate, collections.Counter())[kind] += seconds / 60
     total = collections.Counter()
     print("| Crate | Proof | Tests | Edits | Sum |\n|---|---|---|---|---|")
     for crate in sorted(spent):
@@ -81,27 +88,28 @@ def print_table(seen):
         print(f"| `{crate}` | {row[0]:.1f} | {row[1]:.1f} | {row[2]:.1f} | {sum(row):.1f} |")
     row = [total[kind] for kind in ("proof", "tests", "edits")]
     print(f"| all | {row[0]:.1f} | {row[1]:.1f} | {row[2]:.1f} | {sum(row):.1f} |")
+    print(f"{sum(row):.0f} processor minutes, in {minutes:.0f} minutes on {os.cpu_count()} processors")
 
 
 def measure_run(command):
     """Runs a command, and prints the table of its provers."""
-    seen = {}
+    seen, began = {}, time.monotonic()
     run = subprocess.Popen(command)
     while run.poll() is None:
         look(seen, run.pid)
         time.sleep(1)
-    print_table(seen)
+    print_table(seen, (time.monotonic() - began) / 60)
     return run.returncode
 
 
 def measure_beside(ancestor):
     """Prints the table of the provers below a process, once it is told to end."""
-    seen, ended = {}, []
+    seen, ended, began = {}, [], time.monotonic()
     signal.signal(signal.SIGTERM, lambda *_: ended.append(True))
     while not ended:
         look(seen, ancestor)
         time.sleep(1)
-    print_table(seen)
+    print_table(seen, (time.monotonic() - began) / 60)
     return 0
 
 

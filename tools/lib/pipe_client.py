@@ -50,12 +50,16 @@ class Talk:
 
     def ask(self, method, target, body=None, headers=()):
         """The reply to a request. Cut where no whole one comes."""
+        self.say(request_of(method, target, body, headers))
+        return self.reply(method)
+
+    def say(self, bytes_of_requests):
+        """Gives bytes of requests. Cut where they are not taken."""
         try:
-            self.given.write(request_of(method, target, body, headers))
+            self.given.write(bytes_of_requests)
             self.given.flush()
         except (BrokenPipeError, ConnectionResetError):
             raise Cut from None
-        return self.reply(method)
 
     def reply(self, method):
         """The next reply, which is that to a request of this method."""
@@ -85,7 +89,7 @@ class Talk:
 
 
 # What the program says of its opening.
-OPENING = re.compile(r"^ostore: (?:opened set .*|drive \d+ is out)\n", re.M)
+OPENING = re.compile(r"^ostore: (?:opened set .*|drive \d+ is out|the drives were new, .*|no --root: .*)\n", re.M)
 
 
 class Pipe(Talk):

@@ -1,7 +1,7 @@
 # What the checks of the built program share; each sources this file. A check runs the program as a user does, from any folder, and compares its exit
 # status, what it gives and what it says on standard error. Texts are compared with every moment in them replaced by a dash.
 
-top="$(cd "$(dirname "$(readlink -f "${BASH_SOURCE[0]}")")/.." && pwd)"
+top="$(cd "$(dirname "$(readlink -f "${BASH_SOURCE[0]}")")/../.." && pwd)"
 program="${OSTORE:-$top/ostore}"
 work="$(mktemp -d)"
 trap 'rm -rf "$work"' EXIT
@@ -21,7 +21,7 @@ without_moments() {
 
 # Prints a file of words on standard error without those of an opening: unopened FILE
 unopened() {
-    sed -E '/^ostore: (opened set .*|drive [0-9]+ is out)$/d' "$1"
+    sed -E '/^ostore: (opened set .*|drive [0-9]+ is out|the drives were new, .*|no --root: .*)$/d' "$1"
 }
 
 # Runs the program, and leaves what it gave in "$work/replies", its words in "$work/said", these without its opening's in "$work/errors", and its status in

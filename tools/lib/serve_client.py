@@ -11,8 +11,9 @@ import threading
 import time
 
 from pipe_client import Cut, Talk
+from program import program
 
-PROGRAM = os.environ.get("OSTORE", "ostore")
+PROGRAM = program()
 LISTENS = re.compile(r"^ostore: listening on (\S+):(\d+)(?:,|$)", re.M)
 # How long a client waits for a reply, in seconds.
 PATIENCE = 120
