@@ -14,7 +14,6 @@ pub mod LeftLemmas
 pub mod LookingLemmas
 pub mod LosingLemmas
 pub mod OrderLemmas
-pub mod PlanEq
 pub mod PutAnswers
 pub mod PutBarred
 pub mod PutBars
