@@ -1,7 +1,7 @@
 #!/usr/bin/env python3
-"""Looks at the pages for engineers: README.md, CONTRIBUTING.md, docs/*.md and crates/*/README.md.
+"""Looks at the pages for engineers: README.md, CONTRIBUTING.md, docs/*.md and crates/*/README.md, and at the must-fail edits.
 
-    tools/check_pages.py [PAGE..]
+    tools/check_pages.py [PAGE..]      all pages and edits, or these pages alone
 
 It fails on each of these, and says where it stands:
   - a link to a file or to a title that isn't there; links to other sites aren't looked at
@@ -10,7 +10,9 @@ It fails on each of these, and says where it stands:
   - a line of more than 120 columns, but in a table or a block of code. docs/CRATES.md is made of other pages, so they are looked at in its place
   - a figure of the README that isn't what the repository has: definitions and lines of the theorem, crates, must-fail edits; and a number under "Speed"
     that docs/PERFORMANCE.md hasn't
-The last line is 'N passed, M failed', of pages; it ends with 1 where one failed.
+  - a must-fail edit, also one in must-fail/more, that can't be applied: each text behind 'old:' has to stand exactly once in its file, with the changes of the
+    pairs before it. Beside 'file:', 'old:' and 'new:' it has no line but, in must-fail/more, one with 'fn:'
+The last line is 'N passed, M failed', of pages and edits; it ends with 1 where one failed.
 """
 
 import pathlib
@@ -96,6 +98,41 @@ def wrong_lines(page):
             yield number, it
 
 
+def edits():
+    return sorted(str(it.relative_to(TOP)) for form in ("*.edit", "more/*.edit.md") for it in (TOP / "crates").glob(f"*/must-fail/{form}"))
+
+
+def wrong_edit(edit):
+    """What is wrong with a must-fail edit, each with the number of its line."""
+    crate = TOP.joinpath(*pathlib.Path(edit).parts[:2])
+    path, old, pairs, texts = "", "", 0, {}
+    for number, line in enumerate((TOP / edit).read_text().split("\n"), 1):
+        kind, _, text = line.partition(":")
+        text = text.removeprefix(" ")
+        if kind == "file":
+            path = text.strip()
+            if not (crate / path).is_file() or path.split("/")[0] not in ("src", "specs", "proofs"):
+                yield number, f"there is no file {path} to edit"
+                return
+            texts.setdefault(path, (crate / path).read_text())
+        elif kind == "old":
+            old = text
+            count = texts[path].count(old) if path and old else 0
+            if count != 1:
+                yield number, f"its 'old:' text stands {count} times in {path or 'no file'}"
+                return
+        elif kind == "new":
+            if not old or old == text:
+                yield number, "its 'new:' text has none before it, or the same"
+                return
+            texts[path] = texts[path].replace(old, text)
+            old, pairs = "", pairs + 1
+        elif line and not (kind == "fn" and "/more/" in edit):
+            yield number, f"a line that nobody reads: {line}"
+    if old or not pairs:
+        yield 1, "it has no pair of 'old:' and 'new:', or half of one"
+
+
 def number_of(text):
     return int(text.replace(",", ""))
 
@@ -103,8 +140,8 @@ def number_of(text):
 def figures():
     """The figures that the README has to say: each a form with its numbers, and what these are."""
     found = theorem_size.count()["found"]
-    edits = [it.read_text() for it in (TOP / "crates").glob("*/must-fail/*.edit")]
-    of_definitions = sum("\nfile: specs/" in f"\n{it}" for it in edits)
+    tried = [it.read_text() for it in (TOP / "crates").glob("*/must-fail/*.edit")]
+    of_definitions = sum("\nfile: specs/" in f"\n{it}" for it in tried)
     by_hand = sum(1 for _ in (TOP / "crates").glob("*/must-fail/more/*.edit.md"))
     rows = sum(sum(rows_page.rows_of(it).values()) for it in rows_page.programs())
     tests = sum(it.read_text().count("#[test]") for it in (TOP / "crates").glob("*/src/**/*.rt"))
@@ -112,7 +149,7 @@ def figures():
     return [
         (r"([\d,]+) definitions in ([\d,]+) lines", (len(found), theorem_size.lines_of(found))),
         (r"all ([\d,]+) crates", (crates,)),
-        (r"([\d,]+) wrong edits of code and ([\d,]+) of definitions", (len(edits) - of_definitions, of_definitions)),
+        (r"([\d,]+) wrong edits of code and ([\d,]+) of definitions", (len(tried) - of_definitions, of_definitions)),
         (r"([\d,]+) more are tried by hand", (by_hand,)),
         (r"([\d,]+) rows and ([\d,]+) tests", (rows, tests)),
     ]
@@ -138,9 +175,9 @@ def wrong_figures():
 
 def main():
     failed = 0
-    wanted = sys.argv[1:] or pages()
+    wanted = sys.argv[1:] or pages() + edits()
     for page in wanted:
-        wrong = [*wrong_lines(page), *(wrong_figures() if page == "README.md" else ())]
+        wrong = list(wrong_edit(page)) if "/must-fail/" in page else [*wrong_lines(page), *(wrong_figures() if page == "README.md" else ())]
         failed += bool(wrong)
         for number, text in wrong:
             print(f"check_pages: {page}:{number}: {text}", file=sys.stderr)

@@ -113,9 +113,9 @@ def faults():
         programs[kind] = gzip.decompress(packed) if is_whole else b""
         yield None if sum_of(programs[kind]) == fields[f"program-{kind}"] else f"the program in ostore-{kind}.gz has another digest"
     if listed != sources():
-        print("release: its sources aren't this tree's, so its program isn't compared")
-    elif not BUILT.is_file():
-        print("release: there is no program of this tree, so it isn't compared")
+        print("release: its program was left out of what is compared with this tree's, since its sources are others", file=sys.stderr)
+    elif said(TOP / "ostore", "--program") != str(BUILT):
+        print("release: its program was left out of what is compared, since there is none that was built of this tree", file=sys.stderr)
     else:
         yield None if stripped(BUILT) == programs["x86-64"] else "the program of this tree, of the same sources, has other bytes"
 
