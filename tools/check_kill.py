@@ -3,7 +3,8 @@
 
 In each round the program is opened over the folders of a set, reads all that earlier rounds left, puts, gets and deletes
 through `pipe`, and is killed with SIGKILL at a random moment: while it opens, while it reads, or in a request. The rounds
-take turns with a set 2+2 and a set 4+2. Then these hold, or the script fails and says why:
+take turns with a set 2+2 and a set 4+2, and in the first one of each, in which the store is made, it ends of its own accord:
+so 10 rounds have 8 kills. Then these hold, or the script fails and says why:
   - Every change that was acknowledged is there, and one that was not is there or not.
   - No reply was wrong, and none was 503.
   - The term that `status` tells never falls, and rises with each life that answered.

@@ -5,7 +5,7 @@
 set -uo pipefail
 
 top="$(cd "$(dirname "$(readlink -f "${BASH_SOURCE[0]}")")/.." && pwd)"
-ostore="${OSTORE:-$top/ostore}"
+ostore="${OSTORE:-$("$top/ostore" --program)}"
 work="$(mktemp -d)"
 trap 'rm -rf "$work"' EXIT
 passed=0

@@ -4,9 +4,10 @@
 Each check prints a line with what it found:
   search     the search for a history of calls takes right ones and refuses wrong ones, as a read of a value that was replaced
   many       64 connections do PUTs, GETs, HEADs and DELETEs of 8 keys, each over a worker of its own. The calls of each key, as
-             the clients recorded them, are those of one register: each GET has the body of a PUT that wasn't replaced before
-  slow       8 clients beside 16 that give a byte a second of a head or body do at least half of the requests that they do alone,
-             in the best of three tries; the slow ones are served as well
+             the clients recorded them, are those of one register: each GET has the body of a PUT that wasn't replaced before. No
+             connection is cut, but where its client gave nothing for 9 seconds, as on a loaded machine: then all is done once more
+  slow       8 clients beside 16 that give a byte a second of a head or body do at least half of the requests that they do alone
+             before and after, in one of three tries; the slow ones are served as well
   killed     the server is killed in the midst of such calls and opened anew, and the calls of all its lives are such a history
   signals    SIGTERM and SIGINT end it, in the midst of calls and where it waits, and nothing that was acknowledged is lost
   addresses  it ends where the address is in use or is none, or where the root is in use
@@ -35,6 +36,8 @@ from serve_client import Cut, Failed, Server, at_once, must
 from serve_load import PLAIN, WEIGHTS, Load, eight_keys
 
 SMALL = 1024
+# The server cuts a connection on which nothing came for 10 seconds. A client that gave nothing for so long has itself been idle.
+IDLE = 9.0
 
 
 class Sizes:
@@ -43,7 +46,7 @@ class Sizes:
     def __init__(self, is_full):
         self.clients, self.calls = (64, 200) if is_full else (64, 12)
         self.weights = WEIGHTS if is_full else WEIGHTS[:-1]
-        self.slow, self.fast, self.seconds = (16, 8, 5) if is_full else (16, 8, 1)
+        self.slow, self.fast, self.seconds = (16, 8, 10) if is_full else (16, 8, 4)
         self.kills, self.before_kill = (20, 4.0) if is_full else (2, 1.0)
 
 
@@ -92,7 +95,7 @@ class Slow:
 
 
 def rate(server, clients, seconds):
-    """Requests a second of clients that put and get 1 KiB each."""
+    """Requests a second of clients that put and get 1 KiB each. None does less than a twentieth of what all do in the mean."""
     until = time.monotonic() + seconds
     counts = [0] * clients
 
@@ -108,6 +111,7 @@ def rate(server, clients, seconds):
                 counts[number] += 4
 
     at_once([lambda number=number: go(number) for number in range(clients)])
+    must(20 * clients * min(counts) >= sum(counts), f"a client isn't served beside the others: {counts}")
     return sum(counts) / seconds
 
 
@@ -154,19 +158,30 @@ class Checks:
         return "it takes what is right and refuses what is wrong"
 
     def many(self):
-        """Many connections at once, each with a worker, on few keys."""
-        sizes, load = self.sizes, Load(eight_keys(), "many", self.sizes.weights)
-        server = self.serve(self.root("many"), sizes.clients).is_ready()
+        """Many connections at once, each with a worker, on few keys; once more where some were cut since their clients were idle."""
+        told, idle = self.many_at("many")
+        if idle:
+            print(f"many: a client gave nothing for {idle:.0f} s and was cut, so once more", flush=True)
+            told, idle = self.many_at("many again")
+        must(not idle, f"a connection was cut, in both tries, and its client had given nothing for {idle:.0f} s")
+        return told
+
+    def many_at(self, name):
+        """What came of it, and how long an idle client was that was cut, if there is one."""
+        sizes, load = self.sizes, Load(eight_keys(), name, self.sizes.weights)
+        server = self.serve(self.root(name), sizes.clients).is_ready()
         load.make_buckets(server)
         began = time.monotonic()
         load.run(server, sizes.clients, sizes.calls)
         seconds = time.monotonic() - began
-        must(load.done + load.refused == sizes.clients * sizes.calls, f"a connection was cut: {load.told()}")
+        idle = min(load.silences, default=0.0)
+        is_whole = load.done + load.refused == sizes.clients * sizes.calls
+        must(is_whole or idle >= IDLE, f"a connection was cut {idle:.1f} s behind the last bytes of its client: {load.told()}")
         must(load.refused == 0, f"calls were refused while all drives serve: {load.told()}")
         load.read_all(server)
         versions = load.read_versions(server, 500)
         load.judge()
-        return f"{sizes.clients} connections, {load.told()}, {load.done / seconds:.0f} a second, {versions} versions read"
+        return f"{sizes.clients} connections, {load.told()}, {load.done / seconds:.0f} a second, {versions} versions read", idle
 
     def slow(self):
         """Slow clients beside fast ones."""
@@ -176,11 +191,14 @@ class Checks:
             must(line.ask("PUT", f"/{PLAIN}", b"").status == 200, "the bucket is not made")
         best = (0.0, "")
         for _ in range(3):
-            alone = rate(server, sizes.fast, sizes.seconds)
+            before = rate(server, sizes.fast, sizes.seconds)
             slow = [Slow(server, number, number % 2) for number in range(sizes.slow)]
             beside = rate(server, sizes.fast, sizes.seconds)
             at_once([each.end for each in slow])
+            alone = (before + rate(server, sizes.fast, sizes.seconds)) / 2
             best = max(best, (beside / alone, f"{beside:.0f} requests a second beside {sizes.slow} slow clients, {alone:.0f} without"))
+            if best[0] >= 0.5:
+                break
         must(best[0] >= 0.5, f"{best[1]}: {best[0]:.2f} of it")
         return f"{best[1]}: {best[0]:.2f} of it"
 

@@ -122,11 +122,11 @@ check 'opened again' 0 '' '' --root "$store" pipe </dev/null
 check 'its term' 0 "$(line_of "$good" 2)" '' --root "$store" status </dev/null
 
 # A root that another process has locked
-(flock 9 && exec sleep 20) 9<"$store" &
-holder=$!
-sleep 0.2
-check 'a root that is locked' 3 '' 'ostore: opening refused\n' --root "$store" pipe </dev/null
-kill "$holder" && wait "$holder" 2>/dev/null
+flock "$store" "$program" --root "$store" pipe </dev/null >"$work/replies" 2>"$work/errors"
+status=$?
+holds "a root that is locked: status $status" test "$status $(cat "$work/errors")" == '3 ostore: opening refused'
+holds 'a root that is locked: a reply' test ! -s "$work/replies"
+check 'the same root behind it' 0 "$(line_of "$good" 2)" '' --root "$store" status </dev/null
 
 # Drives that fail, are damaged, and another's
 cp -a "$store" "$work/few"

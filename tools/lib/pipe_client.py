@@ -1,11 +1,8 @@
 """What a client sees of the program: a request is written, and its reply read before the next one. Pipe is a `pipe` process."""
 
-import pathlib
 import re
 import subprocess
 import time
-
-PROGRAM = pathlib.Path(__file__).resolve().parent.parent / "ostore"
 
 
 class Cut(Exception):
@@ -47,11 +44,18 @@ class Talk:
 
     def __init__(self, given, told):
         self.given, self.told = given, told
+        # When the last reply had come, and how long it took from then on until the last request was given.
+        self.heard, self.silence = time.monotonic(), 0.0
 
     def ask(self, method, target, body=None, headers=()):
         """The reply to a request. Cut where no whole one comes."""
-        self.say(request_of(method, target, body, headers))
-        return self.reply(method)
+        try:
+            self.say(request_of(method, target, body, headers))
+        finally:
+            self.silence = time.monotonic() - self.heard
+        reply = self.reply(method)
+        self.heard = time.monotonic()
+        return reply
 
     def say(self, bytes_of_requests):
         """Gives bytes of requests. Cut where they are not taken."""
@@ -93,9 +97,9 @@ OPENING = re.compile(r"^ostore: (?:opened set .*|drive \d+ is out|the drives wer
 
 
 class Pipe(Talk):
-    """The program with these words before `pipe`."""
+    """A program with these words before `pipe`."""
 
-    def __init__(self, words, program=PROGRAM):
+    def __init__(self, words, program):
         self.process = subprocess.Popen(
             [str(program), *words, "pipe"],
             stdin=subprocess.PIPE,

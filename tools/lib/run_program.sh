@@ -2,7 +2,7 @@
 # status, what it gives and what it says on standard error. Texts are compared with every moment in them replaced by a dash.
 
 top="$(cd "$(dirname "$(readlink -f "${BASH_SOURCE[0]}")")/../.." && pwd)"
-program="${OSTORE:-$top/ostore}"
+program="${OSTORE:-$("$top/ostore" --program)}"
 work="$(mktemp -d)"
 trap 'rm -rf "$work"' EXIT
 passed=0

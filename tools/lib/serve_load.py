@@ -29,6 +29,8 @@ class Load:
         self.lock = threading.Lock()
         self.round = self.done = self.refused = 0
         self.odd = []
+        # Of each connection that was cut, how long its client had given nothing.
+        self.silences = []
 
     def make_buckets(self, server):
         document = b"<VersioningConfiguration><Status>Enabled</Status></VersioningConfiguration>"
@@ -67,6 +69,7 @@ class Load:
         try:
             reply = line.ask(kind, key, body)
         except Cut:
+            self.silences.append(line.silence)
             self.record(key, kind, value, start, math.inf)
             raise
         end = time.monotonic()
