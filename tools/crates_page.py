@@ -21,7 +21,8 @@ HEAD = """# The crates
 Printed by `tools/crates_page.py` from the heads of the crates, `crates.txt` and `crates/NAME/README.md`; the gate compares it.
 Crates come after those that they stand on, layer by layer.
 
-Every function of every crate is proved safe (no index out of range, no overflow, no lost bits), to return, and to meet its contract.
+Every function of every crate is proved safe (no index out of range, no overflow, no lost bits), and to meet its contract.
+It is proved to return, too, but where it waits for a peer or a turn: such a function has the bound `Wait`, or calls what waits in the system.
 Want of memory may be answered by whatever takes memory; no clause says when it comes.
 """
 
