@@ -1,21 +1,22 @@
 #!/usr/bin/env python3
 """Does what the README says, as a reader does: runs the commands of its blocks in their order, and compares what they print with what the
 page shows. Then it does the same with the blocks of docs/CLIENTS.md that need curl alone, and with the word `clients` with those of all
-clients that are installed, which may take minutes.
+clients that are installed, which may take minutes. Last it compares what `./ostore --help` and `--version` say.
 
     tools/check_readme.py [clients | release]
 
-With the word `release` the commands are those of the release, and no folder with the command `rt` is on the path.
+With the word `release` the program is a copy of `ostore`, `VERSION` and `release` alone, and no folder with the command `rt` is on the
+path.
 
 In a block that is fenced as `console`, a line behind `$ ` is a command, and the lines below it are what it prints: on standard output, and
 for a command that ends with `&` on standard error too. A command below which nothing stands has to print nothing. A block that is fenced as
-`sh` is run as one script, of which only the status counts. Each page has a shell and a fresh folder of its own, with `./ostore` and the
-README in it. Blocks fenced otherwise are only shown.
+`sh` is run as one script, of which only the status counts. Each page has a shell and a fresh folder of its own, with the `./ostore` of
+the repository and the README in it. Blocks fenced otherwise are only shown. That the sources have moved on since the release is passed over.
 
 In place of `/tmp/` comes a fresh folder, and in place of `127.0.0.1:9000` an address with a free port, which a `serve` without `--listen`
 gets too. Ids, terms and times are masked before they are compared. Behind a `kill` it waits until that process has ended. A block that
 needs another client than curl is left out; with the word `clients` it is so, with a word on standard error, where that client isn't
-installed. OSTORE may name another program. Folders are in memory, where the system has a place for that, unless TMPDIR names another.
+installed. OSTORE may name another program, which is called itself then. Folders are in memory, where the system has a place for that, unless TMPDIR names another.
 Its last line is 'N passed, M failed'; it ends with 1 where a command failed or printed something else, or where a page has none.
 """
 
@@ -31,7 +32,7 @@ import tempfile
 import time
 
 sys.path.insert(0, str(pathlib.Path(__file__).resolve().parent / "lib"))
-from program import prefer_memory, program
+from program import prefer_memory, program, program_of
 
 TOP = pathlib.Path(__file__).resolve().parent.parent
 PAGES = ("README.md", "docs/CLIENTS.md")
@@ -46,6 +47,7 @@ MASKS = (
     (re.compile(r"\b\w{3}, \d\d \w{3} \d{4} \d\d:\d\d:\d\d GMT\b"), "TIME"),
     (re.compile(r"\b\d{4}-\d\d-\d\dT[\d:.]+Z"), "TIME"),
 )
+MOVED_ON = re.compile(r"^ostore: this is release \S+, and the sources have moved on since; .*\n", re.M)
 
 
 def blocks_of(page):
@@ -76,6 +78,7 @@ def commands_of(kind, start, lines):
 
 
 def masked(text):
+    text = MOVED_ON.sub("", text)
     for form, mask in MASKS:
         text = form.sub(mask, text)
     return text.splitlines()
@@ -87,15 +90,25 @@ def free_address():
         return "127.0.0.1:%d" % it.getsockname()[1]
 
 
+def put_program(here, is_release):
+    """Puts `./ostore` into a folder: a copy of the release, or the repository's, or the program itself where OSTORE names another."""
+    if is_release:
+        for name in ("ostore", "VERSION"):
+            shutil.copy(TOP / name, here)
+        shutil.copytree(TOP / "release", here / "release", ignore=shutil.ignore_patterns("out"))
+    else:
+        (here / "ostore").symlink_to(TOP / "ostore" if program() == program_of(TOP) else program())
+
+
 class Reader:
     """A shell in a fresh folder, in which the commands of one page are run."""
 
-    def __init__(self, page, work):
+    def __init__(self, page, work, is_release):
         self.page, self.work = page, work
         self.address = free_address()
         here = work / "here"
         here.mkdir()
-        (here / "ostore").symlink_to(program())
+        put_program(here, is_release)
         shutil.copy(TOP / "README.md", here)
         unset = {it for it in os.environ if it.startswith(("AWS_", "RCLONE_"))}
         env = {name: value for name, value in os.environ.items() if name not in unset}
@@ -142,7 +155,7 @@ class Reader:
     def printed(self, command, shown, out):
         """What a command printed; one in the background is waited for until it printed as many lines as are shown."""
         end = time.monotonic() + LONGEST
-        while command.endswith("&") and time.monotonic() < end and len(out.read_text().splitlines()) < len(shown):
+        while command.endswith("&") and time.monotonic() < end and len(masked(out.read_text())) < len(shown):
             time.sleep(0.05)
         if command.endswith("&"):
             time.sleep(0.2)
@@ -185,13 +198,13 @@ def is_installed(client):
         return False
 
 
-def check(page, work, with_clients):
+def check(page, work, word):
     """How many commands of a page passed, and how many failed. Behind one that failed none is run."""
-    reader, passed = Reader(page, work), 0
+    reader, passed = Reader(page, work, word == "release"), 0
     try:
         for kind, start, lines in blocks_of(page):
             client = client_of(lines)
-            if client and not with_clients:
+            if client and word != "clients":
                 continue
             if client and not is_installed(client):
                 print(f"check_readme: {page}, line {start}: {client} isn't installed, and its block was left out", file=sys.stderr)
@@ -208,9 +221,40 @@ def check(page, work, with_clients):
     return passed, 0
 
 
-def use_release():
-    """Has the release be the program, and takes the kit off the path."""
-    os.environ["OSTORE"] = subprocess.run([TOP / "ostore", "--unpack"], stdout=subprocess.PIPE, text=True, check=True).stdout.strip()
+def help_of():
+    """What `./ostore --help` has to say: the program's usage as docs/OPERATING.md shows it, and the words of `./ostore` by the head of that file."""
+    usage = re.search(r"^    usage: ostore.*?(?=^\S)", (TOP / "docs/OPERATING.md").read_text(), re.M | re.S)[0].rstrip("\n")
+    words = re.findall(r"^#   \./ostore (--\w+) +(.*)$", (TOP / "ostore").read_text(), re.M)
+    lines = [line.removeprefix("    ") for line in usage.split("\n")]
+    return "\n".join([*lines, "", "words of ./ostore itself, alone:", *(f"  {word:<18} {what}" for word, what in words), ""])
+
+
+def versions_of(here):
+    """What `./ostore --version` may say in a folder, as a pattern."""
+    release = dict(line.split(": ", 1) for line in (TOP / "release/RELEASE").read_text().splitlines())
+    told = rf"release {re.escape(release['version'])} for x86-64(-v3)?, of commit {release['commit']}"
+    more = "" if (here / "release").is_dir() else "|built of this tree|" + told + "; the sources have moved on since"
+    return rf"ostore {re.escape((TOP / 'VERSION').read_text().strip())} \(({told}{more})\)\n"
+
+
+def check_words(work, is_release):
+    """How many of the words that `./ostore` itself knows say what they have to, and how many don't."""
+    put_program(work, is_release)
+    if (work / "ostore").resolve() == pathlib.Path(program()).resolve() and not is_release:
+        print("check_readme: --help and --version were left out, since OSTORE names another program", file=sys.stderr)
+        return 0, 0
+    passed = 0
+    for word, wanted in (("--help", re.escape(help_of())), ("--version", versions_of(work))):
+        ran = subprocess.run(["./ostore", word], cwd=work, stdin=subprocess.DEVNULL, capture_output=True, text=True)
+        is_so = ran.returncode == 0 and re.fullmatch(wanted, ran.stdout) and not ran.stderr
+        passed += bool(is_so)
+        if not is_so:
+            print(f"check_readme: ./ostore {word}: status {ran.returncode}, and it says\n{ran.stdout}{ran.stderr}", file=sys.stderr)
+    return passed, 2 - passed
+
+
+def leave_kit():
+    """Takes the kit off the path."""
     folders = os.environ["PATH"].split(os.pathsep)
     os.environ["PATH"] = os.pathsep.join(it for it in folders if not os.access(f"{it}/rt", os.X_OK))
 
@@ -219,13 +263,17 @@ def main():
     passed = failed = 0
     if sys.argv[1:] not in ([], ["clients"], ["release"]):
         sys.exit("usage: tools/check_readme.py [clients | release]")
+    word = "".join(sys.argv[1:])
     prefer_memory()
-    if sys.argv[1:] == ["release"]:
-        use_release()
+    if word == "release":
+        leave_kit()
     for page in PAGES:
         with tempfile.TemporaryDirectory() as work:
-            good, bad = check(page, pathlib.Path(work).resolve(), sys.argv[1:] == ["clients"])
+            good, bad = check(page, pathlib.Path(work).resolve(), word)
         passed, failed = passed + good, failed + bad
+    with tempfile.TemporaryDirectory() as work:
+        good, bad = check_words(pathlib.Path(work).resolve(), word == "release")
+    passed, failed = passed + good, failed + bad
     print(f"{passed} passed, {failed} failed")
     return 1 if failed else 0
 

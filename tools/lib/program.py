@@ -8,10 +8,15 @@ import tempfile
 TOP = pathlib.Path(__file__).resolve().parent.parent.parent
 
 
+def program_of(top):
+    """The program that ./ostore runs in a folder."""
+    return subprocess.run([top / "ostore", "--program"], stdout=subprocess.PIPE, text=True, check=True).stdout.strip()
+
+
 def program():
     """The program that OSTORE names, or else the one that ./ostore runs."""
     if "OSTORE" not in os.environ:
-        os.environ["OSTORE"] = subprocess.run([TOP / "ostore", "--program"], capture_output=True, text=True, check=True).stdout.strip()
+        os.environ["OSTORE"] = program_of(TOP)
     return os.environ["OSTORE"]
 
 
