@@ -1,11 +1,11 @@
 #!/usr/bin/env python3
-"""Counts what a reader has to read of the specs to know what the contract of the program says.
+"""Counts what a reader has to read of the specs to know what the contract of the program says, and the laws beside it that the README's promises rest on.
 
     tools/theorem_size.py           says how many definitions and lines that are, and in which crates
     tools/theorem_size.py --list    prints each of these definitions too, crate by crate
 
-It begins at the names in the contract of `run` (crates/ostore/src/running.rt) and in those of the traits that its drives, streams, audits, clock and doors
-have, and follows each name into the specs of the crates. Names bound in a definition aren't followed. A line is one of a definition or of the comment
+It begins at the names in the contract of `run` (crates/ostore/src/running.rt), in those of the traits that its drives, streams, audits, clock and doors
+have, and in those of the laws below (LAWS), and follows each name into the specs of the crates. Names bound in a definition aren't followed. A line is one of a definition or of the comment
 above it; `use` lines and empty lines aren't counted. The types of the code that are named are counted apart, and definitions of the kit aren't followed.
 """
 
@@ -25,6 +25,15 @@ TRAITS = [
     ("io_base", "sink.rt", "Sink"),
     ("io_base", "clock.rt", "Clock"),
     ("io_base", "door.rt", "Door"),
+]
+# The laws beside the contract of `run` that the README's promises rest on: that each change is applied once; that no step takes a file of live data away; that
+# enough drives which serve refuse nothing; and over which drives all of it holds.
+LAWS = [
+    ("ostore", "laws.rt", "life_law"),
+    ("op_steps", "laws.rt", "live_law"),
+    ("op_steps", "laws.rt", "get_law"),
+    ("slot_history", "laws.rt", "run_laws"),
+    ("store_shared", "lives.rt", "opened_law"),
 ]
 NAMED = re.compile(r"^ *(?:(?:abbrev|unfoldable|pub|record|data) )*([^\s:({]+)")
 OPENS = re.compile(r"^ *(?:abbrev|unfoldable|pub|record|data)\b")
@@ -172,10 +181,11 @@ class Specs:
 
 
 def contract(text, opening):
-    """The `requires` and `ensures` of what begins with these words, up to its body."""
-    at = text.index(opening)
-    behind = text[at:]
-    return behind[: behind.index("\n}")]
+    """The `requires` and `ensures` of what begins with these words, up to its body, or to the end of a trait."""
+    found = re.search(rf"{re.escape(opening)}\b.*?(?=\n\}}|\n\{{)", text, re.S)
+    if not found:
+        sys.exit(f"theorem_size: there is no {opening}")
+    return found[0] + "\n"
 
 
 def roots_of(path, opening):
@@ -194,17 +204,23 @@ def lines_of(found):
 
 
 def count():
-    """The definitions below the contract of `run`, those that its traits add, all of them by crates, and the types of the code."""
+    """The definitions below the contract of `run`, those that its traits and then the laws add, all of them by crates, and the types of the code."""
     specs = Specs()
-    own = roots_of(RUN, "pub fn run<")
-    traits = set()
+    own = roots_of(RUN, "pub fn run")
+    traits, laws = set(), set()
     for crate, file, name in TRAITS:
         traits |= roots_of(CRATES / crate / "src" / file, f"pub trait {name}")
+    for crate, file, name in LAWS:
+        law = roots_of(CRATES / crate / "src" / file, f"pub fn {name}")
+        if not law:
+            sys.exit(f"theorem_size: {name} of {crate} says nothing")
+        laws |= law
     below, _, _ = specs.reached(own)
-    found, types, kit = specs.reached(own | traits)
+    beside, _, _ = specs.reached(own | traits)
+    found, types, kit = specs.reached(own | traits | laws)
     kit = {it for it in kit if not it[0].startswith("std.")}
     everything = sum(len(it.definitions) for it in specs.files.values())
-    return {"below": below, "found": found, "types": types, "kit": kit, "everything": everything}
+    return {"below": below, "beside": beside, "found": found, "types": types, "kit": kit, "everything": everything}
 
 
 def main():
@@ -214,7 +230,8 @@ def main():
     for (module, name), it in found.items():
         crates.setdefault(module.split(".")[0], {})[module, name] = it
     print(f"the contract of run: {len(counted['below'])} definitions, {lines_of(counted['below'])} lines")
-    print(f"with its traits: {len(found)} definitions, {lines_of(found)} lines, of {counted['everything']} definitions in all specs")
+    print(f"with its traits: {len(counted['beside'])} definitions, {lines_of(counted['beside'])} lines")
+    print(f"and with the laws beside it: {len(found)} definitions, {lines_of(found)} lines, of {counted['everything']} definitions in all specs")
     print(f"types of the code that they name: {len(counted['types'])}")
     print(f"words of the kit beside those of its standard library: {', '.join(sorted(name for _, name in counted['kit']))}")
     for crate, its in sorted(crates.items(), key=lambda it: -len(it[1])):
