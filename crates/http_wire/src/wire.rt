@@ -47,6 +47,9 @@ impl<S: Source + Drop> Wire<S> {
 
     /// The next head, or None where the source ended before any byte of one. What is behind the head waits. The last
     /// body was read to its end before. After a refusal the same one comes again, and nothing is taken.
+    ///
+    /// It begins a message of the source, so a wait between two requests ends at its own limit, however long the peer was
+    /// waited for in the requests before.
     pub fn next_head(&mut self, alloc: Global) -> Result<Option<Head>, WireFault>
         requires { self.old.refused ≡ None → self.old.body_left ≡ 0 }
         ensures again { (fault : WireFault) → self.old.refused ≡ Some fault
@@ -57,6 +60,7 @@ impl<S: Source + Drop> Wire<S> {
         if let Some(fault) = self.refused {
             return Err(fault);
         }
+        self.source.begin_message();
         match read_head(&mut self.window, &mut self.headers, &mut self.source, alloc) {
             Reading::Whole(head, length) => {
                 self.stated = length;

@@ -72,6 +72,12 @@ impl Source for MemSource {
         Ok(n)
     }
 
+    fn begin_message(&mut self)
+        ensures left { Some self.new.left ≡ Some self.old.left }
+        ensures counted { self.new.faults ≡ self.old.faults }
+        ensures same { self.new ≡ self.old }
+    {}
+
     fn read_faults(&self) -> u64 {
         self.faults
     }

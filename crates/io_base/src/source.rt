@@ -21,6 +21,11 @@ pub trait Source {
         ensures taken { Took result into.new (left self.old) (left self.new) }
         ensures counted { CountsFault result (faults self.old) (faults self.new) };
 
+    /// Says that what is taken next begins a message of its own: a limit on the time of one message counts anew. It takes nothing.
+    fn begin_message(&mut self)
+        ensures left { left self.new ≡ left self.old }
+        ensures counted { faults self.new ≡ faults self.old };
+
     /// How many calls have failed. The count stands still at `u64::MAX`.
     fn read_faults(&self) -> u64
         ensures { result ≡ faults self.now };
@@ -33,6 +38,10 @@ impl<S: Source> Source for &mut S {
 
     fn take(&mut self, into: &mut [u8]) -> Result<usize, IoFault> {
         (**self).take(into)
+    }
+
+    fn begin_message(&mut self) {
+        (**self).begin_message();
     }
 
     fn read_faults(&self) -> u64 {

@@ -5,9 +5,11 @@ ghost use Rattle.std.specs.Io.KnownBytes.{ReadConsumes};
 ghost use Rattle.io_base.specs.Count.{CountsFault};
 ghost use Rattle.io_base.specs.Source.{Took};
 
+use crate::tcp_ends::TcpReader;
 use crate::{IoFault, Source};
 use std::alloc::{AllocError, Global};
 use std::io::{BufReader, ErrorKind, Read};
+use std::rt;
 
 /// How many bytes are read ahead for small takes.
 const BUFFER_BYTES: usize = 65_536;
@@ -35,6 +37,15 @@ impl<R: Read + Drop> StdSource<R> {
     }
 }
 
+impl<R: rt::Clock + Drop> StdSource<TcpReader<R>> {
+    /// Has the reader count anew how long its peer is waited for.
+    pub(crate) fn begin(&mut self)
+        ensures count { ⟦<StdSource<TcpReader<R>> as Source>⟧.faults self.new ≡ ⟦<StdSource<TcpReader<R>> as Source>⟧.faults self.old }
+    {
+        self.reader.get_mut().begin();
+    }
+}
+
 impl<R: Read + Drop> Source for StdSource<R> {
     ghost use Rattle.io_base.specs.StdSource.{unread};
 
@@ -58,6 +69,8 @@ impl<R: Read + Drop> Source for StdSource<R> {
         self.faults = self.faults.saturating_add(1);
         Err(IoFault::Failed)
     }
+
+    fn begin_message(&mut self) {}
 
     fn read_faults(&self) -> u64 {
         self.faults

@@ -4,7 +4,7 @@ ghost use Rattle.std.specs.Prelude.{◌≡◌, ◌≤◌, None, IfSome, IsErr};
 ghost use Rattle.std.specs.Duration.{as_nanos};
 ghost use Rattle.std.specs.Io.{ReadsAtMost};
 ghost use Rattle.std.specs.Io.KnownBytes.{ReadConsumes};
-ghost use Rattle.io_base.specs.Pace.{CountsWait, waited_of};
+ghost use Rattle.io_base.specs.Pace.{CountsWait, no_wait, waited_of};
 
 use crate::pace::Pace;
 use crate::{IoFault, Sink, Source, StdSink, StdSource, TcpLimits};
@@ -26,6 +26,16 @@ pub struct TcpReader<R> {
     rt: R,
     slow: Duration,
     pace: Pace,
+}
+
+impl<R> TcpReader<R> {
+    /// Forgets how long the peer was waited for.
+    pub(crate) fn begin(&mut self)
+        ensures pace { waited_of self.new.pace ≡ no_wait }
+        ensures same { self.new.slow ≡ self.old.slow }
+    {
+        self.pace = Pace::new();
+    }
 }
 
 impl<R: rt::Clock + Drop> Read for TcpReader<R> {
@@ -95,6 +105,10 @@ impl<R: rt::Clock + Drop> Source for TcpIn<R> {
             Ok(_) => {}
         }
         answer
+    }
+
+    fn begin_message(&mut self) {
+        self.source.begin();
     }
 
     fn read_faults(&self) -> u64 {

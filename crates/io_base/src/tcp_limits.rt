@@ -12,7 +12,8 @@ pub struct TcpLimits {
     pub idle: Duration,
     /// How long a write waits until the peer takes a byte. Some time.
     pub write: Duration,
-    /// How long a peer is waited for in all while it gives less than 1 KiB. Some time: without any every peer is slow at once.
+    /// How long a peer is waited for in all within a message while it gives less than 1 KiB. Some time: without any every peer is
+    /// slow at once.
     pub slow: Duration,
     /// How long a connection that the server ends is read before it is closed.
     pub linger: Duration,
