@@ -357,6 +357,7 @@ impl Clone for Refusal {
             Refusal::InvalidPart => Refusal::InvalidPart,
             Refusal::PartOrder => Refusal::PartOrder,
             Refusal::PartSmall => Refusal::PartSmall,
+            Refusal::PreconditionFailed => Refusal::PreconditionFailed,
             Refusal::InvalidRange(length) => Refusal::InvalidRange(*length),
             Refusal::ReadQuorum(whys) => Refusal::ReadQuorum(*whys),
             Refusal::WriteQuorum(whys) => Refusal::WriteQuorum(*whys),

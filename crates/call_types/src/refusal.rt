@@ -103,6 +103,8 @@ pub enum Refusal {
     PartOrder,
     /// A part other than the last is smaller than 5,242,880 bytes.
     PartSmall,
+    /// The version has none of the entity tags of the call's `If-Match`.
+    PreconditionFailed,
     /// The range is not satisfiable in a body of this length.
     InvalidRange(u64),
     /// Too few drives gave a good copy of the register.

@@ -20,7 +20,7 @@ pub record Task : Type 0 where
 
 -- how many bytes of a version a call gives: GetObject alone gives its body
 abbrev pub given_of : Call → ℕ → ℕ
-given_of (Get at pick ask) count = count
+given_of (Get at pick ask matches) count = count
 given_of other count = 0
 
 -- how many bytes of a body follow the head of a reply

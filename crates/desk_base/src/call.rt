@@ -38,16 +38,18 @@ pub enum Call {
         md5: Option<[u8; 16]>,
         length: u64,
     },
-    /// GetObject.
+    /// GetObject, with the value of its `If-Match`.
     Get {
         at: Key,
         pick: Pick,
         ask: RangeAsk,
+        matches: Option<Text>,
     },
-    /// HeadObject.
+    /// HeadObject, with the value of its `If-Match`.
     Head {
         at: Key,
         pick: Pick,
+        matches: Option<Text>,
     },
     /// DeleteObject.
     Delete {

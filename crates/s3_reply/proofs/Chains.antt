@@ -5,7 +5,7 @@ use Rattle.std.proofs.lemmas.Bool.Decides.{nat_tests}
 use Rattle.std.specs.List.{flat_map}
 use Rattle.s3_reply.specs.Documents.{name_space, root_open}
 use Rattle.s3_reply.specs.Escaping.{escaped}
-use Rattle.s3_reply.specs.Words.{part_count}
+use Rattle.header_values.specs.EntityTags.{part_count}
 use Rattle.s3_reply.specs.Xml.{Content, printed, joined, attribute_text, open_tag, close_tag, declaration}
 use Rattle.s3_reply.proofs.EscapedLemmas.{escaped-append}
 

@@ -1,5 +1,5 @@
 -- Texts of bytes that stand for themselves.
-use Rattle.std.proofs.Common.{◌≡◌, ℕ, zero, suc, ◌+◌, ◌*◌, ◌/◌, ◌%◌, ◌<◌, ◌≤◌, Bool, true, false, ◌&&◌, List, [], ◌∷◌, ◌++◌, get_or, codes, decimal, refl, sym, ap, ◌∙◌, arith, inl, inr}
+use Rattle.std.proofs.Common.{◌≡◌, ℕ, zero, suc, ◌+◌, ◌/◌, ◌%◌, ◌<◌, ◌≤◌, Bool, true, false, ◌&&◌, List, [], ◌∷◌, ◌++◌, get_or, codes, decimal, refl, ap, ◌∙◌, arith, inl, inr}
 use Rattle.std.proofs.lemmas.Bool.Decides.{nat_tests, eqb_tells}
 use Rattle.std.proofs.lemmas.List.Folds.{list_all-append}
 use Rattle.std.specs.Fmt.{digits, digits_onto, digit_glyph}
@@ -9,7 +9,7 @@ use Rattle.httpdate.specs.Calendar.{days_in_month}
 use Rattle.httpdate.specs.Text.{two_digits, four_digits, time_of_day}
 use Rattle.httpdate.specs.declared.date.HttpDate.{HttpDate}
 use Rattle.s3_reply.specs.Dates.{timestamp_of}
-use Rattle.s3_reply.specs.Words.{part_count}
+use Rattle.header_values.specs.EntityTags.{part_count}
 use Rattle.s3_reply.specs.Escaping.{escaped, is_plain}
 use Rattle.s3_reply.proofs.EscapedLemmas.{escaped-append, escaped_one, escaped_nil, plain_byte}
 

@@ -1,12 +1,13 @@
 -- The text of a row of a page, with the digits as they are.
-use Rattle.std.proofs.Common.{◌≡◌, ℕ, true, List, [], ◌∷◌, ◌++◌, codes, decimal, refl, sym, ap, ◌∙◌, append_assoc}
-use Rattle.std.specs.List.{list_all, flat_map}
+use Rattle.std.proofs.Common.{◌≡◌, ℕ, true, List, [], ◌++◌, codes, decimal, refl, ap, ◌∙◌, append_assoc}
+use Rattle.std.specs.List.{list_all}
 use Rattle.hex.specs.Hex.{encode_lower}
 use Rattle.call_types.specs.declared.names.Etag.{Etag}
 use Rattle.s3_reply.specs.Dates.{timestamp}
 use Rattle.s3_reply.specs.Documents.{object_facts}
 use Rattle.s3_reply.specs.Escaping.{escaped, is_plain}
-use Rattle.s3_reply.specs.Words.{part_count, tag_text, quoted_tag}
+use Rattle.header_values.specs.EntityTags.{part_count, tag_text}
+use Rattle.s3_reply.specs.Words.{quoted_tag}
 use Rattle.s3_reply.specs.Xml.{printed, joined, leaf, open_tag, close_tag}
 use Rattle.s3_reply.proofs.EscapedLemmas.{escaped-append}
 use Rattle.s3_reply.proofs.PlainLemmas.{escaped_plain, both_plain, decimal_plain, count_plain}

@@ -5,7 +5,7 @@ use Rattle.call_types.specs.Letters.{letters_of}
 use Rattle.call_types.specs.declared.names.RangeAsk.{RangeAsk}
 use Rattle.call_types.specs.declared.names.RangeAsk.TheVariants.{Whole, FromTo, From, Last}
 use Rattle.call_types.specs.declared.refusal.Refusal.{Refusal}
-use Rattle.call_types.specs.declared.refusal.Refusal.TheVariants.{BadHead, HeadTooLong, NoLength, ChunkedBody, InvalidURI, NotImplemented, InvalidBucketName, KeyTooLong, InvalidArgument, InvalidDigest, EntityTooLarge, MalformedXML, NoSuchBucket, BucketThere, BadDigest, NoSuchKey, NoSuchVersion, MarkerNamed, VersionLimit, UploadLimit, NoSuchUpload, InvalidPart, PartOrder, PartSmall, InvalidRange, ReadQuorum, WriteQuorum, Undecided, ShardQuorum, SeqSpent, NotInFlight, AuditFailed}
+use Rattle.call_types.specs.declared.refusal.Refusal.TheVariants.{BadHead, HeadTooLong, NoLength, ChunkedBody, InvalidURI, NotImplemented, InvalidBucketName, KeyTooLong, InvalidArgument, InvalidDigest, EntityTooLarge, MalformedXML, NoSuchBucket, BucketThere, BadDigest, NoSuchKey, NoSuchVersion, MarkerNamed, VersionLimit, UploadLimit, NoSuchUpload, InvalidPart, PartOrder, PartSmall, PreconditionFailed, InvalidRange, ReadQuorum, WriteQuorum, Undecided, ShardQuorum, SeqSpent, NotInFlight, AuditFailed}
 use Rattle.call_types.specs.declared.reply.Reply.{Reply}
 use Rattle.call_types.specs.declared.reply.Reply.TheVariants.{Plain, Found, Deleted, Refused}
 use Rattle.call_types.specs.declared.version.What.{What}
@@ -54,6 +54,7 @@ words_of NoSuchUpload = words 404 (codes "NoSuchUpload") (codes "The specified u
 words_of InvalidPart = words 400 (codes "InvalidPart") (codes "A listed part was not found.")
 words_of PartOrder = words 400 (codes "InvalidPartOrder") (codes "The parts are not in rising order.")
 words_of PartSmall = words 400 (codes "EntityTooSmall") (codes "A part is smaller than 5242880 bytes.")
+words_of PreconditionFailed = words 412 (codes "PreconditionFailed") (codes "The precondition doesn't hold.")
 words_of (InvalidRange size) = words 416 (codes "InvalidRange") (codes "The range is not satisfiable.")
 words_of (ReadQuorum whys) = slow_down (codes "Read quorum: " ++ letters_of whys)
 words_of (WriteQuorum whys) = slow_down (codes "Write quorum: " ++ letters_of whys)
@@ -78,7 +79,7 @@ is_part n (Last count) = nat_lt 0 n
 
 -- the same of a call: GetObject alone asks for a range
 abbrev pub gives_part : Option Call → ℕ → Bool
-gives_part (Some (Get at pick ask)) n = is_part n ask
+gives_part (Some (Get at pick ask matches)) n = is_part n ask
 gives_part other n = false
 
 -- DeleteObject and AbortMultipartUpload have nothing to tell

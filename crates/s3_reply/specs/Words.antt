@@ -1,18 +1,10 @@
 -- Texts of tags, ids and names that headers and documents share.
-use Rattle.std.specs.Prelude.{ℕ, Bool, List, [], ◌++◌, codes, decimal, ◌==◌, if◌then◌else◌}
-use Rattle.hex.specs.Hex.{encode_lower}
+use Rattle.std.specs.Prelude.{ℕ, Bool, List, ◌++◌, codes, if◌then◌else◌}
+use Rattle.header_values.specs.EntityTags.{tag_text}
 use Rattle.stamp_id.specs.VersionId.{id_text}
 use Rattle.call_types.specs.declared.names.Etag.{Etag}
 use Rattle.call_types.specs.declared.names.VersionName.{VersionName}
 use Rattle.call_types.specs.declared.names.VersionName.TheVariants.{Null, Id}
-
--- a hyphen and the number of parts, where there are parts
-abbrev pub part_count : ℕ → List ℕ
-part_count parts = if parts == 0 then [] else codes "-" ++ decimal parts
-
--- the MD5 in hex, and the number of parts
-abbrev pub tag_text : List ℕ → ℕ → List ℕ
-tag_text md5 parts = encode_lower md5 ++ part_count parts
 
 -- an entity tag, in its double quotes (RFC 9110, section 8.8.3)
 abbrev pub quoted_tag : Etag → List ℕ

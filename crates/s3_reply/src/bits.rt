@@ -4,7 +4,7 @@ ghost use Rattle.std.specs.Prelude.{◌≡◌, ◌++◌, true, decimal, OnOk};
 ghost use Rattle.std.specs.List.{list_all};
 ghost use Rattle.hex.specs.Hex.{encode_lower};
 ghost use Rattle.s3_reply.specs.Escaping.{is_plain};
-ghost use Rattle.s3_reply.specs.Words.{part_count};
+ghost use Rattle.header_values.specs.EntityTags.{part_count};
 ghost use Rattle.stamp_id.specs.VersionId.{id_text};
 
 use fault_base::NoMemory;

@@ -7,7 +7,7 @@
 //! element or begins another. [`refusal_status`], [`code`] and [`push_message`] are the words of a refusal alone, for who is told of it elsewhere.
 //!
 //! The crate stands on `call_types` and `desk_base` for replies and calls, `http_wire` for heads, `span_plan` for ranges, `stamp_id` for ids,
-//! `seal_file` for texts, and on the kit's `http` for phrases and `httpdate` for dates.
+//! `seal_file` for texts, `header_values` for the text of a tag, and on the kit's `http` for phrases and `httpdate` for dates.
 #![tactic(auto)]
 
 mod bits;

@@ -87,6 +87,7 @@ pub fn refusal_status(why: &Refusal) -> StatusCode
         | Refusal::NoSuchUpload => StatusCode::NOT_FOUND,
         Refusal::MarkerNamed { .. } => StatusCode::METHOD_NOT_ALLOWED,
         Refusal::BucketThere => StatusCode::CONFLICT,
+        Refusal::PreconditionFailed => StatusCode::PRECONDITION_FAILED,
         Refusal::InvalidRange(_) => StatusCode::RANGE_NOT_SATISFIABLE,
         Refusal::ReadQuorum(_)
         | Refusal::WriteQuorum(_)

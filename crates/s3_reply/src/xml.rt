@@ -5,7 +5,8 @@ ghost use Rattle.hex.specs.Hex.{encode_lower};
 ghost use Rattle.s3_reply.specs.Dates.{timestamp};
 ghost use Rattle.s3_reply.specs.Documents.{listed_name};
 ghost use Rattle.s3_reply.specs.Escaping.{escaped};
-ghost use Rattle.s3_reply.specs.Words.{part_count, quoted_tag, name_text, truth_text};
+ghost use Rattle.header_values.specs.EntityTags.{part_count};
+ghost use Rattle.s3_reply.specs.Words.{quoted_tag, name_text, truth_text};
 ghost use Rattle.s3_reply.specs.Xml.{printed, leaf, open_tag, close_tag};
 
 use crate::bits::{hyphenated, push_bytes, tag_digits};

@@ -1,16 +1,14 @@
 -- A call that takes a body states the length that the head says.
-use Rattle.std.proofs.Common.{◌≡◌, ℕ, zero, suc, ◌<◌, ◌^◌, Bool, true, false, List, [], ◌∷◌, map, length, refl, sym, ap, subst, ◌∙◌, arith}
+use Rattle.std.proofs.Common.{◌≡◌, ℕ, suc, ◌<◌, ◌^◌, Bool, true, false, List, [], ◌∷◌, length, refl, subst, ◌∙◌, arith}
 use Rattle.std.specs.Prelude.{◌&&◌, nat_le, nat_lt, cond, codes, Option, Some, None, Result, Ok, Err, IfOk}
-use Rattle.std.specs.Char.{to_ascii_lowercase}
 use Rattle.std.specs.Map.{lookup}
-use Rattle.std.specs.Str.{bytes_eq, all_ascii_digits}
+use Rattle.std.specs.Str.{all_ascii_digits}
 use Rattle.std.specs.Str.Parse.{digits_value}
 use Rattle.std.proofs.lemmas.Slice.Eq.{bytes_eq-Decides}
 use Rattle.http_wire.specs.Framing.{ReadsLength, SaysLength, content_length}
 use Rattle.http_wire.specs.Names.{Lines, line, has_name, IsNamed, value_of}
 use Rattle.http_wire.specs.Parts.{HeadParts}
 use Rattle.call_types.specs.declared.names.Key.{Key}
-use Rattle.call_types.specs.declared.refusal.Refusal.{Refusal}
 use Rattle.call_types.specs.declared.refusal.Refusal.TheVariants.{EntityTooLarge, InvalidArgument, KeyTooLong}
 use Rattle.desk_base.specs.Calls.{most_document}
 use Rattle.desk_base.specs.declared.call.Call.{Call}
@@ -18,7 +16,7 @@ use Rattle.s3_request.specs.Arguments.{number_of, part_number_in, stated_by, wit
 use Rattle.s3_request.specs.Bodies.{StatesLength}
 use Rattle.s3_request.specs.Pages.{list_ask, versions_ask}
 use Rattle.s3_request.specs.Query.{pairs_of}
-use Rattle.s3_request.specs.Reads.{Asked, argument, asked_kind, asked_length, asked_md5, asked_of, bucket_call, call_at, call_of, in_bucket, in_key, key_call, named, part_call, put_call, service_call, with_pick}
+use Rattle.s3_request.specs.Reads.{Asked, argument, asked_kind, asked_length, asked_md5, asked_of, bucket_call, call_at, call_of, key_call, named, part_call, put_call, service_call, with_pick}
 use Rattle.s3_request.specs.Refusing.{or_refusal, unless, Gives}
 use Rattle.s3_request.specs.Target.{place_of, query_of}
 use Rattle.s3_request.specs.declared.fault.CallFault.{CallFault}

@@ -24,10 +24,10 @@ pub passes : {A B : Type 0} (answer : Result A Refusal) (next : A → Result B R
 passes answer next (Refused why) gives = ap (λ a. and_then a next) gives
 passes answer next NoMemory gives = tt
 
-pub unserved : (asked : Asked) (place : Place) → is_unserved asked ≡ true → answer asked place ≡ Err NotImplemented
+pub unserved : (asked : Asked) (place : Place) → is_unserved asked place ≡ true → answer asked place ≡ Err NotImplemented
 unserved asked place is = ap (λ b. and_then (unless (not b) NotImplemented) (λ _. call_at asked place)) is
 
-pub served : (asked : Asked) (place : Place) (a : Result Call Refusal) → is_unserved asked ≡ false → call_at asked place ≡ a
+pub served : (asked : Asked) (place : Place) (a : Result Call Refusal) → is_unserved asked place ≡ false → call_at asked place ≡ a
     → answer asked place ≡ a
 served asked place a is at = ap (λ b. and_then (unless (not b) NotImplemented) (λ _. call_at asked place)) is ∙ at
 
@@ -37,13 +37,13 @@ placed_call head limit place is =
     ap (λ r. and_then r (λ place. answer (asked_of head (pairs_of (query_of head.target)) limit) place)) is
 
 pub read_at : (head : HeadParts) (pairs : Pairs) (limit : ℕ) (place : Place) (a : Result Call Refusal) → place_of head.target ≡ Ok place
-    → pairs ≡ pairs_of (query_of head.target) → is_unserved (asked_of head pairs limit) ≡ false → call_at (asked_of head pairs limit) place ≡ a
+    → pairs ≡ pairs_of (query_of head.target) → is_unserved (asked_of head pairs limit) place ≡ false → call_at (asked_of head pairs limit) place ≡ a
     → call_of head limit ≡ a
 read_at head pairs limit place a placed paired is at =
     placed_call head limit place placed ∙ (ap (λ p. answer (asked_of head p limit) place) (sym paired) ∙ served (asked_of head pairs limit) place a is at)
 
 pub read_unserved : (head : HeadParts) (pairs : Pairs) (limit : ℕ) (place : Place) → place_of head.target ≡ Ok place → pairs ≡ pairs_of (query_of head.target)
-    → is_unserved (asked_of head pairs limit) ≡ true → call_of head limit ≡ Err NotImplemented
+    → is_unserved (asked_of head pairs limit) place ≡ true → call_of head limit ≡ Err NotImplemented
 read_unserved head pairs limit place placed paired is =
     placed_call head limit place placed ∙ (ap (λ p. answer (asked_of head p limit) place) (sym paired) ∙ unserved (asked_of head pairs limit) place is)
 

@@ -58,6 +58,10 @@ asked_md5 asked = md5_of (header asked (codes "content-md5"))
 abbrev pub asked_length : Asked → ℕ → Result ℕ Refusal
 asked_length asked limit = length_of limit (header asked (codes "content-length"))
 
+-- the value of the If-Match, where there is one
+abbrev pub asked_match : Asked → Option (List ℕ)
+asked_match asked = header asked (codes "if-match")
+
 -- Whether a method may change what is stored.
 abbrev pub is_changing : Method → Bool
 is_changing method.Get = false
@@ -67,10 +71,18 @@ is_changing method.Post = true
 is_changing method.Delete = true
 is_changing method.Other = false
 
--- Whether a call is to be done under a condition alone (RFC 9110, section 13.1), which no call compares: it has an If-Match or an If-Unmodified-Since, or,
--- where it may change something, an If-None-Match. If-None-Match and If-Modified-Since only spare a reader a body that it has, and may be passed over.
-abbrev pub is_conditional : Asked → Bool
-is_conditional asked = is_some (header asked (codes "if-match")) || is_some (header asked (codes "if-unmodified-since"))
+-- Whether a call compares the If-Match of its head: a GetObject or a HeadObject does, and no other call.
+abbrev pub compares_tag : Method → Place → Bool
+compares_tag method.Get (Object at) = true
+compares_tag method.Head (Object at) = true
+compares_tag _ _ = false
+
+-- Whether a call is to be done under a condition that it doesn't compare (RFC 9110, section 13.1): it has an If-Match and isn't a read of a key, or an
+-- If-Unmodified-Since, or, where it may change something, an If-None-Match. If-None-Match and If-Modified-Since only spare a reader a body that it has, and
+-- may be passed over.
+abbrev pub is_conditional : Asked → Place → Bool
+is_conditional asked place =
+    (not (compares_tag asked.method place) && is_some (asked_match asked)) || is_some (header asked (codes "if-unmodified-since"))
     || (is_changing asked.method && is_some (header asked (codes "if-none-match")))
 
 -- The headers that ask for a promise or a condition which no call keeps (S3 API): an append, a deletion under a condition, an owner, a lock, encryption.
@@ -87,11 +99,11 @@ unkept_names =
 unfoldable pub asks_unkept : Asked → Bool
 asks_unkept asked = list_any (λ name. is_some (header asked name)) unkept_names
 
--- Whether a call isn't served, whatever its path: a name of its query says so, it has the header of CopyObject, it is conditional, or it asks for what no
--- call keeps.
-abbrev pub is_unserved : Asked → Bool
-is_unserved asked =
-    asks_unserved asked.pairs || is_some (header asked (codes "x-amz-copy-source")) || is_conditional asked || asks_unkept asked
+-- Whether a call isn't served, whichever row of the table it has: a name of its query says so, it has the header of CopyObject, it has a condition that it
+-- doesn't compare, or it asks for what no call keeps.
+abbrev pub is_unserved : Asked → Place → Bool
+is_unserved asked place =
+    asks_unserved asked.pairs || is_some (header asked (codes "x-amz-copy-source")) || is_conditional asked place || asks_unkept asked
 
 -- a call of the service: ListBuckets
 abbrev pub service_call : Method → Result Call Refusal
@@ -127,13 +139,15 @@ part_call asked at =
 abbrev pub with_pick : Pairs → Result Pick Refusal
 with_pick pairs = or_refusal (InvalidArgument (codes "versionId")) (pick_of (value_of pairs (codes "versionId")))
 
--- a GetObject: the version, and the range of it
+-- a GetObject: the version, the range of it, and the If-Match
 abbrev pub get_call : Asked → Key → Result Call Refusal
-get_call asked at = and_then (with_pick asked.pairs) (λ pick. Ok (call.Get at pick (range_of (header asked (codes "if-range")) (header asked (codes "range")))))
+get_call asked at =
+    and_then (with_pick asked.pairs) (λ pick.
+    Ok (call.Get at pick (range_of (header asked (codes "if-range")) (header asked (codes "range"))) (asked_match asked)))
 
--- a HeadObject: the version
-abbrev pub head_call : Pairs → Key → Result Call Refusal
-head_call pairs at = and_then (with_pick pairs) (λ pick. Ok (call.Head at pick))
+-- a HeadObject: the version, and the If-Match
+abbrev pub head_call : Asked → Key → Result Call Refusal
+head_call asked at = and_then (with_pick asked.pairs) (λ pick. Ok (call.Head at pick (asked_match asked)))
 
 -- a DeleteObject: the version
 abbrev pub delete_call : Pairs → Key → Result Call Refusal
@@ -168,7 +182,7 @@ key_call asked at key.Create = create_call asked at
 key_call asked at key.Complete = complete_call asked at
 key_call asked at key.Abort = abort_call asked.pairs at
 key_call asked at key.Get = get_call asked at
-key_call asked at key.Head = head_call asked.pairs at
+key_call asked at key.Head = head_call asked at
 key_call asked at key.Delete = delete_call asked.pairs at
 
 -- whether a bucket has its name
@@ -194,7 +208,7 @@ call_at asked (Object at) = in_key asked at
 
 -- a call of a place, where it is served
 abbrev pub answer : Asked → Place → Result Call Refusal
-answer asked place = and_then (unless (not (is_unserved asked)) NotImplemented) (λ _. call_at asked place)
+answer asked place = and_then (unless (not (is_unserved asked place)) NotImplemented) (λ _. call_at asked place)
 
 -- The call of a head, under a limit for the bodies of PutObject and UploadPart: the target names a place, and the call is served.
 abbrev pub call_of : HeadParts → ℕ → Result Call Refusal

@@ -1,6 +1,6 @@
 //! What the values of headers and arguments say.
 
-ghost use Rattle.std.specs.Prelude.{◌≡◌, ◌≢◌, ◌↔◌, length, codes, IsTrue, true, MatchOption, Some};
+ghost use Rattle.std.specs.Prelude.{◌≡◌, ◌≢◌, ◌↔◌, length, codes, IfOk, IsTrue, true, MatchOption, Some};
 ghost use Rattle.std.specs.Int.{IsInRange};
 ghost use Rattle.std.specs.Str.{all_ascii_digits};
 ghost use Rattle.http_wire.specs.Names.{value_of};
@@ -15,6 +15,7 @@ use base64::DecodeAllocError;
 use base64::engine::general_purpose::STANDARD;
 use bucket_book::check_name;
 use call_types::{Pick, Refusal, VersionName};
+use fault_base::NoMemory;
 use http_wire::Head;
 use seal_file::Text;
 use stamp_id::VersionId;
@@ -138,6 +139,16 @@ pub fn md5_of(alloc: Global, head: &Head) -> Result<Option<[u8; 16]>, CallFault>
 {
     match head.value_of(b"content-md5") {
         Some(value) => Ok(Some(stated_digest(alloc, value)?)),
+        None => Ok(None),
+    }
+}
+
+/// The value of the `If-Match`, where there is one. The only error is want of memory.
+pub fn match_of(alloc: Global, head: &Head) -> Result<Option<Text>, NoMemory>
+    ensures { IfOk result (λ matches. matches ≡ value_of head.now.lines (codes "if-match")) }
+{
+    match head.value_of(b"if-match") {
+        Some(value) => Ok(Some(Text::from_slice(alloc, value)?)),
         None => Ok(None),
     }
 }

@@ -5,12 +5,12 @@ ghost use Rattle.desk_base.specs.Calls.{IsLawful, most_body};
 ghost use Rattle.http_wire.specs.Framing.{SaysLength};
 ghost use Rattle.http_wire.specs.Names.{value_of};
 ghost use Rattle.s3_request.specs.Bodies.{StatesLength};
-ghost use Rattle.s3_request.specs.Reads.{abort_call, asked_of, bucket_call, call_of, complete_call, create_call, delete_call, get_call, head_call, in_bucket, in_key, is_changing, is_conditional, is_unserved, part_call, put_call, service_call, versions_call, with_pick};
+ghost use Rattle.s3_request.specs.Reads.{abort_call, asked_of, bucket_call, call_of, compares_tag, complete_call, create_call, delete_call, get_call, head_call, in_bucket, in_key, is_changing, is_conditional, is_unserved, part_call, put_call, service_call, versions_call, with_pick};
 ghost use Rattle.s3_request.specs.Query.{Pairs};
 ghost use Rattle.s3_request.specs.Refusing.{Gives};
 
 use crate::arguments::{
-    is_bucket_name, kind_of, length_of, md5_of, part_number_in, pick_of, upload_of,
+    is_bucket_name, kind_of, length_of, match_of, md5_of, part_number_in, pick_of, upload_of,
 };
 use crate::fault::{CallFault, invalid_argument};
 use crate::pages::{list_ask, versions_ask};
@@ -34,7 +34,8 @@ const MOST_KEY: usize = 1_024;
 /// The call that a head states, or the first refusal, in this order: InvalidURI, NotImplemented, InvalidBucketName, KeyTooLong, InvalidArgument (of the
 /// argument that stands first in the query, the Content-Type after them all), InvalidDigest, NoLength and EntityTooLarge. `limit` is the most bytes that a
 /// body of PutObject or UploadPart has; a document that is read has at most 2,097,152. A call that takes a body
-/// states the length that the head says. Want of memory may come at any time.
+/// states the length that the head says. A GetObject and a HeadObject keep the value of their `If-Match`, and any other call that has one is not
+/// implemented. Want of memory may come at any time.
 pub fn read_call(alloc: Global, head: &Head, limit: u64) -> Result<Call, CallFault>
     ensures reads { Gives (call_of head.now limit) result }
     ensures lawful { limit ≤ most_body → IfOk result IsLawful }
@@ -42,7 +43,7 @@ pub fn read_call(alloc: Global, head: &Head, limit: u64) -> Result<Call, CallFau
 {
     let place = place_of(alloc, head.target())?;
     let query = Query::read(alloc, query_of(head.target()))?;
-    if is_unserved(head, &query) {
+    if is_unserved(head, &query, &place) {
         return Err(CallFault::Refused(Refusal::NotImplemented));
     }
     match place {
@@ -52,14 +53,14 @@ pub fn read_call(alloc: Global, head: &Head, limit: u64) -> Result<Call, CallFau
     }
 }
 
-/// Whether a call isn't served, whatever its path.
-fn is_unserved(head: &Head, query: &Query) -> bool
-    ensures { (limit : ℕ) → result ≡ is_unserved (asked_of head.now query.now limit) }
+/// Whether a call isn't served, whichever row of the table it has.
+fn is_unserved(head: &Head, query: &Query, place: &Place) -> bool
+    ensures { (limit : ℕ) → result ≡ is_unserved (asked_of head.now query.now limit) place.now }
 {
     if query.asks_unserved() {
         return true;
     }
-    is_copy(head) || is_conditional(head) || asks_unkept(head)
+    is_copy(head) || is_conditional(head, place) || asks_unkept(head)
 }
 
 /// Whether a head has the header of CopyObject.
@@ -69,13 +70,24 @@ fn is_copy(head: &Head) -> bool
     head.value_of(b"x-amz-copy-source").is_some()
 }
 
-/// Whether a call is to be done under a condition alone (RFC 9110, section 13.1). No such call is served.
-fn is_conditional(head: &Head) -> bool
-    ensures { (pairs : Pairs) (limit : ℕ) → result ≡ is_conditional (asked_of head.now pairs limit) }
+/// Whether a call is to be done under a condition that it doesn't compare (RFC 9110, section 13.1). No such call is served.
+fn is_conditional(head: &Head, place: &Place) -> bool
+    ensures { (pairs : Pairs) (limit : ℕ) → result ≡ is_conditional (asked_of head.now pairs limit) place.now }
 {
-    head.value_of(b"if-match").is_some()
+    let method = method_of(head.method());
+    (!compares_tag(method, place) && head.value_of(b"if-match").is_some())
         || head.value_of(b"if-unmodified-since").is_some()
-        || (is_changing(method_of(head.method())) && head.value_of(b"if-none-match").is_some())
+        || (is_changing(method) && head.value_of(b"if-none-match").is_some())
+}
+
+/// Whether a call compares the `If-Match` of its head, as a GetObject and a HeadObject do.
+fn compares_tag(method: Method, place: &Place) -> bool
+    ensures { result ≡ compares_tag method place.now }
+{
+    match place {
+        Place::Object(_) => matches!(method, Method::Get | Method::Head),
+        Place::Service | Place::Bucket(_) => false,
+    }
 }
 
 /// Whether a method may change what is stored.
@@ -161,7 +173,7 @@ fn in_key(alloc: Global, head: &Head, query: &Query, limit: u64, at: Key) -> Res
         KeyRow::Put => put_call(alloc, head, limit, at),
         KeyRow::Part => part_call(alloc, head, query, limit, at),
         KeyRow::Get => get_call(alloc, head, query, at),
-        KeyRow::Head => head_call(alloc, query, at),
+        KeyRow::Head => head_call(alloc, head, query, at),
         KeyRow::Delete => delete_call(alloc, query, at),
         KeyRow::Create => create_call(alloc, head, at),
         KeyRow::Complete => complete_call(head, query, at),
@@ -174,21 +186,28 @@ fn get_call(alloc: Global, head: &Head, query: &Query, at: Key) -> Result<Call, 
     ensures { (limit : ℕ) → Gives (get_call (asked_of head.now query.now limit) at) result }
 {
     match named_pick(alloc, query) {
-        Ok(pick) => Ok(Call::Get {
-            at,
-            pick,
-            ask: range_of(head),
-        }),
+        Ok(pick) => {
+            let matches = match_of(alloc, head)?;
+            Ok(Call::Get {
+                at,
+                pick,
+                ask: range_of(head),
+                matches,
+            })
+        }
         Err(fault) => Err(fault),
     }
 }
 
 /// A HeadObject.
-fn head_call(alloc: Global, query: &Query, at: Key) -> Result<Call, CallFault>
-    ensures { Gives (head_call query.now at) result }
+fn head_call(alloc: Global, head: &Head, query: &Query, at: Key) -> Result<Call, CallFault>
+    ensures { (limit : ℕ) → Gives (head_call (asked_of head.now query.now limit) at) result }
 {
     match named_pick(alloc, query) {
-        Ok(pick) => Ok(Call::Head { at, pick }),
+        Ok(pick) => {
+            let matches = match_of(alloc, head)?;
+            Ok(Call::Head { at, pick, matches })
+        }
         Err(fault) => Err(fault),
     }
 }

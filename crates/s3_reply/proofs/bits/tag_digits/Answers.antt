@@ -1,4 +1,4 @@
-use Rattle.std.proofs.Common.{◌≡◌, ap, ◌∙◌, arith}
+use Rattle.std.proofs.Common.{ap, ◌∙◌, arith}
 use Rattle.std.specs.List.{list_all}
 use Rattle.s3_reply.specs.Escaping.{is_plain}
 use Rattle.s3_reply.proofs.PlainLemmas.{hex_plain}

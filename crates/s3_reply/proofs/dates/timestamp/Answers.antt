@@ -1,4 +1,4 @@
-use Rattle.std.proofs.Common.{◌≡◌, ap, ◌∙◌}
+use Rattle.std.proofs.Common.{ap, ◌∙◌}
 use Rattle.std.specs.List.{list_all}
 use Rattle.s3_reply.specs.Dates.{timestamp_of}
 use Rattle.s3_reply.specs.Escaping.{is_plain}

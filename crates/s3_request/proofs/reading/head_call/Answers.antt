@@ -1,13 +1,16 @@
-use Rattle.std.proofs.Common.{ap}
-use Rattle.std.specs.Prelude.{Ok}
+use Rattle.std.proofs.Common.{ap, sym, ◌∙◌}
+use Rattle.std.specs.Prelude.{Ok, codes}
+use Rattle.http_wire.specs.Names.{value_of}
 use Rattle.desk_base.specs.declared.call.Call.TheVariants as call
 use Rattle.s3_request.specs.Refusing.{and_then}
 use Rattle.s3_request.specs.Reads.{with_pick}
 use Rattle.s3_request.proofs.ReadingLemmas.{passes}
 use Rattle.s3_request.proofs.reading.head_call.Goals as goal
 
-pub returns-in-Ok : goal.returns-in-Ok
-returns-in-Ok c = ap (λ r. and_then r (λ pick. Ok (call.Head c.args.at pick))) c.in-Ok.ensures
+pub returns-in_ok-matches-in-Ok : goal.returns-in_ok-matches-in-Ok
+returns-in_ok-matches-in-Ok c = λ limit.
+    ap (λ r. and_then r (λ pick. Ok (call.Head c.args.at pick (value_of c.args.head.now.lines (codes "if-match"))))) c.in-Ok.ensures
+    ∙ ap (λ m. Ok (call.Head c.args.at c.in-Ok.pick m)) (sym c.in_ok-matches-in-Ok.ensures)
 
 pub returns-in-Err : goal.returns-in-Err
-returns-in-Err c = passes (with_pick c.args.query.now) _ c.in-Err.fault c.in-Err.ensures
+returns-in-Err c = λ limit. passes (with_pick c.args.query.now) _ c.in-Err.fault c.in-Err.ensures

@@ -3,7 +3,7 @@ use Rattle.std.specs.Prelude.{nat_le, length}
 use Rattle.s3_request.specs.Names.{is_bucket_name}
 use Rattle.s3_request.specs.Routes.{method_of, key_row}
 use Rattle.s3_request.specs.Refusing.{Gives}
-use Rattle.s3_request.specs.Reads.{asked_of, in_key, key_call}
+use Rattle.s3_request.specs.Reads.{asked_of, key_call}
 use Rattle.s3_request.proofs.ReadingLemmas.{key_named}
 use Rattle.std.proofs.lemmas.Bool.{le-leb}
 use Rattle.s3_request.proofs.reading.in_key.Goals as goal
@@ -46,7 +46,7 @@ returns-in-Head c =
     let test = ap is_bucket_name (sym c.as_slice.ensures) ∙ (sym c.is_bucket_name.ensures ∙ c.if-not-is_bucket_name.false) in
     let short : nat_le (length c.args.at.key) 1024 ≡ true = le-leb (length c.args.at.key) 1024 (omega arith) in
     subst (λ a. Gives a c.head_call.result) (sym (key_named asked c.args.at c.in-Some.row true true row test short ∙ ap (key_call asked c.args.at) c.in-Head.is))
-    (c.head_call.ensures)
+    (c.head_call.ensures c.args.limit)
 
 pub returns-in-Delete : goal.returns-in-Delete
 returns-in-Delete c =

@@ -22,21 +22,21 @@ other_decides false c joined one is = is
 pub returns-then-is_conditional : goal.returns-then-is_conditional
 returns-then-is_conditional c = λ limit.
     let asked = asked_of c.args.head.now c.args.query.now limit in
-    let joined : c.if-is_copy.value ≡ (c.is_copy.result || is_conditional asked) = elim c.if-is_copy.branch [
+    let joined : c.if-is_copy.value ≡ (c.is_copy.result || is_conditional asked c.args.place.now) = elim c.if-is_copy.branch [
       | then-is_copy w ↦ one_decides _ _ _ w.if-is_copy.true (w.value-is ∙ w.if-is_copy.true)
       | else-is_copy w ↦ other_decides _ _ _ w.if-is_copy.false (w.value-is ∙ w.is_conditional.ensures c.args.query.now limit)
     ] in
     joined_decide _ _ _ (asks_unkept asked) _ _ (sym c.asks_unserved.ensures ∙ c.if-asks_unserved.false)
-    (joined ∙ ap (λ b. b || is_conditional asked) c.is_copy.ensures)
+    (joined ∙ ap (λ b. b || is_conditional asked c.args.place.now) c.is_copy.ensures)
     (c.if-is_conditional.true ∙ sym (ap (λ b. b || asks_unkept asked) c.if-is_conditional.true))
 
 pub returns-else-is_conditional : goal.returns-else-is_conditional
 returns-else-is_conditional c = λ limit.
     let asked = asked_of c.args.head.now c.args.query.now limit in
-    let joined : c.if-is_copy.value ≡ (c.is_copy.result || is_conditional asked) = elim c.if-is_copy.branch [
+    let joined : c.if-is_copy.value ≡ (c.is_copy.result || is_conditional asked c.args.place.now) = elim c.if-is_copy.branch [
       | then-is_copy w ↦ one_decides _ _ _ w.if-is_copy.true (w.value-is ∙ w.if-is_copy.true)
       | else-is_copy w ↦ other_decides _ _ _ w.if-is_copy.false (w.value-is ∙ w.is_conditional.ensures c.args.query.now limit)
     ] in
     joined_decide _ _ _ (asks_unkept asked) _ _ (sym c.asks_unserved.ensures ∙ c.if-asks_unserved.false)
-    (joined ∙ ap (λ b. b || is_conditional asked) c.is_copy.ensures)
+    (joined ∙ ap (λ b. b || is_conditional asked c.args.place.now) c.is_copy.ensures)
     (c.asks_unkept.ensures c.args.query.now limit ∙ sym (ap (λ b. b || asks_unkept asked) c.if-is_conditional.false))
