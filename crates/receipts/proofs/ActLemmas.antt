@@ -26,11 +26,13 @@ use Rattle.receipts.specs.Committing.{EndsAtCommit}
 use Rattle.receipts.specs.Deleting.{Deletes}
 use Rattle.receipts.specs.Events.{Log, Note, Section, body_of, notes_of, sections_of}
 use Rattle.receipts.specs.Events.Event.{Told}
-use Rattle.receipts.specs.Laws.{IsDoneIn, IsLookedAtIn, NotesAreOwed, ReceiptShowsAct, ShowsAct}
+use Rattle.receipts.specs.Laws.{IsDoneIn, IsLookedAtIn, NotesAreOwed, ReceiptShowsAct, ShowsAct, ShowsPage}
+use Rattle.receipts.specs.Listing.{PageOwes, ViewsKey, key_in}
 use Rattle.receipts.specs.Looks.{EndsAtLook}
 use Rattle.receipts.specs.Owes.{OwesCall}
+use Rattle.receipts.specs.Pages.{Candidate, PageRule, keys_rule, versions_rule}
 use Rattle.receipts.specs.Putting.{PutsBody}
-use Rattle.receipts.specs.Reading.{EndsBeforeRead, ReadsKey, TellsRead}
+use Rattle.receipts.specs.Reading.{EndsBeforeRead, ReadsKey, TellsHead, TellsRead}
 use Rattle.receipts.specs.Registers.{bucket_register, bucket_slot, key_register, key_slot}
 use Rattle.receipts.proofs.JoinLemmas.{bodies_join, notes_join}
 
@@ -109,23 +111,43 @@ before_read at reply log (inl x) served = at_look at.bucket reply log x served
 before_read at reply log (inr (inl x)) served = unserved reply _ x.refuses.told served
 before_read at reply log (inr (inr x)) served = unserved reply _ x.barred.told served
 
-shows_get : (set : SetPlan) (at : Key) (pick : Pick) (ask : RangeAsk) (now : ℕ) (body : List ℕ) (whole reply : Reply) (log : Log)
-    → ReadsKey at pick whole log → TellsRead set ask whole reply log → IsServed reply → ShowsAct set (call_of.Get at pick ask) now body reply (notes_of log)
-shows_get set at pick ask now body (reply_of.Found version whole id) reply log reads (inl told) served = elim told.told [
+shows_get : (set : SetPlan) (at : Key) (pick : Pick) (ask : RangeAsk) (matches : Option (List ℕ)) (now : ℕ) (body : List ℕ) (whole reply : Reply) (log : Log)
+    → ReadsKey at pick whole log → TellsRead set ask matches whole reply log → IsServed reply
+    → ShowsAct set (call_of.Get at pick ask matches) now body reply (notes_of log)
+shows_get set at pick ask matches now body (reply_of.Found version whole id) reply log reads (inl fails) served = absurd (unserved reply _ fails.told served)
+shows_get set at pick ask matches now body (reply_of.Found version whole id) reply log reads (inr (met, inl told)) served = elim told.told [
   | inl is ↦ (version, told.span, whole, id, is, shows_read at pick (reply_of.Found version whole id) log reads)
   | inr lost ↦ absurd (unserved reply _ lost.2 served)
 ]
-shows_get set at pick ask now body (reply_of.Found version whole id) reply log reads (inr invalid) served = absurd (unserved reply _ invalid.told served)
-shows_get set at pick ask now body (reply_of.Refused why) reply log reads tells served = absurd (unserved reply why tells served)
-shows_get set at pick ask now body reply_of.Plain reply log reads tells served = absurd tells
-shows_get set at pick ask now body (reply_of.Buckets rows) reply log reads tells served = absurd tells
-shows_get set at pick ask now body (reply_of.Mode mode) reply log reads tells served = absurd tells
-shows_get set at pick ask now body (reply_of.Stored etag id) reply log reads tells served = absurd tells
-shows_get set at pick ask now body (reply_of.Deleted id marker) reply log reads tells served = absurd tells
-shows_get set at pick ask now body (reply_of.Page rows cut) reply log reads tells served = absurd tells
-shows_get set at pick ask now body (reply_of.Versions rows cut) reply log reads tells served = absurd tells
-shows_get set at pick ask now body (reply_of.Opened id) reply log reads tells served = absurd tells
-shows_get set at pick ask now body (reply_of.Completed etag id) reply log reads tells served = absurd tells
+shows_get set at pick ask matches now body (reply_of.Found version whole id) reply log reads (inr (met, inr invalid)) served =
+    absurd (unserved reply _ invalid.told served)
+shows_get set at pick ask matches now body (reply_of.Refused why) reply log reads tells served = absurd (unserved reply why tells served)
+shows_get set at pick ask matches now body reply_of.Plain reply log reads tells served = absurd tells
+shows_get set at pick ask matches now body (reply_of.Buckets rows) reply log reads tells served = absurd tells
+shows_get set at pick ask matches now body (reply_of.Mode mode) reply log reads tells served = absurd tells
+shows_get set at pick ask matches now body (reply_of.Stored etag id) reply log reads tells served = absurd tells
+shows_get set at pick ask matches now body (reply_of.Deleted id marker) reply log reads tells served = absurd tells
+shows_get set at pick ask matches now body (reply_of.Page rows cut) reply log reads tells served = absurd tells
+shows_get set at pick ask matches now body (reply_of.Versions rows cut) reply log reads tells served = absurd tells
+shows_get set at pick ask matches now body (reply_of.Opened id) reply log reads tells served = absurd tells
+shows_get set at pick ask matches now body (reply_of.Completed etag id) reply log reads tells served = absurd tells
+
+shows_head : (at : Key) (pick : Pick) (matches : Option (List ℕ)) (whole reply : Reply) (log : Log) → ReadsKey at pick whole log → TellsHead matches whole reply
+    → IsServed reply → IsDoneIn (key_slot at) (key_register at) (λ call. (mode : Mode) × (call ≡ brief.Read at mode pick)) reply (notes_of log)
+shows_head at pick matches (reply_of.Found version whole id) reply log reads (inl fails) served = absurd (unserved reply _ fails.told served)
+shows_head at pick matches (reply_of.Found version whole id) reply log reads (inr told) served =
+    subst (λ r. IsDoneIn (key_slot at) (key_register at) (λ call. (mode : Mode) × (call ≡ brief.Read at mode pick)) r (notes_of log)) (sym told.1)
+    (shows_read at pick (reply_of.Found version whole id) log reads)
+shows_head at pick matches (reply_of.Refused why) reply log reads tells served = absurd (unserved reply why tells served)
+shows_head at pick matches reply_of.Plain reply log reads tells served = absurd tells
+shows_head at pick matches (reply_of.Buckets rows) reply log reads tells served = absurd tells
+shows_head at pick matches (reply_of.Mode mode) reply log reads tells served = absurd tells
+shows_head at pick matches (reply_of.Stored etag id) reply log reads tells served = absurd tells
+shows_head at pick matches (reply_of.Deleted id marker) reply log reads tells served = absurd tells
+shows_head at pick matches (reply_of.Page rows cut) reply log reads tells served = absurd tells
+shows_head at pick matches (reply_of.Versions rows cut) reply log reads tells served = absurd tells
+shows_head at pick matches (reply_of.Opened id) reply log reads tells served = absurd tells
+shows_head at pick matches (reply_of.Completed etag id) reply log reads tells served = absurd tells
 
 -- the note of a section is among those of its log
 note_there : (sections : List Section) (x : Section) → Contains sections x → Contains (map (λ (section : Section). section.note) sections) x.note
@@ -133,6 +155,11 @@ note_there sections x h =
     let long = length-map sections (λ (section : Section). section.note) in
     let lt = h.1 in
     (h.0, omega (arith, long, lt), get_or-map (λ (section : Section). section.note) sections h.0 x x.note lt ∙ ap (λ (section : Section). section.note) h.2)
+
+later_there : (first : Section) (more : List Section) (x : Section) → Contains more x → Contains (first ∷ more) x
+later_there first more x h =
+    let lt = h.1 in
+    (suc h.0, omega (arith, lt), h.2)
 
 -- what a list of buckets shows of each row
 shows_row : (row : BucketRow) (log : Log) → (look : Section) × Contains (sections_of log) look × FindsRow row look
@@ -142,6 +169,25 @@ shows_row row log x = record {
   there = note_there (sections_of log) x.0 x.1;
   entry = x.2.looks.entry;
 }
+
+-- what a page shows of each key
+shows_key : (bucket : List ℕ) (candidate : Candidate) (log : Log) (look : Section) (rest : List Section) → sections_of log ≡ look ∷ rest
+    → (view : Section) × Contains rest view × ViewsKey bucket candidate view
+    → IsLookedAtIn (key_slot (key_in bucket candidate.key)) (key_register (key_in bucket candidate.key)) (notes_of log)
+shows_key bucket candidate log look rest is x = record {
+  note = x.0.note;
+  there = note_there (sections_of log) x.0 (subst (λ sections. Contains sections x.0) (sym is) (later_there look rest x.0 x.1));
+  entry = x.2.entry;
+}
+
+shows_page : (rule : PageRule) (bucket : List ℕ) (reply : Reply) (log : Log) → PageOwes rule bucket reply log → IsServed reply
+    → ShowsPage rule bucket reply (notes_of log)
+shows_page rule bucket reply log (inl x) served = absurd (at_look bucket reply log x served)
+shows_page rule bucket reply log (inr x) served = elim x.tells [
+  | inl listed ↦ (listed.looked, listed.told, λ k d l. shows_key bucket _ log x.look x.rest x.sections (listed.viewed k d l))
+  | inr (inl refused) ↦ absurd (unserved reply _ refused.refuses.told served)
+  | inr (inr barred) ↦ absurd (unserved reply _ barred.barred.told served)
+]
 
 -- what is owed before the reply is told shows the act
 shows : (set : SetPlan) (call : Call) (now : ℕ) (reply : Reply) (log : Log) → OwesCall set call now reply log → IsServed reply
@@ -174,21 +220,21 @@ shows set (call_of.Put at kinds stated long) now reply log x served = elim x.1 [
   | inr (inr (inr (inr (inl differs)))) ↦ absurd (unserved reply _ differs.told served)
   | inr (inr (inr (inr (inr few)))) ↦ absurd (unserved reply _ few.told served)
 ]
-shows set (call_of.Get at pick ask) now reply log x served = elim x.1 [
+shows set (call_of.Get at pick ask matches) now reply log x served = elim x.1 [
   | inl ended ↦ absurd (before_read at reply log ended served)
-  | inr told ↦ shows_get set at pick ask now (body_of log) told.whole reply log told.reads told.tells served
+  | inr told ↦ shows_get set at pick ask matches now (body_of log) told.whole reply log told.reads told.tells served
 ]
-shows set (call_of.Head at pick) now reply log x served = elim x.1 [
+shows set (call_of.Head at pick matches) now reply log x served = elim x.1 [
   | inl ended ↦ absurd (before_read at reply log ended served)
-  | inr reads ↦ shows_read at pick reply log reads
+  | inr told ↦ shows_head at pick matches told.whole reply log told.reads told.tells served
 ]
 shows set (call_of.Delete at pick) now reply log x served = elim x.1 [
   | inl ended ↦ absurd (at_look at.bucket reply log ended served)
   | inr (inl made) ↦ shows_delete set at pick now reply log made served
   | inr (inr barred) ↦ absurd (unserved reply _ barred.barred.told served)
 ]
-shows set (call_of.List2 bucket page) now reply log x served = absurd (unserved reply _ x.0 served)
-shows set (call_of.ListVersions bucket page) now reply log x served = absurd (unserved reply _ x.0 served)
+shows set (call_of.List2 bucket page) now reply log x served = shows_page (keys_rule page) bucket reply log x.1 served
+shows set (call_of.ListVersions bucket page) now reply log x served = shows_page (versions_rule page) bucket reply log x.1 served
 shows set (call_of.Create at kinds) now reply log x served = absurd (unserved reply _ x.0 served)
 shows set (call_of.Part at upload number stated long) now reply log x served = absurd (unserved reply _ x.0 served)
 shows set (call_of.Complete at upload long) now reply log x served = absurd (unserved reply _ x.0 served)
@@ -216,11 +262,11 @@ more_shows set (call_of.HeadBucket bucket) now body reply notes more x = more_lo
 more_shows set (call_of.GetVersioning bucket) now body reply notes more x = more_looked _ _ notes more x
 more_shows set (call_of.PutVersioning bucket long) now body reply notes more x = (x.0, more_done _ _ _ reply notes more x.1)
 more_shows set (call_of.Put at kinds stated long) now body reply notes more x = (x.0, x.1, x.2, more_done _ _ _ reply notes more x.3)
-more_shows set (call_of.Get at pick ask) now body reply notes more x = (x.0, x.1, x.2, x.3, x.4, more_done _ _ _ _ notes more x.5)
-more_shows set (call_of.Head at pick) now body reply notes more x = more_done _ _ _ reply notes more x
+more_shows set (call_of.Get at pick ask matches) now body reply notes more x = (x.0, x.1, x.2, x.3, x.4, more_done _ _ _ _ notes more x.5)
+more_shows set (call_of.Head at pick matches) now body reply notes more x = more_done _ _ _ reply notes more x
 more_shows set (call_of.Delete at pick) now body reply notes more x = more_done _ _ _ reply notes more x
-more_shows set (call_of.List2 bucket page) now body reply notes more x = x
-more_shows set (call_of.ListVersions bucket page) now body reply notes more x = x
+more_shows set (call_of.List2 bucket page) now body reply notes more x = (x.0, x.1, λ k d l. more_looked _ _ notes more (x.2 k d l))
+more_shows set (call_of.ListVersions bucket page) now body reply notes more x = (x.0, x.1, λ k d l. more_looked _ _ notes more (x.2 k d l))
 more_shows set (call_of.Create at kinds) now body reply notes more x = x
 more_shows set (call_of.Part at upload number stated long) now body reply notes more x = x
 more_shows set (call_of.Complete at upload long) now body reply notes more x = x

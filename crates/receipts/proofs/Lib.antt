@@ -1,8 +1,11 @@
 pub mod ActLemmas
 pub mod GrowLemmas
 pub mod JoinLemmas
+pub mod ListOweLemmas
+pub mod OrderLemmas
 pub mod OutcomeLemmas
 pub mod OweLemmas
 pub mod PayLemmas
 pub mod RegisterLemmas
+pub mod SectionLemmas
 pub mod TriedLemmas

@@ -21,7 +21,6 @@ use Rattle.shard_file.specs.Stripes.{stripe_size}
 use Rattle.std.specs.List.{flat_map}
 use Rattle.desk_base.specs.declared.call.Call.{Call}
 use Rattle.desk_base.specs.declared.call.Call.TheVariants as call_of
-use Rattle.receipts.specs.BucketLists.{BucketsAreListed, DoesNothing, ListBucketsOwes, ListingIsRefused}
 use Rattle.receipts.specs.Bucketing.{BucketActOwes, BucketIsThere, GetVersioningOwes, HeadBucketOwes, PutVersioningOwes}
 use Rattle.receipts.specs.Committing.{EndsAtCommit, HasLooked, KeyIsBarred}
 use Rattle.receipts.specs.Deleting.{DeleteOwes}
@@ -34,11 +33,12 @@ use Rattle.s3_docs.specs.Machine.Value.{Versioning}
 use Rattle.s3_docs.specs.declared.prologue.Root.TheVariants.{VersioningConfiguration}
 use Rattle.receipts.specs.Events.{Event, Log, body_of}
 use Rattle.receipts.specs.Letters.{BlockLetter, CannotRead, FewBlocks, FewTook, IsBadManifest, IsBadShard, IsGoodBlock, ManifestLetter, NoneServes, ShowedAt, ShowedBlock, ShowedTable, StageLetter, Wanted, Wants, bytes_in}
-use Rattle.receipts.specs.Looks.{EndsAtLook, TellsSpent}
 use Rattle.receipts.specs.Owes.{IsWhole, OwesCall}
 use Rattle.receipts.specs.Putting.{BodyIsNotTaken, DigestDiffers, IsAgreed, PutIsCommitted, PutIsNotBegun, PutOwes, PutsBody}
 use Rattle.receipts.specs.Reading.{BodyIsLost, EndsBeforeRead, GetOwes, HeadOwes, ReadsKey, SpanIsTold, TellsRead}
+use Rattle.receipts.specs.Pages.{keys_rule, versions_rule}
 use Rattle.receipts.proofs.GrowLemmas.{Grows}
+use Rattle.receipts.proofs.ListOweLemmas.{ends_at_look, list_buckets_owes, page_owes, spent}
 
 -- the letters of a stage
 stage_letter : (set : SetPlan) (id : VersionId) (log later : Log) (k : ℕ) (why : Why) → Grows log later → StageLetter set id log k why → StageLetter set id later k why
@@ -169,15 +169,6 @@ body_lost set version span next whys log later g x =
     record { wanted = x.wanted; is_wanted = x.is_wanted; some = x.some; cause = cannot_read set x.wanted next whys log later g x.cause }
 
 -- the looks
-spent : (slot : ℕ) (reply : Reply) (log later : Log) → Grows log later → TellsSpent slot reply log → TellsSpent slot reply later
-spent slot reply log later g x = record { spent = g.calls _ x.spent; told = x.told }
-
-ends_at_look : (bucket : List ℕ) (reply : Reply) (log later : Log) → Grows log later → EndsAtLook bucket reply log → EndsAtLook bucket reply later
-ends_at_look bucket reply log later g (inl x) = inl (record { look = x.look; sections = g.sections ∙ x.sections; lacks = x.lacks; told = x.told })
-ends_at_look bucket reply log later g (inr (inl x)) =
-    inr (inl (record { look = x.look; sections = g.sections ∙ x.sections; idle = x.idle; refuses = x.refuses }))
-ends_at_look bucket reply log later g (inr (inr x)) = inr (inr (record { sections = g.sections ∙ x.sections; barred = spent _ reply log later g x.barred }))
-
 has_looked : (bucket : List ℕ) (log later : Log) → Grows log later → HasLooked bucket log → HasLooked bucket later
 has_looked bucket log later g x = record { look = x.look; sections = g.sections ∙ x.sections; mode = x.mode; finds = x.finds }
 
@@ -281,33 +272,37 @@ span_told set ask version id reply log later g x = record {
   ];
 }
 
-tells_read : (set : SetPlan) (ask : RangeAsk) (whole reply : Reply) (log later : Log) → Grows log later
-    → TellsRead set ask whole reply log → TellsRead set ask whole reply later
-tells_read set ask (reply_of.Found version span id) reply log later g (inl x) = inl (span_told set ask version id reply log later g x)
-tells_read set ask (reply_of.Found version span id) reply log later g (inr x) = inr x
-tells_read set ask (reply_of.Refused why) reply log later g x = x
-tells_read set ask reply_of.Plain reply log later g x = absurd x
-tells_read set ask (reply_of.Buckets rows) reply log later g x = absurd x
-tells_read set ask (reply_of.Mode mode) reply log later g x = absurd x
-tells_read set ask (reply_of.Stored etag id) reply log later g x = absurd x
-tells_read set ask (reply_of.Deleted id marker) reply log later g x = absurd x
-tells_read set ask (reply_of.Page rows cut) reply log later g x = absurd x
-tells_read set ask (reply_of.Versions rows cut) reply log later g x = absurd x
-tells_read set ask (reply_of.Opened id) reply log later g x = absurd x
-tells_read set ask (reply_of.Completed etag id) reply log later g x = absurd x
+tells_read : (set : SetPlan) (ask : RangeAsk) (matches : Option (List ℕ)) (whole reply : Reply) (log later : Log) → Grows log later
+    → TellsRead set ask matches whole reply log → TellsRead set ask matches whole reply later
+tells_read set ask matches (reply_of.Found version span id) reply log later g (inl fails) = inl fails
+tells_read set ask matches (reply_of.Found version span id) reply log later g (inr (met, inl x)) =
+    inr (met, inl (span_told set ask version id reply log later g x))
+tells_read set ask matches (reply_of.Found version span id) reply log later g (inr (met, inr x)) = inr (met, inr x)
+tells_read set ask matches (reply_of.Refused why) reply log later g x = x
+tells_read set ask matches reply_of.Plain reply log later g x = absurd x
+tells_read set ask matches (reply_of.Buckets rows) reply log later g x = absurd x
+tells_read set ask matches (reply_of.Mode mode) reply log later g x = absurd x
+tells_read set ask matches (reply_of.Stored etag id) reply log later g x = absurd x
+tells_read set ask matches (reply_of.Deleted id marker) reply log later g x = absurd x
+tells_read set ask matches (reply_of.Page rows cut) reply log later g x = absurd x
+tells_read set ask matches (reply_of.Versions rows cut) reply log later g x = absurd x
+tells_read set ask matches (reply_of.Opened id) reply log later g x = absurd x
+tells_read set ask matches (reply_of.Completed etag id) reply log later g x = absurd x
 
-get_owes : (set : SetPlan) (at : Key) (pick : Pick) (ask : RangeAsk) (reply : Reply) (log later : Log) → Grows log later
-    → GetOwes set at pick ask reply log → GetOwes set at pick ask reply later
-get_owes set at pick ask reply log later g (inl x) = inl (before_read at reply log later g x)
-get_owes set at pick ask reply log later g (inr x) = inr (record {
+get_owes : (set : SetPlan) (at : Key) (pick : Pick) (ask : RangeAsk) (matches : Option (List ℕ)) (reply : Reply) (log later : Log) → Grows log later
+    → GetOwes set at pick ask matches reply log → GetOwes set at pick ask matches reply later
+get_owes set at pick ask matches reply log later g (inl x) = inl (before_read at reply log later g x)
+get_owes set at pick ask matches reply log later g (inr x) = inr (record {
   whole = x.whole;
   reads = reads_key at pick x.whole log later g x.reads;
-  tells = tells_read set ask x.whole reply log later g x.tells;
+  tells = tells_read set ask matches x.whole reply log later g x.tells;
 })
 
-head_owes : (at : Key) (pick : Pick) (reply : Reply) (log later : Log) → Grows log later → HeadOwes at pick reply log → HeadOwes at pick reply later
-head_owes at pick reply log later g (inl x) = inl (before_read at reply log later g x)
-head_owes at pick reply log later g (inr x) = inr (reads_key at pick reply log later g x)
+head_owes : (at : Key) (pick : Pick) (matches : Option (List ℕ)) (reply : Reply) (log later : Log) → Grows log later
+    → HeadOwes at pick matches reply log → HeadOwes at pick matches reply later
+head_owes at pick matches reply log later g (inl x) = inl (before_read at reply log later g x)
+head_owes at pick matches reply log later g (inr x) =
+    inr (record { whole = x.whole; reads = reads_key at pick x.whole log later g x.reads; tells = x.tells })
 
 -- buckets
 bucket_there : (bucket : List ℕ) (mode : Mode) (log later : Log) → Grows log later → BucketIsThere bucket mode log → BucketIsThere bucket mode later
@@ -342,16 +337,6 @@ put_versioning_owes bucket now reply log later g (inr x) = inr (record {
   told = x.told;
 })
 
-list_buckets_owes : (reply : Reply) (log later : Log) → Grows log later → ListBucketsOwes reply log → ListBucketsOwes reply later
-list_buckets_owes reply log later g (inl x) = inl (x.0, x.1, subst (BucketsAreListed x.0) (sym g.sections) x.2)
-list_buckets_owes reply log later g (inr (inl x)) = inr (inl (subst (ListingIsRefused reply) (sym g.sections) x))
-list_buckets_owes reply log later g (inr (inr x)) = inr (inr (record {
-  idle = subst (All DoesNothing) (sym g.sections) x.idle;
-  slot = x.slot;
-  in_store = x.in_store;
-  barred = spent x.slot reply log later g x.barred;
-}))
-
 whole : (call : Call) (log later : Log) → Grows log later → IsWhole call log → IsWhole call later
 whole call log later g x = ap length g.body ∙ x
 
@@ -368,14 +353,16 @@ call_owes set (call_of.PutVersioning bucket long) now reply log later g x =
     (whole (call_of.PutVersioning bucket long) log later g x.0, put_versioning_owes bucket now reply log later g x.1)
 call_owes set (call_of.Put at kinds stated long) now reply log later g x =
     (whole (call_of.Put at kinds stated long) log later g x.0, put_owes set at kinds stated now reply log later g x.1)
-call_owes set (call_of.Get at pick ask) now reply log later g x =
-    (whole (call_of.Get at pick ask) log later g x.0, get_owes set at pick ask reply log later g x.1)
-call_owes set (call_of.Head at pick) now reply log later g x =
-    (whole (call_of.Head at pick) log later g x.0, head_owes at pick reply log later g x.1)
+call_owes set (call_of.Get at pick ask matches) now reply log later g x =
+    (whole (call_of.Get at pick ask matches) log later g x.0, get_owes set at pick ask matches reply log later g x.1)
+call_owes set (call_of.Head at pick matches) now reply log later g x =
+    (whole (call_of.Head at pick matches) log later g x.0, head_owes at pick matches reply log later g x.1)
 call_owes set (call_of.Delete at pick) now reply log later g x =
     (whole (call_of.Delete at pick) log later g x.0, delete_owes at pick now reply log later g x.1)
-call_owes set (call_of.List2 bucket page) now reply log later g x = (x.0, g.sections ∙ x.1)
-call_owes set (call_of.ListVersions bucket page) now reply log later g x = (x.0, g.sections ∙ x.1)
+call_owes set (call_of.List2 bucket page) now reply log later g x =
+    (whole (call_of.List2 bucket page) log later g x.0, page_owes (keys_rule page) bucket reply log later g x.1)
+call_owes set (call_of.ListVersions bucket page) now reply log later g x =
+    (whole (call_of.ListVersions bucket page) log later g x.0, page_owes (versions_rule page) bucket reply log later g x.1)
 call_owes set (call_of.Create at kinds) now reply log later g x = (x.0, g.sections ∙ x.1)
 call_owes set (call_of.Part at upload number stated long) now reply log later g x = (x.0, g.sections ∙ x.1)
 call_owes set (call_of.Complete at upload long) now reply log later g x = (x.0, g.sections ∙ x.1)

@@ -47,7 +47,7 @@ of_version set (Object data_id print size md5 parts upload kind) span bytes log 
 
 gives_found : (set : SetPlan) (call : Call) (version : Version) (span : Span) (bytes : List ℕ) (log later : Log) → Grows log later
     → GivesFound set call version span bytes log → GivesFound set call version span bytes later
-gives_found set (Get at pick ask) version span bytes log later g x = of_version set version.what span bytes log later g x
+gives_found set (Get at pick ask matches) version span bytes log later g x = of_version set version.what span bytes log later g x
 gives_found set other version span bytes log later g x = x
 
 gives_bytes : (set : SetPlan) (call : Call) (reply : Reply) (bytes : List ℕ) (log later : Log) → Grows log later

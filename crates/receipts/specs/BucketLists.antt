@@ -1,9 +1,7 @@
 -- What a ListBuckets owes.
-use Rattle.std.specs.Prelude.{◌≡◌, ◌≢◌, ◌⊎◌, ℕ, ◌<◌, List, [], ◌∷◌, ◌++◌, All, Contains, length, None, Some}
+use Rattle.std.specs.Prelude.{◌≡◌, ◌⊎◌, ℕ, List, ◌∷◌, ◌++◌, All, Contains, Some}
 use Rattle.std.specs.List.Sorted.{IsStrictlySortedBy}
 use Rattle.std.specs.declared.cmp.Ordering.{Ordering}
-use Rattle.std.specs.declared.cmp.Ordering.TheVariants.{Less}
-use Rattle.audit_trail.specs.declared.entry.Deed.TheVariants.{Kept}
 use Rattle.bucket_book.specs.Content.{content_of}
 use Rattle.bucket_book.specs.Name.{IsBucketName}
 use Rattle.bucket_book.specs.Table.{IsCanonical}
@@ -11,28 +9,11 @@ use Rattle.bucket_book.specs.declared.record.BucketRecord.{BucketRecord}
 use Rattle.call_types.specs.declared.reply.BucketRow.{BucketRow}
 use Rattle.call_types.specs.declared.reply.Reply.{Reply}
 use Rattle.call_types.specs.declared.reply.Reply.TheVariants.{Buckets}
-use Rattle.drive_base.specs.Names.{IsBefore, byte_order}
+use Rattle.drive_base.specs.Names.{byte_order}
 use Rattle.receipts.specs.Events.{Log, Section, sections_of}
-use Rattle.receipts.specs.Events.Shown.{NamesShown}
-use Rattle.receipts.specs.Looks.{HasEntry, IsIdle, LooksAt, TellsRefusal, TellsSpent}
+use Rattle.receipts.specs.Looks.{LooksAt}
+use Rattle.receipts.specs.Paging.{DoesNothing, ListingIsBarred, ListingIsRefused, ListsPage, Page, Reaches}
 use Rattle.receipts.specs.Registers.{bucket_register, bucket_slot}
-
--- a page of names of a slot's registers, from one on, so many at most
-pub record Page : Type 0 where
-  pub from : List ℕ
-  pub most : ℕ
-  pub names : List (List ℕ)
-
--- a section listed the names of a slot's registers, and was shown this page
-pub record ListsPage (slot : ℕ) (page : Page) (section : Section) : Type 0 where
-  pub entry : HasEntry slot [] Kept section.note
-  pub unrefused : section.note.refusal ≡ None
-  pub shown : section.shown ≡ NamesShown page.from page.most page.names
-
--- a page would have a name, if it were shown: the name isn't before its begin, and the page isn't full before the name
-pub record Reaches (page : Page) (name : List ℕ) : Type 0 where
-  pub begins : byte_order name page.from ≢ Less
-  pub ends : length page.names ≡ page.most → All (λ given. IsBefore given name) page.names → ⊥
 
 -- a section listed names of a bucket's slot, by a page that reaches the name of the bucket's register
 pub record AsksFor (bucket : List ℕ) (page : Page) (section : Section) : Type 0 where
@@ -60,10 +41,6 @@ pub record FindsRow (row : BucketRow) (section : Section) : Type 0 where
 abbrev pub row_order : BucketRow → BucketRow → Ordering
 row_order a b = byte_order a.name b.name
 
--- a section did nothing of its own, at a register or at none
-abbrev pub DoesNothing : Section → Type 0
-DoesNothing section = (slot : ℕ) × (name : List ℕ) × HasEntry slot name Kept section.note
-
 -- each bucket was asked for; the rows, which rise by their names, are those of the buckets that looks found; and no section did anything of its own
 pub record BucketsAreListed (rows : List BucketRow) (sections : List Section) : Type 0 where
   pub asked : (bucket : List ℕ) → IsBucketName bucket → IsAskedFor bucket sections
@@ -71,25 +48,6 @@ pub record BucketsAreListed (rows : List BucketRow) (sections : List Section) : 
   pub found : All (λ row. (look : Section) × Contains sections look × FindsRow row look) rows
   pub given : (row : BucketRow) (look : Section) → Contains sections look → FindsRow row look → Contains rows row
   pub idle : All DoesNothing sections
-
--- the last of the sections was refused, and none did anything of its own
-pub record ListingIsRefused (reply : Reply) (sections : List Section) : Type 0 where
-  pub before : List Section
-  pub last : Section
-  pub parts : sections ≡ before ++ last ∷ []
-  pub idle_before : All DoesNothing before
-  pub slot : ℕ
-  pub in_store : slot < 64
-  pub name : List ℕ
-  pub idle : IsIdle slot name last.note
-  pub refuses : TellsRefusal slot last.note reply
-
--- or the next one could not be done
-pub record ListingIsBarred (reply : Reply) (log : Log) : Type 0 where
-  pub idle : All DoesNothing (sections_of log)
-  pub slot : ℕ
-  pub in_store : slot < 64
-  pub barred : TellsSpent slot reply log
 
 -- what a ListBuckets is answered
 abbrev pub ListBucketsOwes : Reply → Log → Type 0

@@ -24,8 +24,10 @@ use Rattle.drive_base.specs.declared.plan.SetPlan.{SetPlan}
 use Rattle.stamp_id.specs.declared.stamp.ChangeId.{ChangeId}
 use Rattle.version_list.specs.Answers.{IsServed}
 use Rattle.receipts.specs.Events.{IsQuiet, Log, Note, body_of, cuts_of, notes_of, sections_of, tale_of, tried_of}
+use Rattle.receipts.specs.Listing.{key_in}
 use Rattle.receipts.specs.Looks.{HasEntry}
 use Rattle.receipts.specs.Owes.{OwesReply}
+use Rattle.receipts.specs.Pages.{Candidate, PageRule, keys_rule, page_of, rows_of, versions_rule}
 use Rattle.receipts.specs.Paying.{ChangesNothing, EndsAs, Outcome, Pays, Receipt, TellsOutcome}
 use Rattle.receipts.specs.Paying.Outcome.{Replied}
 use Rattle.receipts.specs.Putting.{PutsBody}
@@ -92,6 +94,11 @@ pub record IsLookedAtIn (slot : ℕ) (name : List ℕ) (notes : List Note) : Typ
   pub there : Contains notes note
   pub entry : HasEntry slot name Kept note
 
+-- a page has the rows of keys that sections looked at
+abbrev pub ShowsPage : PageRule → List ℕ → Reply → List Note → Type 0
+ShowsPage rule bucket reply notes = (looked : List Candidate) × (reply ≡ page_of rule (rows_of rule looked))
+    × All (λ candidate. IsLookedAtIn (key_slot (key_in bucket candidate.key)) (key_register (key_in bucket candidate.key)) notes) looked
+
 -- the sections of a call that is served did it, and were replied what is told of it: for a read, of the whole body
 abbrev pub ShowsAct : SetPlan → Call → ℕ → List ℕ → Reply → List Note → Type 0
 ShowsAct set ListBuckets now body reply notes = (rows : List BucketRow) × (reply ≡ Buckets rows) × All (λ row. IsLookedAtIn (bucket_slot row.name) (bucket_register row.name) notes) rows
@@ -103,14 +110,14 @@ ShowsAct set (PutVersioning bucket long) now body reply notes = (mode : Mode)
     × IsDoneIn (bucket_slot bucket) (bucket_register bucket) (λ call. (change : Option ChangeId) × (call ≡ brief.SetMode bucket mode change now)) reply notes
 ShowsAct set (Put at kind md5 long) now body reply notes = (done : Act) × PutsBody set kind body done × (length body ≡ long)
     × IsDoneIn (key_slot at) (key_register at) (λ call. (mode : Mode) × (change : Option ChangeId) × (call ≡ brief.Change at mode done change now)) reply notes
-ShowsAct set (Get at pick ask) now body reply notes = (version : Version) × (span whole : Span) × (id : Option VersionName) × (reply ≡ Found version span id)
+ShowsAct set (Get at pick ask matches) now body reply notes = (version : Version) × (span whole : Span) × (id : Option VersionName) × (reply ≡ Found version span id)
     × IsDoneIn (key_slot at) (key_register at) (λ call. (mode : Mode) × (call ≡ brief.Read at mode pick)) (Found version whole id) notes
-ShowsAct set (Head at pick) now body reply notes =
+ShowsAct set (Head at pick matches) now body reply notes =
     IsDoneIn (key_slot at) (key_register at) (λ call. (mode : Mode) × (call ≡ brief.Read at mode pick)) reply notes
 ShowsAct set (Delete at pick) now body reply notes = IsDoneIn (key_slot at) (key_register at)
     (λ call. (mode : Mode) × (change : Option ChangeId) × (call ≡ brief.Change at mode (act.Delete pick) change now)) reply notes
-ShowsAct set (List2 bucket page) now body reply notes = ⊥
-ShowsAct set (ListVersions bucket page) now body reply notes = ⊥
+ShowsAct set (List2 bucket page) now body reply notes = ShowsPage (keys_rule page) bucket reply notes
+ShowsAct set (ListVersions bucket page) now body reply notes = ShowsPage (versions_rule page) bucket reply notes
 ShowsAct set (Create at kind) now body reply notes = ⊥
 ShowsAct set (Part at upload number md5 long) now body reply notes = ⊥
 ShowsAct set (Complete at upload long) now body reply notes = ⊥

@@ -7,8 +7,11 @@ pub mod Dues
 pub mod Events
 pub mod Laws
 pub mod Letters
+pub mod Listing
 pub mod Looks
 pub mod Owes
+pub mod Pages
+pub mod Paging
 pub mod Paying
 pub mod Putting
 pub mod Reading

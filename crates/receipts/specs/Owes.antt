@@ -12,6 +12,7 @@ use Rattle.receipts.specs.BucketLists.{ListBucketsOwes}
 use Rattle.receipts.specs.Bucketing.{CreateBucketOwes, GetVersioningOwes, HeadBucketOwes, PutVersioningOwes}
 use Rattle.receipts.specs.Deleting.{DeleteOwes}
 use Rattle.receipts.specs.Events.{Log, body_of, sections_of}
+use Rattle.receipts.specs.Listing.{List2Owes, ListVersionsOwes}
 use Rattle.receipts.specs.Putting.{PutOwes}
 use Rattle.receipts.specs.Reading.{GetOwes, HeadOwes}
 
@@ -31,11 +32,11 @@ OwesCall set (HeadBucket bucket) now reply log = IsWhole (HeadBucket bucket) log
 OwesCall set (GetVersioning bucket) now reply log = IsWhole (GetVersioning bucket) log × GetVersioningOwes bucket reply log
 OwesCall set (PutVersioning bucket long) now reply log = IsWhole (PutVersioning bucket long) log × PutVersioningOwes bucket now reply log
 OwesCall set (Put at kind md5 long) now reply log = IsWhole (Put at kind md5 long) log × PutOwes set at kind md5 now reply log
-OwesCall set (Get at pick ask) now reply log = IsWhole (Get at pick ask) log × GetOwes set at pick ask reply log
-OwesCall set (Head at pick) now reply log = IsWhole (Head at pick) log × HeadOwes at pick reply log
+OwesCall set (Get at pick ask matches) now reply log = IsWhole (Get at pick ask matches) log × GetOwes set at pick ask matches reply log
+OwesCall set (Head at pick matches) now reply log = IsWhole (Head at pick matches) log × HeadOwes at pick matches reply log
 OwesCall set (Delete at pick) now reply log = IsWhole (Delete at pick) log × DeleteOwes at pick now reply log
-OwesCall set (List2 bucket page) now reply log = Later reply log
-OwesCall set (ListVersions bucket page) now reply log = Later reply log
+OwesCall set (List2 bucket page) now reply log = IsWhole (List2 bucket page) log × List2Owes bucket page reply log
+OwesCall set (ListVersions bucket page) now reply log = IsWhole (ListVersions bucket page) log × ListVersionsOwes bucket page reply log
 OwesCall set (Create at kind) now reply log = Later reply log
 OwesCall set (Part at upload number md5 long) now reply log = Later reply log
 OwesCall set (Complete at upload long) now reply log = Later reply log

@@ -1,5 +1,5 @@
 -- What GetObject and HeadObject owe.
-use Rattle.std.specs.Prelude.{◌≡◌, ◌⊎◌, ℕ, ◌+◌, ◌<◌, List, [], ◌∷◌, Ok, Err, Option}
+use Rattle.std.specs.Prelude.{◌≡◌, ◌⊎◌, ℕ, ◌+◌, ◌<◌, Bool, true, false, List, [], ◌∷◌, Ok, Err, Option, Some, None}
 use Rattle.audit_trail.specs.declared.entry.Deed.TheVariants.{Done}
 use Rattle.call_types.specs.declared.act.Brief.TheVariants.{Answer, Read}
 use Rattle.call_types.specs.declared.names.Key.{Key}
@@ -8,7 +8,7 @@ use Rattle.call_types.specs.declared.names.Pick.{Pick}
 use Rattle.call_types.specs.declared.names.RangeAsk.{RangeAsk}
 use Rattle.call_types.specs.declared.names.Span.{Span}
 use Rattle.call_types.specs.declared.names.VersionName.{VersionName}
-use Rattle.call_types.specs.declared.refusal.Refusal.TheVariants.{InvalidRange, ShardQuorum}
+use Rattle.call_types.specs.declared.refusal.Refusal.TheVariants.{InvalidRange, PreconditionFailed, ShardQuorum}
 use Rattle.call_types.specs.declared.reply.Reply.{Reply}
 use Rattle.call_types.specs.declared.reply.Reply.TheVariants.{Found, Refused}
 use Rattle.call_types.specs.declared.version.Version.{Version}
@@ -16,6 +16,7 @@ use Rattle.call_types.specs.declared.version.What.{What}
 use Rattle.call_types.specs.declared.version.What.TheVariants.{Marker, Object}
 use Rattle.call_types.specs.declared.why.Why.{Why}
 use Rattle.drive_base.specs.declared.plan.SetPlan.{SetPlan}
+use Rattle.header_values.specs.EntityTags.{names_tag, tag_text}
 use Rattle.span_plan.specs.Span.{Plans}
 use Rattle.span_plan.specs.declared.ranges.InvalidRange.{InvalidRange as Unsatisfiable}
 use Rattle.receipts.specs.Committing.{KeyIsBarred}
@@ -76,22 +77,47 @@ pub record RangeIsInvalid (ask : RangeAsk) (version : Version) (reply : Reply) :
   pub plans : Plans (body_length version.what) ask (Err invalid)
   pub told : reply ≡ Refused (InvalidRange invalid.0)
 
--- what is told of what a read of the key was replied
-abbrev pub TellsRead : SetPlan → RangeAsk → Reply → Reply → Log → Type 0
-TellsRead set ask (Found version whole id) reply log = SpanIsTold set ask version id reply log ⊎ RangeIsInvalid ask version reply
-TellsRead set ask (Refused why) reply log = reply ≡ Refused why
-TellsRead set ask other reply log = ⊥
+-- whether a version has one of the entity tags of an `If-Match` (RFC 9110, section 13.1.1). Without one there is no condition, and a marker has no tag
+abbrev pub is_met : Option (List ℕ) → What → Bool
+is_met None what = true
+is_met (Some value) Marker = false
+is_met (Some value) (Object data_id print size md5 parts upload kind) = names_tag value (tag_text md5 parts)
+
+-- the version has none of them, and the call is told so
+pub record ConditionFails (matches : Option (List ℕ)) (version : Version) (reply : Reply) : Type 0 where
+  pub unmet : is_met matches version.what ≡ false
+  pub told : reply ≡ Refused PreconditionFailed
+
+-- what a GetObject is told of what the read of its key was replied: of a version that was found the condition comes first, and then the range
+abbrev pub TellsRead : SetPlan → RangeAsk → Option (List ℕ) → Reply → Reply → Log → Type 0
+TellsRead set ask matches (Found version whole id) reply log = ConditionFails matches version reply
+    ⊎ ((is_met matches version.what ≡ true) × (SpanIsTold set ask version id reply log ⊎ RangeIsInvalid ask version reply))
+TellsRead set ask matches (Refused why) reply log = reply ≡ Refused why
+TellsRead set ask matches other reply log = ⊥
+
+-- and what a HeadObject is told: the version with its whole body
+abbrev pub TellsHead : Option (List ℕ) → Reply → Reply → Type 0
+TellsHead matches (Found version whole id) reply = ConditionFails matches version reply
+    ⊎ ((is_met matches version.what ≡ true) × (reply ≡ Found version whole id))
+TellsHead matches (Refused why) reply = reply ≡ Refused why
+TellsHead matches other reply = ⊥
 
 -- a GetObject is told what its read found
-pub record GetIsTold (set : SetPlan) (at : Key) (pick : Pick) (ask : RangeAsk) (reply : Reply) (log : Log) : Type 0 where
+pub record GetIsTold (set : SetPlan) (at : Key) (pick : Pick) (ask : RangeAsk) (matches : Option (List ℕ)) (reply : Reply) (log : Log) : Type 0 where
   pub whole : Reply
   pub reads : ReadsKey at pick whole log
-  pub tells : TellsRead set ask whole reply log
+  pub tells : TellsRead set ask matches whole reply log
 
 -- what a GetObject is answered
-abbrev pub GetOwes : SetPlan → Key → Pick → RangeAsk → Reply → Log → Type 0
-GetOwes set at pick ask reply log = EndsBeforeRead at reply log ⊎ GetIsTold set at pick ask reply log
+abbrev pub GetOwes : SetPlan → Key → Pick → RangeAsk → Option (List ℕ) → Reply → Log → Type 0
+GetOwes set at pick ask matches reply log = EndsBeforeRead at reply log ⊎ GetIsTold set at pick ask matches reply log
 
--- what a HeadObject is answered: the version with its whole body
-abbrev pub HeadOwes : Key → Pick → Reply → Log → Type 0
-HeadOwes at pick reply log = EndsBeforeRead at reply log ⊎ ReadsKey at pick reply log
+-- a HeadObject is told what its read found
+pub record HeadIsTold (at : Key) (pick : Pick) (matches : Option (List ℕ)) (reply : Reply) (log : Log) : Type 0 where
+  pub whole : Reply
+  pub reads : ReadsKey at pick whole log
+  pub tells : TellsHead matches whole reply
+
+-- what a HeadObject is answered
+abbrev pub HeadOwes : Key → Pick → Option (List ℕ) → Reply → Log → Type 0
+HeadOwes at pick matches reply log = EndsBeforeRead at reply log ⊎ HeadIsTold at pick matches reply log

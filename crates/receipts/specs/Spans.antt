@@ -34,7 +34,7 @@ AreOfVersion set (Object data_id print size md5 parts upload kind) span bytes lo
 
 -- the bytes that are told behind the head of a reply: those of the version's span for a call that gives its body, and none else
 abbrev pub GivesFound : SetPlan → Call → Version → Span → List ℕ → Log → Type 0
-GivesFound set (Get at pick ask) version span bytes log = AreOfVersion set version.what span bytes log
+GivesFound set (Get at pick ask matches) version span bytes log = AreOfVersion set version.what span bytes log
 GivesFound set other version span bytes log = bytes ≡ []
 
 abbrev pub GivesBytes : SetPlan → Call → Reply → List ℕ → Log → Type 0
