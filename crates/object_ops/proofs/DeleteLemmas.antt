@@ -35,18 +35,18 @@ use Rattle.receipts.specs.Spans.{GivesBytes}
 use Rattle.receipts.specs.declared.barred.Barred.{Barred}
 use Rattle.receipts.specs.declared.barred.Barred.TheVariants as barred
 use Rattle.receipts.proofs.JoinLemmas.{bodies_join}
+use Rattle.op_steps.specs.BucketLooks.{SaysBucket}
 use Rattle.op_steps.specs.Moves.{TellMoves}
 use Rattle.op_steps.specs.Notes.{note_of, noted}
 use Rattle.op_steps.specs.Ready.{IsReady}
 use Rattle.op_steps.specs.Store.{TellerSeen}
+use Rattle.op_steps.specs.declared.looking.Looked.{Looked}
+use Rattle.op_steps.specs.declared.looking.Looked.TheVariants.{LacksMemory, Refused as RefusedLook, There}
 use Rattle.op_steps.proofs.TellLemmas.{cuts_after, told_pays}
 use Rattle.object_ops.specs.Deletes.{AfterCommit, AfterLook, HasDeleted, barred_state, delete_deed}
 use Rattle.object_ops.specs.Reading.{HasFound, IsFresh}
-use Rattle.object_ops.specs.Looking.{SaysBucket}
 use Rattle.object_ops.specs.declared.delete_state.DeleteState.{DeleteState}
 use Rattle.object_ops.specs.declared.delete_state.DeleteState.TheVariants.{Committing, Looking, Telling, Told}
-use Rattle.object_ops.specs.declared.looking.Looked.{Looked}
-use Rattle.object_ops.specs.declared.looking.Looked.TheVariants.{LacksMemory, Refused as RefusedLook, There}
 use Rattle.object_ops.proofs.DueLemmas.{DoneSo}
 use Rattle.object_ops.proofs.KeyCommitLemmas.{RefusedSo, changes_so, ends_so, refused_commit}
 use Rattle.object_ops.proofs.ReadingBars.{bar_fresh, key_bars}

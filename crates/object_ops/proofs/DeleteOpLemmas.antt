@@ -27,6 +27,7 @@ use Rattle.receipts.specs.Events.Shown.{NoneShown}
 use Rattle.receipts.specs.Registers.{bucket_register, bucket_slot, key_slot}
 use Rattle.receipts.specs.declared.barred.Barred.{Barred}
 use Rattle.receipts.proofs.RegisterLemmas.{key_slot_below}
+use Rattle.op_steps.specs.BucketLooks.{LooksSo}
 use Rattle.op_steps.specs.Claims.{Claim, no_claim}
 use Rattle.op_steps.specs.Committing.{CommitSays}
 use Rattle.op_steps.specs.Moves.{TellMoves}
@@ -34,17 +35,16 @@ use Rattle.op_steps.specs.Notes.{noted}
 use Rattle.op_steps.specs.Store.{SlotSeen, TellerSeen}
 use Rattle.op_steps.specs.Words.{BarredSo, CallsSo, IsSection, TellsSo, TurnsSo}
 use Rattle.op_steps.specs.declared.next.OpNext.TheVariants as next
+use Rattle.op_steps.specs.declared.looking.Look.{Look}
 use Rattle.op_steps.proofs.CommitLemmas.{commit_is_turn}
 use Rattle.object_ops.specs.Clearing.{RemovesOne, TakesTrash, files_left, with_taken}
 use Rattle.object_ops.specs.Deletes.{AfterCommit, AfterLook, DeleteStands, HasDeleted, IsNewDelete, StandsAt, barred_state, delete_deed, step_at}
-use Rattle.object_ops.specs.Looking.{LooksSo}
 use Rattle.object_ops.specs.Removing.{AreDue, files_of, ids_of}
 use Rattle.object_ops.specs.declared.clearing.Clearing.{Clearing}
 use Rattle.object_ops.specs.declared.delete_op.DeleteOp.{DeleteOp}
 use Rattle.object_ops.specs.declared.delete_state.DeleteState.{DeleteState}
 use Rattle.object_ops.specs.declared.delete_state.DeleteState.TheVariants.{Committing, Looking, Telling, Told}
 use Rattle.object_ops.specs.declared.deletion.Deletion.{Deletion}
-use Rattle.object_ops.specs.declared.looking.Look.{Look}
 use Rattle.object_ops.specs.declared.removal.Removal.{Removal}
 use Rattle.object_ops.proofs.DeleteLemmas.{CommitDue, commit_barred, commit_done, look_barred, look_done, tell_done}
 use Rattle.object_ops.proofs.DueLemmas.{done_so, refused_so}

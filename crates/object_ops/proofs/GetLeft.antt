@@ -8,6 +8,8 @@ use Rattle.call_types.specs.declared.version.Version.{Version}
 use Rattle.call_types.specs.declared.why.Why.{Why}
 use Rattle.drive_base.specs.declared.plan.SetPlan.{SetPlan}
 use Rattle.slot_core.specs.declared.handles.Pin.{Pin}
+use Rattle.op_steps.specs.declared.looking.Looked.{Looked}
+use Rattle.op_steps.specs.declared.looking.Looked.TheVariants as looked_of
 use Rattle.object_ops.specs.Get.{Looks, Plans, fetched_state, lacks_pin, left_of, needs_pin}
 use Rattle.object_ops.specs.GetSteps.{Begins, told_state}
 use Rattle.object_ops.specs.ReadingPlan.{PlansSo, drives_of}
@@ -15,8 +17,6 @@ use Rattle.object_ops.specs.ReadingStep.{StepsFall, TellsNext}
 use Rattle.object_ops.specs.declared.get_sections.Begun.{Begun}
 use Rattle.object_ops.specs.declared.get_state.GetState.{GetState}
 use Rattle.object_ops.specs.declared.get_state.GetState.TheVariants.{Ending, Fetching, Giving}
-use Rattle.object_ops.specs.declared.looking.Looked.{Looked}
-use Rattle.object_ops.specs.declared.looking.Looked.TheVariants as looked_of
 use Rattle.object_ops.specs.declared.reading.Reading.{Reading}
 use Rattle.object_ops.specs.declared.reading.Stepped.{Stepped}
 use Rattle.object_ops.specs.declared.reading.Stepped.TheVariants.{Gives, Goes, LacksMemory, Refused}
@@ -48,32 +48,32 @@ looks_left (looked_of.There mode) state reading is = subst (λ s. left_of s read
 looks_left (looked_of.Refused why) state reading is = subst (λ s. left_of s reading < 3 * 2 ^ 64 + 9) (sym is) (omega arith)
 looks_left looked_of.LacksMemory state reading is = subst (λ s. left_of s reading < 3 * 2 ^ 64 + 9) (sym is) (omega arith)
 
-module _ (set : SetPlan) (ask : RangeAsk) where
-  plans_left : (made : Planned) (version : Version) (id : Option VersionName) (state : GetState) (reading : Option Reading) → PlansSo set version id ask made → Plans made state reading
+module _ (set : SetPlan) (ask : RangeAsk) (matches : Option (List ℕ)) where
+  plans_left : (made : Planned) (version : Version) (id : Option VersionName) (state : GetState) (reading : Option Reading) → PlansSo set version id ask matches made → Plans made state reading
       → left_of state reading < 3 * 2 ^ 64 + 8
   plans_left (planned_of.Tells told) version id state reading so is = subst (λ s. left_of s reading < 3 * 2 ^ 64 + 8) (sym is.0) (omega arith)
   plans_left (planned_of.Reads r) version id state reading so is = subst (λ s. left_of s reading < 3 * 2 ^ 64 + 8) (sym is.0)
-      (subst (λ o. left_of Fetching o < 3 * 2 ^ 64 + 8) (sym is.1) (omega (arith, so.1.few)))
+      (subst (λ o. left_of Fetching o < 3 * 2 ^ 64 + 8) (sym is.1) (omega (arith, so.2.few)))
   plans_left planned_of.LacksMemory version id state reading so is = subst (λ s. left_of s reading < 3 * 2 ^ 64 + 8) (sym is.0) (omega arith)
 
-  pub begins_left : (started : Started) (begun : Begun) → Begins set ask started begun → left_of begun.state begun.reading < 3 * 2 ^ 64 + 8
+  pub begins_left : (started : Started) (begun : Begun) → Begins set ask matches started begun → left_of begun.state begun.reading < 3 * 2 ^ 64 + 8
   begins_left (started_of.Found version id pin) begun is = plans_left is.1.0 version id begun.state begun.reading is.1.1 is.1.2
   begins_left (started_of.Refused why) begun is = subst (λ s. left_of s begun.reading < 3 * 2 ^ 64 + 8) (sym is.1) (omega arith)
   begins_left started_of.LacksMemory begun is = subst (λ s. left_of s begun.reading < 3 * 2 ^ 64 + 8) (sym is.1) (omega arith)
 
   -- what is read is over the set
-  plans_of : (made : Planned) (version : Version) (id : Option VersionName) (state : GetState) (reading : Option Reading) → PlansSo set version id ask made → Plans made state reading
+  plans_of : (made : Planned) (version : Version) (id : Option VersionName) (state : GetState) (reading : Option Reading) → PlansSo set version id ask matches made → Plans made state reading
       → drives_of set reading ≡ set.drives
   plans_of (planned_of.Tells told) version id state reading so is = ap (drives_of set) is.1
-  plans_of (planned_of.Reads r) version id state reading so is = ap (drives_of set) is.1 ∙ ap (λ (s : SetPlan). s.drives) so.0.set_is
+  plans_of (planned_of.Reads r) version id state reading so is = ap (drives_of set) is.1 ∙ ap (λ (s : SetPlan). s.drives) so.1.set_is
   plans_of planned_of.LacksMemory version id state reading so is = ap (drives_of set) is.1
 
-  pub begins_of : (started : Started) (begun : Begun) → Begins set ask started begun → drives_of set begun.reading ≡ set.drives
+  pub begins_of : (started : Started) (begun : Begun) → Begins set ask matches started begun → drives_of set begun.reading ≡ set.drives
   begins_of (started_of.Found version id pin) begun is = plans_of is.1.0 version id begun.state begun.reading is.1.1 is.1.2
   begins_of (started_of.Refused why) begun is = ap (drives_of set) is.2
   begins_of started_of.LacksMemory begun is = ap (drives_of set) is.2
 
-  pub begins_held : (started : Started) (begun : Begun) → Begins set ask started begun → lacks_pin begun.state begun.pin ≡ false
+  pub begins_held : (started : Started) (begun : Begun) → Begins set ask matches started begun → lacks_pin begun.state begun.pin ≡ false
   begins_held (started_of.Found version id pin) begun is = subst (λ p. lacks_pin begun.state p ≡ false) (sym is.0) refl
   begins_held (started_of.Refused why) begun is = subst (λ p. lacks_pin begun.state p ≡ false) (sym is.0) (subst (λ s. needs_pin s ≡ false) (sym is.1) refl)
   begins_held started_of.LacksMemory begun is = subst (λ p. lacks_pin begun.state p ≡ false) (sym is.0) (subst (λ s. needs_pin s ≡ false) (sym is.1) refl)

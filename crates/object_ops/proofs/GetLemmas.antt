@@ -8,7 +8,7 @@ use Rattle.call_types.specs.declared.names.Pick.{Pick}
 use Rattle.call_types.specs.declared.names.RangeAsk.{RangeAsk}
 use Rattle.call_types.specs.declared.names.VersionName.{VersionName}
 use Rattle.call_types.specs.declared.refusal.Refusal.{Refusal}
-use Rattle.call_types.specs.declared.refusal.Refusal.TheVariants.{InvalidRange, SeqSpent}
+use Rattle.call_types.specs.declared.refusal.Refusal.TheVariants.{InvalidRange, PreconditionFailed, SeqSpent}
 use Rattle.call_types.specs.declared.reply.Reply.{Reply}
 use Rattle.call_types.specs.declared.reply.Reply.TheVariants as reply_of
 use Rattle.call_types.specs.declared.version.Version.{Version}
@@ -27,23 +27,26 @@ use Rattle.receipts.specs.Events.{IsQuiet, Log}
 use Rattle.receipts.specs.Events.Event.{BarredFrom, Turned}
 use Rattle.receipts.specs.Events.Shown.{NoneShown}
 use Rattle.receipts.specs.Paying.{Pays}
-use Rattle.receipts.specs.Reading.{GetOwes, HeadOwes, ReadsKey}
+use Rattle.receipts.specs.Reading.{ConditionFails, GetOwes, ReadsKey, is_met}
 use Rattle.receipts.specs.Registers.{bucket_register, bucket_slot, key_slot}
 use Rattle.receipts.specs.Spans.{whole_of}
 use Rattle.receipts.specs.declared.barred.Barred.{Barred}
 use Rattle.receipts.specs.declared.barred.Barred.TheVariants as barred
 use Rattle.receipts.proofs.PayLemmas.{quiet_pays}
 use Rattle.receipts.proofs.RegisterLemmas.{key_slot_below}
+use Rattle.op_steps.specs.BucketLooks.{LooksSo}
 use Rattle.op_steps.specs.Claims.{Claim, no_claim}
 use Rattle.op_steps.specs.Moves.{TurnMoves}
 use Rattle.op_steps.specs.Notes.{noted}
 use Rattle.op_steps.specs.Store.{SlotSeen}
 use Rattle.op_steps.specs.Words.{BarredSo, IsSection, LetsGo, TurnsSo}
+use Rattle.op_steps.specs.declared.looking.Look.{Look}
+use Rattle.op_steps.specs.declared.looking.Looked.{Looked}
+use Rattle.op_steps.specs.declared.looking.Looked.TheVariants as looked_of
 use Rattle.object_ops.specs.Get.{GetStands, IsBare, Looks, Plans, barred_after, step_of}
 use Rattle.object_ops.specs.GetBegin.{IsNewGet}
 use Rattle.object_ops.specs.GetStands.{StandsFor, get_task}
 use Rattle.object_ops.specs.GetSteps.{Begins}
-use Rattle.object_ops.specs.Looking.{LooksSo}
 use Rattle.object_ops.specs.Reading.{HasPin, HoldsNone, HoldsPin, HoldsStart, IsFresh, IsPinClaim, pinned_claim}
 use Rattle.object_ops.specs.ReadingPlan.{IsEmpty, IsInvalid, IsOfSpan, IsUnread, PlansSo}
 use Rattle.object_ops.specs.ReadingStart.{StartsSo}
@@ -52,9 +55,6 @@ use Rattle.object_ops.specs.declared.get_op.GetOp.{GetOp}
 use Rattle.object_ops.specs.declared.get_sections.Begun.{Begun}
 use Rattle.object_ops.specs.declared.get_state.GetState.{GetState}
 use Rattle.object_ops.specs.declared.get_state.GetState.TheVariants.{Beginning, Ending, Fetching, Giving, Looking, Over, Telling}
-use Rattle.object_ops.specs.declared.looking.Look.{Look}
-use Rattle.object_ops.specs.declared.looking.Looked.{Looked}
-use Rattle.object_ops.specs.declared.looking.Looked.TheVariants as looked_of
 use Rattle.object_ops.specs.declared.reading.Reading.{Reading}
 use Rattle.object_ops.specs.declared.reading_plan.Planned.{Planned}
 use Rattle.object_ops.specs.declared.reading_plan.Planned.TheVariants as planned_of
@@ -65,13 +65,13 @@ use Rattle.object_ops.proofs.ReadingCalls.{logged_all}
 use Rattle.object_ops.proofs.ReadingLook.{AfterLook, bars, looks}
 use Rattle.object_ops.proofs.ReadingPays.{head_owed, ready, the_task}
 use Rattle.object_ops.proofs.ReadingSpans.{none_logged, none_of_version}
-use Rattle.object_ops.proofs.ReadingStart.{AfterStart, IsDueBy, starts}
+use Rattle.object_ops.proofs.ReadingStart.{AfterStart, IsDueBy, RefusesRead, starts}
 use Rattle.object_ops.proofs.ReadingTell.{fresh_pays, one_all}
 use Rattle.object_ops.proofs.ReadingTurn.{BeginSays, EndSays, begin_turn, end_turn}
 
-module _ (set : SetPlan) (at : Key) (pick : Pick) (ask : RangeAsk) (now : ℕ) where
+module _ (set : SetPlan) (at : Key) (pick : Pick) (ask : RangeAsk) (matches : Option (List ℕ)) (now : ℕ) where
   abbrev task : Task
-  task = the_task set at pick ask now
+  task = the_task set at pick ask matches now
 
   abbrev Stands : GetState → Option Pin → Option Reading → Claim → Log → Type 0
   Stands state pin reading claim log = GetStands set task at pick ask state pin reading claim log
@@ -83,8 +83,8 @@ module _ (set : SetPlan) (at : Key) (pick : Pick) (ask : RangeAsk) (now : ℕ) w
   lets_go claim log none = inl (subst (λ (c : Claim). c ≡ no_claim c.slot) (sym none) refl)
 
   -- a refusal is told alone
-  refusal_bare : (why : Refusal) (log : Log) → IsFresh log → GetOwes set at pick ask (reply_of.Refused why) log → IsBare set task (reply_of.Refused why) log
-  refusal_bare why log fresh owed = record { ready = ready set at pick ask now (reply_of.Refused why) log fresh owed; none_after = refl; gives = λ more. refl }
+  refusal_bare : (why : Refusal) (log : Log) → IsFresh log → GetOwes set at pick ask matches (reply_of.Refused why) log → IsBare set task (reply_of.Refused why) log
+  refusal_bare why log fresh owed = record { ready = ready set at pick ask matches now (reply_of.Refused why) log fresh owed; none_after = refl; gives = λ more. refl }
 
   -- after the look
   look_stands : (looked : Looked) (later : GetState) (pin : Option Pin) (reading : Option Reading) (claim : Claim) (log : Log) → Looks looked later
@@ -98,28 +98,39 @@ module _ (set : SetPlan) (at : Key) (pick : Pick) (ask : RangeAsk) (now : ℕ) w
   -- ---- after the begin of the read
 
   -- a reply without bytes
+  unmet_bare : (version : Version) (id : Option VersionName) (told : Reply) (log : Log) → IsFresh log
+      → ReadsKey at pick (reply_of.Found version (whole_of version) id) log → ConditionFails matches version told → IsBare set task told log
+  unmet_bare version id told log fresh reads x = subst (λ r. IsBare set task r log) (sym x.told)
+      (refusal_bare PreconditionFailed log fresh (inr (record {
+        whole = reply_of.Found version (whole_of version) id;
+        reads = reads;
+        tells = inl (record { unmet = x.unmet; told = refl });
+      })))
+
   invalid_bare : (version : Version) (id : Option VersionName) (told : Reply) (log : Log) → IsFresh log
-      → ReadsKey at pick (reply_of.Found version (whole_of version) id) log → IsInvalid version ask told → IsBare set task told log
-  invalid_bare version id told log fresh reads x = subst (λ r. IsBare set task r log) (sym x.told)
+      → ReadsKey at pick (reply_of.Found version (whole_of version) id) log → is_met matches version.what ≡ true → IsInvalid version ask told
+      → IsBare set task told log
+  invalid_bare version id told log fresh reads met x = subst (λ r. IsBare set task r log) (sym x.told)
       (refusal_bare (InvalidRange x.invalid.0) log fresh (inr (record {
         whole = reply_of.Found version (whole_of version) id;
         reads = reads;
-        tells = inr (record { invalid = x.invalid; plans = x.plans; told = refl });
+        tells = inr (met, inr (record { invalid = x.invalid; plans = x.plans; told = refl }));
       })))
 
   empty_bare : (version : Version) (id : Option VersionName) (told : Reply) (log : Log) → IsFresh log
-      → ReadsKey at pick (reply_of.Found version (whole_of version) id) log → IsEmpty version id ask told → IsBare set task told log
-  empty_bare version id told log fresh reads x = subst (λ r. IsBare set task r log) (sym x.told) (record {
-    ready = head_owed set at pick ask now version x.span id [] log x.plans (record { fresh = fresh; reads = reads; none = refl });
+      → ReadsKey at pick (reply_of.Found version (whole_of version) id) log → is_met matches version.what ≡ true → IsEmpty version id ask told
+      → IsBare set task told log
+  empty_bare version id told log fresh reads met x = subst (λ r. IsBare set task r log) (sym x.told) (record {
+    ready = head_owed set at pick ask matches now version x.span id [] log x.plans (record { fresh = fresh; reads = reads; met = met; none = refl });
     none_after = sym x.empty;
     gives = λ more. none_of_version set version.what x.span x.wanted more x.is_wanted;
   })
 
   -- a reading of which nothing is read
   unread : (version : Version) (id : Option VersionName) (r : Reading) (log : Log) → IsFresh log
-      → ReadsKey at pick (reply_of.Found version (whole_of version) id) log → IsOfSpan set ask version id r → IsUnread r
-      → IsFetching set task at pick ask r log
-  unread version id r log fresh reads is x = record {
+      → ReadsKey at pick (reply_of.Found version (whole_of version) id) log → is_met matches version.what ≡ true → IsOfSpan set ask version id r
+      → IsUnread r → IsFetching set task at pick ask r log
+  unread version id r log fresh reads met is x = record {
     version = version;
     id = id;
     of_span = is;
@@ -131,7 +142,8 @@ module _ (set : SetPlan) (at : Key) (pick : Pick) (ask : RangeAsk) (now : ℕ) w
     counted = omega (arith, x.left);
     more = omega (arith, x.left, x.some);
     some = λ told. absurd (not_both r.told x.untold told);
-    has_told = subst (λ t. HasTold set task at pick version r.span id t [] log) (sym x.untold) (record { fresh = fresh; reads = reads; none = refl });
+    has_told = subst (λ t. HasTold set task at pick version r.span id t [] log) (sym x.untold)
+        (record { fresh = fresh; reads = reads; met = met; none = refl });
   }
     where
       is_false : Bool → Type 0
@@ -143,25 +155,27 @@ module _ (set : SetPlan) (at : Key) (pick : Pick) (ask : RangeAsk) (now : ℕ) w
 
   -- what was planned
   plan_stands : (version : Version) (id : Option VersionName) (made : Planned) (later : GetState) (pin : Pin) (reading : Option Reading) (claim : Claim) (log : Log)
-      → PlansSo set version id ask made → Plans made later reading → IsPinClaim (key_slot at) pin claim → IsFresh log
+      → PlansSo set version id ask matches made → Plans made later reading → IsPinClaim (key_slot at) pin claim → IsFresh log
       → ReadsKey at pick (reply_of.Found version (whole_of version) id) log → Stands later (Some pin) reading claim log
-  plan_stands version id (planned_of.Tells told) later pin reading claim log (inl invalid) is holds fresh reads =
-      subst (λ s. Stands s (Some pin) reading claim log) (sym is.0) (holds, invalid_bare version id told log fresh reads invalid)
-  plan_stands version id (planned_of.Tells told) later pin reading claim log (inr empty) is holds fresh reads =
-      subst (λ s. Stands s (Some pin) reading claim log) (sym is.0) (holds, empty_bare version id told log fresh reads empty)
+  plan_stands version id (planned_of.Tells told) later pin reading claim log (inl unmet) is holds fresh reads =
+      subst (λ s. Stands s (Some pin) reading claim log) (sym is.0) (holds, unmet_bare version id told log fresh reads unmet)
+  plan_stands version id (planned_of.Tells told) later pin reading claim log (inr (met, inl invalid)) is holds fresh reads =
+      subst (λ s. Stands s (Some pin) reading claim log) (sym is.0) (holds, invalid_bare version id told log fresh reads met invalid)
+  plan_stands version id (planned_of.Tells told) later pin reading claim log (inr (met, inr empty)) is holds fresh reads =
+      subst (λ s. Stands s (Some pin) reading claim log) (sym is.0) (holds, empty_bare version id told log fresh reads met empty)
   plan_stands version id (planned_of.Reads r) later pin reading claim log so is holds fresh reads =
       subst (λ s. Stands s (Some pin) reading claim log) (sym is.0)
-      (subst (λ o. Stands Fetching (Some pin) o claim log) (sym is.1) (holds, unread version id r log fresh reads so.0 so.1))
+      (subst (λ o. Stands Fetching (Some pin) o claim log) (sym is.1) (holds, unread version id r log fresh reads so.0 so.1 so.2))
   plan_stands version id planned_of.LacksMemory later pin reading claim log so is holds fresh reads =
       subst (λ s. Stands s (Some pin) reading claim log) (sym is.0) (holds, fresh_pays set task log fresh)
 
   -- a refusal of the read is told as it is
-  refused_owed : (why : Refusal) (log : Log) → HeadOwes at pick (reply_of.Refused why) log → GetOwes set at pick ask (reply_of.Refused why) log
+  refused_owed : (why : Refusal) (log : Log) → RefusesRead at pick why log → GetOwes set at pick ask matches (reply_of.Refused why) log
   refused_owed why log (inl before) = inl before
   refused_owed why log (inr reads) = inr (record { whole = reply_of.Refused why; reads = reads; tells = refl })
 
   start_stands : (started : Started) (answer : Result ReadStart SlotFault) (mode : Mode) (begun : Begun) (claim : Claim) (log : Log)
-      → Begins set ask started begun → StartsSo mode answer started → HoldsStart (key_slot at) answer claim → AfterStart at pick started log
+      → Begins set ask matches started begun → StartsSo mode answer started → HoldsStart (key_slot at) answer claim → AfterStart at pick started log
       → Stands begun.state begun.pin begun.reading claim log
   start_stands (started_of.Found version id own) (Ok start) mode begun claim log is so holds x =
       subst (λ p. Stands begun.state p begun.reading claim log) (sym is.0)
@@ -232,7 +246,7 @@ module _ (set : SetPlan) (at : Key) (pick : Pick) (ask : RangeAsk) (now : ℕ) w
     pub begin_so : (mode : Mode) (held : Option Pin) (reading : Option Reading) (state : GetState) (begun : Begun) (answer : Result ReadStart SlotFault)
         (started : Started) (stub : Option Stub) (old new : List D) → state ≡ Beginning mode → was.numbers.index ≡ key_slot at
         → BeginSays ghosts was after at mode pick answer stub old new
-        → Says stub (SaysRead at mode pick answer) → IsDueBy mode pick answer → StartsSo mode answer started → Begins set ask started begun
+        → Says stub (SaysRead at mode pick answer) → IsDueBy mode pick answer → StartsSo mode answer started → Begins set ask matches started begun
         → TurnsSo ghosts (GetStands set task at pick ask state held reading)
         (GetStands set task at pick ask begun.state begun.pin begun.reading) stub was after (views ghosts old) (views ghosts new)
     begin_so mode held reading state begun answer started stub old new is index says said due so goes claim log y =
@@ -271,11 +285,11 @@ module _ (set : SetPlan) (at : Key) (pick : Pick) (ask : RangeAsk) (now : ℕ) w
 abbrev pub StandsAtFirst : GetOp → Type 0
 StandsAtFirst op = (slot : ℕ) × (slot < 64) × StandsFor op (no_claim slot) []
 
-pub begins : (set : SetPlan) (at : Key) (pick : Pick) (ask : RangeAsk) (now : ℕ) (result : Result GetOp NoRoom) → IfOk result (IsNewGet set at pick ask now)
+pub begins : (set : SetPlan) (at : Key) (pick : Pick) (ask : RangeAsk) (matches : Option (List ℕ)) (now : ℕ) (result : Result GetOp NoRoom) → IfOk result (IsNewGet set at pick ask matches now)
     → IfOk result StandsAtFirst
-begins set at pick ask now (Ok op) is = (
+begins set at pick ask matches now (Ok op) is = (
   key_slot op.at,
   key_slot_below op.at,
   subst (λ state. GetStands op.set (get_task op) op.at op.pick op.ask state op.pin op.reading (no_claim (key_slot op.at)) []) (sym is.state_is) ((is.pin_is, refl), refl),
 )
-begins set at pick ask now (Err fault) is = tt
+begins set at pick ask matches now (Err fault) is = tt

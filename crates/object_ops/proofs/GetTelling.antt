@@ -43,9 +43,9 @@ use Rattle.object_ops.proofs.ReadingCalls.{logged_all}
 use Rattle.object_ops.proofs.ReadingFetch.{fetched}
 use Rattle.object_ops.proofs.ReadingPays.{head_cut, head_owed, head_told, of_front, of_version, piece_cut, piece_told, the_task, whole_pays}
 
-module _ (set : SetPlan) (at : Key) (pick : Pick) (ask : RangeAsk) (now : ℕ) where
+module _ (set : SetPlan) (at : Key) (pick : Pick) (ask : RangeAsk) (matches : Option (List ℕ)) (now : ℕ) where
   abbrev task : Task
-  task = the_task set at pick ask now
+  task = the_task set at pick ask matches now
 
   abbrev Stands : GetState → Option Pin → Option Reading → Claim → Log → Type 0
   Stands state pin reading claim log = GetStands set task at pick ask state pin reading claim log
@@ -91,12 +91,12 @@ module _ (set : SetPlan) (at : Key) (pick : Pick) (ask : RangeAsk) (now : ℕ) w
     logged_on telling cut = λ k seen stands. Contains-append_left log (Told telling cut ∷ []) (Called k (seen_in seen)) (x.all_logged k seen stands)
 
     -- the head was told
-    head_gives : r.told ≡ false → TellsNone at pick x.version x.id x.bytes log → IsGiving set task at pick ask later (log ++ Told (TheHead r.reply) None ∷ [])
+    head_gives : r.told ≡ false → TellsNone task at pick x.version x.id x.bytes log → IsGiving set task at pick ask later (log ++ Told (TheHead r.reply) None ∷ [])
     head_gives is none =
         let left : later.left ≡ r.left = tells.left_is ∙ ap (λ b. if b then r.left - length r.reader.piece.items else r.left) is in
         let told : TellsBytes set task x.version r.span x.id [] (log ++ Told (TheHead r.reply) None ∷ []) =
         subst (λ h. TellsBytes set task x.version r.span x.id [] (log ++ Told (TheHead h) None ∷ [])) (sym x.of_span.reply_is)
-        (head_told set at pick ask now x.version r.span x.id log (head_owed set at pick ask now x.version r.span x.id x.bytes log x.of_span.plans none)) in
+        (head_told set at pick ask matches now x.version r.span x.id log (head_owed set at pick ask matches now x.version r.span x.id x.bytes log x.of_span.plans none)) in
         record {
           version = x.version;
           id = x.id;
@@ -123,7 +123,7 @@ module _ (set : SetPlan) (at : Key) (pick : Pick) (ask : RangeAsk) (now : ℕ) w
 
     piece_so : TellsBytes set task x.version r.span x.id x.bytes log
         → TellsBytes set task x.version r.span x.id (x.bytes ++ r.reader.piece.items) (log ++ Told (Piece r.reader.piece.items) None ∷ [])
-    piece_so bytes = piece_told set at pick ask now x.version r.span x.id x.bytes r.reader.piece.items log bytes
+    piece_so bytes = piece_told set at pick ask matches now x.version r.span x.id x.bytes r.reader.piece.items log bytes
 
     -- and more are due
     piece_fetches : r.told ≡ true → 0 < later.left → TellsBytes set task x.version r.span x.id x.bytes log
@@ -147,7 +147,7 @@ module _ (set : SetPlan) (at : Key) (pick : Pick) (ask : RangeAsk) (now : ℕ) w
     -- or it was the last one
     piece_ends : r.told ≡ true → later.left ≡ 0 → TellsBytes set task x.version r.span x.id x.bytes log
         → Pays set task None (log ++ Told (Piece r.reader.piece.items) None ∷ [])
-    piece_ends is none bytes = whole_pays set at pick ask now x.version r.span x.id (x.bytes ++ r.reader.piece.items) (log ++ Told (Piece r.reader.piece.items) None ∷ [])
+    piece_ends is none bytes = whole_pays set at pick ask matches now x.version r.span x.id (x.bytes ++ r.reader.piece.items) (log ++ Told (Piece r.reader.piece.items) None ∷ [])
         (piece_so bytes) (omega (arith, piece_counts is, none))
         (of_version set ask x.version x.id r x.told (x.bytes ++ r.reader.piece.items) (log ++ Told (Piece r.reader.piece.items) None ∷ []) x.of_span
         (logged_on (Piece r.reader.piece.items) None) x.account.exact)
@@ -157,7 +157,7 @@ module _ (set : SetPlan) (at : Key) (pick : Pick) (ask : RangeAsk) (now : ℕ) w
         → TellMoves takes breaks (Piece r.reader.piece.items) (Some cut) old new → Pays set task (Some cut) (log ++ Told (Piece r.reader.piece.items) (Some cut) ∷ [])
     piece_fails takes breaks cut old new bytes moves =
         let asked = r.reader.asked in
-        piece_cut set at pick ask now x.version r.span x.id takes breaks x.bytes r.reader.piece.items log cut old new bytes (omega (arith, x.counted))
+        piece_cut set at pick ask matches now x.version r.span x.id takes breaks x.bytes r.reader.piece.items log cut old new bytes (omega (arith, x.counted))
         (omega (arith, length-append x.bytes r.reader.piece.items, x.counted, x.fits))
         (of_version set ask x.version x.id r x.told x.bytes (log ++ Told (Piece r.reader.piece.items) (Some cut) ∷ []) x.of_span
         (logged_on (Piece r.reader.piece.items) (Some cut))
@@ -187,8 +187,8 @@ module _ (set : SetPlan) (at : Key) (pick : Pick) (ask : RangeAsk) (now : ℕ) w
     by_told takes breaks false (Some cut) pin claim old new is has none moves = (
       has,
       subst (λ h. Pays set task (Some cut) (log ++ Told (TheHead h) (Some cut) ∷ [])) (sym x.of_span.reply_is)
-          (head_cut set at pick ask now x.version r.span x.id takes breaks log cut old new
-          (head_owed set at pick ask now x.version r.span x.id x.bytes log x.of_span.plans none)
+          (head_cut set at pick ask matches now x.version r.span x.id takes breaks log cut old new
+          (head_owed set at pick ask matches now x.version r.span x.id x.bytes log x.of_span.plans none)
           (subst (λ h. TellMoves takes breaks (TheHead h) (Some cut) old new) x.of_span.reply_is moves)),
     )
     by_told takes breaks true None pin claim old new is has bytes moves = by_left pin claim is has bytes
@@ -209,7 +209,7 @@ module _ (set : SetPlan) (at : Key) (pick : Pick) (ask : RangeAsk) (now : ℕ) w
       → CallsSo (GetStands set task at pick ask Fetching pin (Some old)) (GetStands set task at pick ask (fetched_state stepped new.told) pin (Some new)) set
       (views ghosts before) (views ghosts after)
   fetch_so ghosts old new stepped pin before after stays reads read counted long claim log x =
-      let step = fetched ghosts set at pick ask now old new stepped pin claim log before after stays reads read counted long x.0 x.1 in
+      let step = fetched ghosts set at pick ask matches now old new stepped pin claim log before after stays reads read counted long x.0 x.1 in
       (claim, step.0, step.1, step.2, step.3)
 
   -- as the op does it, by its fields

@@ -5,6 +5,7 @@ use Rattle.call_types.specs.declared.feed.Cut.TheVariants.{NoMemory}
 use Rattle.call_types.specs.declared.names.Key.{Key}
 use Rattle.call_types.specs.declared.names.Mode.{Mode}
 use Rattle.call_types.specs.declared.names.Pick.{Pick}
+use Rattle.call_types.specs.declared.refusal.Refusal.{Refusal}
 use Rattle.call_types.specs.declared.refusal.Refusal.TheVariants.{SeqSpent}
 use Rattle.call_types.specs.declared.reply.Reply.{Reply}
 use Rattle.call_types.specs.declared.reply.Reply.TheVariants as reply_of
@@ -28,44 +29,44 @@ use Rattle.receipts.specs.Events.Shown.{NoneShown}
 use Rattle.receipts.specs.Paying.{Pays}
 use Rattle.receipts.specs.Reading.{HeadOwes}
 use Rattle.receipts.specs.Registers.{bucket_register, bucket_slot, key_slot}
-use Rattle.receipts.specs.Spans.{GivesBytes}
+use Rattle.receipts.specs.Spans.{GivesBytes, whole_of}
 use Rattle.receipts.specs.declared.barred.Barred.{Barred}
 use Rattle.receipts.specs.declared.barred.Barred.TheVariants as barred
 use Rattle.receipts.proofs.PayLemmas.{quiet_pays}
 use Rattle.receipts.proofs.RegisterLemmas.{key_slot_below}
+use Rattle.op_steps.specs.BucketLooks.{LooksSo}
 use Rattle.op_steps.specs.Claims.{Claim, no_claim}
 use Rattle.op_steps.specs.Moves.{TellMoves, TurnMoves}
 use Rattle.op_steps.specs.Notes.{noted}
 use Rattle.op_steps.specs.Ready.{IsReady}
 use Rattle.op_steps.specs.Store.{SlotSeen, TellerSeen}
 use Rattle.op_steps.specs.Words.{BarredSo, IsSection, LetsGo, TellsSo, TurnsSo}
+use Rattle.op_steps.specs.declared.looking.Look.{Look}
+use Rattle.op_steps.specs.declared.looking.Looked.{Looked}
+use Rattle.op_steps.specs.declared.looking.Looked.TheVariants as looked_of
 use Rattle.op_steps.proofs.TellLemmas.{told_pays}
 use Rattle.object_ops.specs.Head.{HeadStands, Looks, Starts, barred_after, ending_of, lacks_pin, left_of, step_of}
 use Rattle.object_ops.specs.HeadStands.{StandsFor, head_task}
 use Rattle.object_ops.specs.Reading.{HasPin, HoldsNone, HoldsPin, HoldsStart, IsFresh, IsPinClaim, pinned_claim}
-use Rattle.object_ops.specs.Looking.{LooksSo}
 use Rattle.object_ops.specs.ReadingStart.{StartsSo}
 use Rattle.object_ops.specs.HeadBegin.{IsNewHead}
 use Rattle.object_ops.specs.declared.head_op.HeadOp.{HeadOp}
 use Rattle.object_ops.specs.declared.head_state.HeadState.{HeadState}
 use Rattle.object_ops.specs.declared.head_state.HeadState.TheVariants.{Beginning, Ending, Looking, Over, Telling}
-use Rattle.object_ops.specs.declared.looking.Look.{Look}
-use Rattle.object_ops.specs.declared.looking.Looked.{Looked}
-use Rattle.object_ops.specs.declared.looking.Looked.TheVariants as looked_of
 use Rattle.object_ops.specs.declared.reading_start.Started.{Started}
 use Rattle.object_ops.specs.declared.reading_start.Started.TheVariants as started_of
 use Rattle.object_ops.proofs.ReadingBars.{bar_fresh, bar_lets_go, key_bars, slot_in}
 use Rattle.object_ops.proofs.ReadingLook.{AfterLook, bars, looks}
-use Rattle.object_ops.proofs.ReadingStart.{AfterStart, IsDueBy, starts}
+use Rattle.object_ops.proofs.ReadingStart.{AfterStart, IsDueBy, RefusesRead, starts}
 use Rattle.object_ops.proofs.ReadingTell.{fresh_pays, one_all}
 use Rattle.object_ops.proofs.ReadingTurn.{BeginSays, EndSays, begin_turn, end_turn}
 
-module _ (set : SetPlan) (at : Key) (pick : Pick) (now : ℕ) where
+module _ (set : SetPlan) (at : Key) (pick : Pick) (matches : Option (List ℕ)) (now : ℕ) where
   abbrev the_task : Task
-  the_task = record { call = call_of.Head at pick; now = now }
+  the_task = record { call = call_of.Head at pick matches; now = now }
 
   -- a reply is owed
-  ready : (reply : Reply) (log : Log) → IsFresh log → HeadOwes at pick reply log → IsReady set the_task reply log
+  ready : (reply : Reply) (log : Log) → IsFresh log → HeadOwes at pick matches reply log → IsReady set the_task reply log
   ready reply log fresh owed = record { untold = fresh.untold; uncut = fresh.uncut; owed = (ap length fresh.untaken, owed) }
 
   holds_none : (pin : Option Pin) (claim : Claim) → HoldsNone (key_slot at) pin claim → HoldsPin (key_slot at) pin claim
@@ -84,20 +85,25 @@ module _ (set : SetPlan) (at : Key) (pick : Pick) (now : ℕ) where
   look_stands looked_of.LacksMemory later pin claim log is none x = subst (λ s. HeadStands set the_task at s pin claim log) (sym is)
       (lets_go claim log none.1, fresh_pays set the_task log x)
 
+  -- a refusal of the read is told as it is
+  refused_owed : (why : Refusal) (log : Log) → RefusesRead at pick why log → HeadOwes at pick matches (reply_of.Refused why) log
+  refused_owed why log (inl before) = inl before
+  refused_owed why log (inr reads) = inr (record { whole = reply_of.Refused why; reads = reads; tells = refl })
+
   -- after the begin of the read
   start_stands : (begun : Started) (answer : Result ReadStart SlotFault) (mode : Mode) (later : HeadState) (pin : Option Pin) (claim : Claim) (log : Log)
-      → Starts begun later pin → StartsSo mode answer begun → HoldsStart (key_slot at) answer claim → AfterStart at pick begun log
+      → Starts matches begun later pin → StartsSo mode answer begun → HoldsStart (key_slot at) answer claim → AfterStart at pick begun log
       → HeadStands set the_task at later pin claim log
   start_stands (started_of.Found version id own) (Ok start) mode later pin claim log is so holds x =
-      subst (λ s. HeadStands set the_task at s pin claim log) (sym is.0) (
+      subst (λ s. HeadStands set the_task at s pin claim log) (sym is.0.2) (
         subst (λ p. HoldsPin (key_slot at) p claim) (sym is.1) (subst (λ p. IsPinClaim (key_slot at) p claim) (sym so.2) holds),
-        ready _ log x.0 (inr x.1),
+        ready is.0.0 log x.0 (inr (record { whole = reply_of.Found version (whole_of version) id; reads = x.1; tells = is.0.1 })),
       )
   start_stands (started_of.Found version id own) (Err fault) mode later pin claim log is so holds x = absurd so
   start_stands (started_of.Refused why) (Ok start) mode later pin claim log is so holds x = absurd so
   start_stands (started_of.Refused why) (Err fault) mode later pin claim log is so holds x =
       subst (λ s. HeadStands set the_task at s pin claim log) (sym is.0)
-      (subst (λ p. HoldsPin (key_slot at) p claim) (sym is.1) holds, ready (reply_of.Refused why) log x.0 x.1)
+      (subst (λ p. HoldsPin (key_slot at) p claim) (sym is.1) holds, ready (reply_of.Refused why) log x.0 (refused_owed why log x.1))
   start_stands started_of.LacksMemory (Ok start) mode later pin claim log is so holds x = absurd so
   start_stands started_of.LacksMemory (Err fault) mode later pin claim log is so holds x =
       subst (λ s. HeadStands set the_task at s pin claim log) (sym is.0) (lets_go claim log holds, fresh_pays set the_task log x)
@@ -134,11 +140,11 @@ module _ (set : SetPlan) (at : Key) (pick : Pick) (now : ℕ) where
   barred_so (Over cut) pin why claim log k next x = absurd (subst IsSection (sym next) tt)
 
   -- no bytes follow its head
-  no_bytes : (reply : Reply) (log : Log) → GivesBytes set (call_of.Head at pick) reply [] log
+  no_bytes : (reply : Reply) (log : Log) → GivesBytes set (call_of.Head at pick matches) reply [] log
   no_bytes (reply_of.Found version span id) log = refl
   no_bytes other log = refl
 
-  none_after : (reply : Reply) → 0 ≡ bytes_after reply (call_of.Head at pick)
+  none_after : (reply : Reply) → 0 ≡ bytes_after reply (call_of.Head at pick matches)
   none_after (reply_of.Found version span id) = refl
   none_after other = refl
 
@@ -179,7 +185,7 @@ module _ (set : SetPlan) (at : Key) (pick : Pick) (now : ℕ) where
     -- the begin of the read
     pub begin_so : (mode : Mode) (held pin : Option Pin) (state later : HeadState) (answer : Result ReadStart SlotFault) (begun : Started) (stub : Option Stub)
         (old new : List D) → state ≡ Beginning mode → was.numbers.index ≡ key_slot at → BeginSays ghosts was after at mode pick answer stub old new
-        → Says stub (SaysRead at mode pick answer) → IsDueBy mode pick answer → StartsSo mode answer begun → Starts begun later pin
+        → Says stub (SaysRead at mode pick answer) → IsDueBy mode pick answer → StartsSo mode answer begun → Starts matches begun later pin
         → TurnsSo ghosts (HeadStands set the_task at state held) (HeadStands set the_task at later pin) stub was after
         (views ghosts old) (views ghosts new)
     begin_so mode held pin state later answer begun stub old new is index says said due so goes claim log y =
@@ -229,19 +235,20 @@ looks_left (looked_of.There mode) state is = subst (λ s. left_of s < 4) (sym is
 looks_left (looked_of.Refused why) state is = subst (λ s. left_of s < 4) (sym is) (omega arith)
 looks_left looked_of.LacksMemory state is = subst (λ s. left_of s < 4) (sym is) (omega arith)
 
-pub starts_left : (begun : Started) (state : HeadState) (pin : Option Pin) → Starts begun state pin → left_of state < 3
-starts_left (started_of.Found version id own) state pin is = subst (λ s. left_of s < 3) (sym is.0) (omega arith)
-starts_left (started_of.Refused why) state pin is = subst (λ s. left_of s < 3) (sym is.0) (omega arith)
-starts_left started_of.LacksMemory state pin is = subst (λ s. left_of s < 3) (sym is.0) (omega arith)
+pub starts_left : (matches : Option (List ℕ)) (begun : Started) (state : HeadState) (pin : Option Pin) → Starts matches begun state pin → left_of state < 3
+starts_left matches (started_of.Found version id own) state pin is = subst (λ s. left_of s < 3) (sym is.0.2) (omega arith)
+starts_left matches (started_of.Refused why) state pin is = subst (λ s. left_of s < 3) (sym is.0) (omega arith)
+starts_left matches started_of.LacksMemory state pin is = subst (λ s. left_of s < 3) (sym is.0) (omega arith)
 
 -- what an op stands for that has done nothing yet
 abbrev pub Stands : HeadOp → Type 0
 Stands op = (slot : ℕ) × (slot < 64) × StandsFor op (no_claim slot) []
 
-pub begins : (set : SetPlan) (at : Key) (pick : Pick) (now : ℕ) (result : Result HeadOp NoRoom) → IfOk result (IsNewHead set at pick now) → IfOk result Stands
-begins set at pick now (Ok op) is = (
+pub begins : (set : SetPlan) (at : Key) (pick : Pick) (matches : Option (List ℕ)) (now : ℕ) (result : Result HeadOp NoRoom)
+    → IfOk result (IsNewHead set at pick matches now) → IfOk result Stands
+begins set at pick matches now (Ok op) is = (
   key_slot op.at,
   key_slot_below op.at,
   subst (λ state. HeadStands op.set (head_task op) op.at state op.pin (no_claim (key_slot op.at)) []) (sym is.state_is) ((is.pin_is, refl), refl),
 )
-begins set at pick now (Err fault) is = tt
+begins set at pick matches now (Err fault) is = tt

@@ -16,6 +16,7 @@ use Rattle.op_steps.specs.Notes.{refusal_by}
 use Rattle.op_steps.specs.Words.{IsSection}
 use Rattle.op_steps.specs.declared.next.OpNext.{OpNext}
 use Rattle.op_steps.specs.declared.next.OpNext.TheVariants as next
+use Rattle.op_steps.specs.declared.looking.Looked.{Looked}
 use Rattle.object_ops.specs.Clearing.{RemovesOne, files_left, left_of}
 use Rattle.object_ops.specs.Deletes.{AfterCommit, AfterLook, barred_state, left_at, step_at}
 use Rattle.object_ops.specs.Removing.{AreDue, FileOn, files_of}
@@ -23,7 +24,6 @@ use Rattle.object_ops.specs.declared.clearing.Clearing.{Clearing}
 use Rattle.object_ops.specs.declared.delete_state.DeleteState.{DeleteState}
 use Rattle.object_ops.specs.declared.delete_state.DeleteState.TheVariants.{Committing, Looking, Telling, Told}
 use Rattle.object_ops.specs.declared.deletion.Deletion.{Deletion}
-use Rattle.object_ops.specs.declared.looking.Looked.{Looked}
 use Rattle.object_ops.specs.declared.removal.Removal.{Removal}
 
 -- after the look

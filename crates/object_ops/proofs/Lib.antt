@@ -11,7 +11,6 @@ pub mod GetTelling
 pub mod HeadLemmas
 pub mod KeyCommitLemmas
 pub mod LeftLemmas
-pub mod LookingLemmas
 pub mod LosingLemmas
 pub mod OrderLemmas
 pub mod PutAnswers

@@ -26,14 +26,14 @@ use Rattle.slot_core.specs.declared.fault.SlotFault.{SlotFault}
 use Rattle.slot_core.specs.declared.fault.SlotFault.TheVariants as slot
 use Rattle.slot_core.specs.declared.handles.Flight.{Flight}
 use Rattle.op_steps.specs.Notes.{refusal_by}
+use Rattle.op_steps.specs.declared.looking.Looked.{Looked}
+use Rattle.op_steps.specs.declared.looking.Looked.TheVariants as looked
 use Rattle.object_ops.specs.Clearing.{RemovesOne, files_left, left_of as left_to_clear}
 use Rattle.object_ops.specs.Put.{left_at, long_by, most_calls, step_at, work_step}
 use Rattle.object_ops.specs.PutWork.{BeginsTo, BeginsWork}
 use Rattle.object_ops.specs.Putting.{AfterCommit, AfterLook, BarredAfter, BarredAt, BarredEnd, OwesNext, RefusedBegin}
 use Rattle.object_ops.specs.Removing.{FileOn, files_of}
 use Rattle.object_ops.specs.declared.clearing.Clearing.{Clearing}
-use Rattle.object_ops.specs.declared.looking.Looked.{Looked}
-use Rattle.object_ops.specs.declared.looking.Looked.TheVariants as looked
 use Rattle.object_ops.specs.declared.put_state.PutState.{PutState}
 use Rattle.object_ops.specs.declared.put_state.PutState.TheVariants as state
 use Rattle.object_ops.specs.declared.put_work.Work.{Work}

@@ -33,19 +33,19 @@ use Rattle.receipts.specs.Putting.{IsAgreed, PutOwes, PutsBody}
 use Rattle.receipts.specs.Registers.{bucket_slot, key_slot}
 use Rattle.receipts.specs.declared.barred.Barred.TheVariants as barred
 use Rattle.receipts.proofs.JoinLemmas.{bodies_join, sections_join}
+use Rattle.op_steps.specs.BucketLooks.{SaysBucket}
 use Rattle.op_steps.specs.Claims.{Claim}
 use Rattle.op_steps.specs.Moves.{FeedMoves}
 use Rattle.op_steps.specs.Notes.{noted}
 use Rattle.op_steps.specs.Store.{FeedSeen}
+use Rattle.op_steps.specs.declared.looking.Looked.{Looked}
+use Rattle.op_steps.specs.declared.looking.Looked.TheVariants as looked
 use Rattle.op_steps.proofs.TellLemmas.{cuts_after, none_pays, none_told}
-use Rattle.object_ops.specs.Looking.{SaysBucket}
 use Rattle.object_ops.specs.Put.{PutAsk, task_of}
 use Rattle.object_ops.specs.PutFeeding.{FillsOn, feed_cut}
 use Rattle.object_ops.specs.PutStands.{ClaimsSo, Drains, HasLookedAt, HoldsPut, HoldsRest, IsDecided, PutStandsAt, Stages, no_cells}
 use Rattle.object_ops.specs.Putting.{AfterLook, Answers, OwesNext, refusal_of_stage}
 use Rattle.object_ops.specs.declared.clearing.Clearing.{Clearing}
-use Rattle.object_ops.specs.declared.looking.Looked.{Looked}
-use Rattle.object_ops.specs.declared.looking.Looked.TheVariants as looked
 use Rattle.object_ops.specs.declared.put_state.PutState.{PutState}
 use Rattle.object_ops.specs.declared.put_state.PutState.TheVariants as state
 use Rattle.object_ops.specs.declared.put_work.Work.{Work}

@@ -33,15 +33,16 @@ use Rattle.receipts.specs.Spans.{GivesBytes}
 use Rattle.receipts.specs.Registers.{bucket_register, bucket_slot, key_slot}
 use Rattle.receipts.proofs.JoinLemmas.{bodies_join}
 use Rattle.receipts.proofs.RegisterLemmas.{key_slot_below}
+use Rattle.op_steps.specs.BucketLooks.{LooksSo}
 use Rattle.op_steps.specs.Claims.{Claim, no_claim}
 use Rattle.op_steps.specs.Moves.{CallMoves, FeedMoves, TellMoves, TurnMoves}
 use Rattle.op_steps.specs.Notes.{noted}
 use Rattle.op_steps.specs.Store.{FeedSeen, SlotSeen, TellerSeen}
 use Rattle.op_steps.specs.Words.{CallsSo, FeedsSo, TellsSo, TurnsSo}
+use Rattle.op_steps.specs.declared.looking.Look.{Look}
 use Rattle.op_steps.proofs.TellLemmas.{told_pays}
 use Rattle.object_ops.specs.Clearing.{HasNone, RemovesOne, TakesTrash, files_left, with_taken}
 use Rattle.object_ops.specs.Reading.{HasFound}
-use Rattle.object_ops.specs.Looking.{LooksSo}
 use Rattle.object_ops.specs.Put.{PutAsk, left_at, task_of}
 use Rattle.object_ops.specs.PutBegin.{IsNewPut}
 use Rattle.object_ops.specs.PutStands.{ClaimsSo, HasLookedAt, HoldsPut, HoldsRest, IsSamePut, PutStands, PutStandsAt, Stages, ask_of, no_cells}
@@ -50,7 +51,6 @@ use Rattle.object_ops.specs.PutWork.{BeginsStage, BeginsWork, StepsWork}
 use Rattle.object_ops.specs.Putting.{AfterLook}
 use Rattle.object_ops.specs.Removing.{AreDue, files_of, ids_of}
 use Rattle.object_ops.specs.declared.clearing.Clearing.{Clearing}
-use Rattle.object_ops.specs.declared.looking.Look.{Look}
 use Rattle.object_ops.specs.declared.put_state.PutState.{PutState}
 use Rattle.object_ops.specs.declared.put_state.PutState.TheVariants as state
 use Rattle.object_ops.specs.declared.put_work.Work.{Work}

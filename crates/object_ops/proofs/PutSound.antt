@@ -15,11 +15,11 @@ use Rattle.slot_core.specs.declared.handles.Flight.{Flight}
 use Rattle.receipts.specs.declared.barred.Barred.{Barred}
 use Rattle.receipts.specs.declared.barred.Barred.TheVariants as barred
 use Rattle.op_steps.specs.Notes.{refusal_by}
+use Rattle.op_steps.specs.declared.looking.Looked.{Looked}
+use Rattle.op_steps.specs.declared.looking.Looked.TheVariants as looked
 use Rattle.object_ops.specs.Put.{drives_by, long_by, reach_by}
 use Rattle.object_ops.specs.PutWork.{BeginsTo, BeginsWork}
 use Rattle.object_ops.specs.Putting.{AfterCommit, AfterLook, BarredAfter, BarredAt, BarredEnd, OwesNext, RefusedBegin}
-use Rattle.object_ops.specs.declared.looking.Looked.{Looked}
-use Rattle.object_ops.specs.declared.looking.Looked.TheVariants as looked
 use Rattle.object_ops.specs.declared.put_state.PutState.{PutState}
 use Rattle.object_ops.specs.declared.put_state.PutState.TheVariants as state
 use Rattle.object_ops.specs.declared.put_work.Work.{Work}

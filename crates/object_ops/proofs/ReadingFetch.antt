@@ -83,7 +83,7 @@ lost_later set ask version id reading whys told given log is some all_logged log
     (subst (λ (s : Span). FewBlocks asked.wanted.set (wanted_by asked) (s.at + given) whys log) is.span_is
     (few_blocks asked.wanted.set asked.id asked.wanted.print asked.wanted.reach (asked.span.at + given) whys told log all_logged logged few))
 
-module _ (set : SetPlan) (at : Key) (pick : Pick) (ask : RangeAsk) (now : ℕ) where
+module _ (set : SetPlan) (at : Key) (pick : Pick) (ask : RangeAsk) (matches : Option (List ℕ)) (now : ℕ) where
   -- what is known of a reading behind a step: it is of the same version, what its reader gave is told but for its last piece, and its calls are in the log
   record HasRead (new : Reading) (told : Told) (given bytes : List ℕ) (log : Log) : Type 0 where
     pub version : Version
@@ -95,11 +95,11 @@ module _ (set : SetPlan) (at : Key) (pick : Pick) (ask : RangeAsk) (now : ℕ) w
     pub counted : length bytes + new.left ≡ new.span.length
     pub more : 0 < new.left
     pub some : new.told ≡ true → 0 < length bytes
-    pub has_told : HasTold set (the_task set at pick ask now) at pick version new.span id new.told bytes log
+    pub has_told : HasTold set (the_task set at pick ask matches now) at pick version new.span id new.told bytes log
 
   module _ (new : Reading) (told : Told) (log : Log) where
     -- more calls are due
-    goes : (bytes : List ℕ) → HasRead new told bytes bytes log → IsFetching set (the_task set at pick ask now) at pick ask new log
+    goes : (bytes : List ℕ) → HasRead new told bytes bytes log → IsFetching set (the_task set at pick ask matches now) at pick ask new log
     goes bytes x = record {
       version = x.version;
       id = x.id;
@@ -117,7 +117,7 @@ module _ (set : SetPlan) (at : Key) (pick : Pick) (ask : RangeAsk) (now : ℕ) w
 
     -- a piece is there
     gives : (bytes : List ℕ) → HasRead new told (bytes ++ new.reader.piece.items) bytes log → told.since ≡ [] → 0 < length new.reader.piece.items
-        → length (bytes ++ new.reader.piece.items) ≤ new.reader.asked.span.length → IsGiving set (the_task set at pick ask now) at pick ask new log
+        → length (bytes ++ new.reader.piece.items) ≤ new.reader.asked.span.length → IsGiving set (the_task set at pick ask matches now) at pick ask new log
     gives bytes x turned some within =
         let long : length (bytes ++ new.reader.piece.items) ≡ length bytes + length new.reader.piece.items = length-append bytes new.reader.piece.items in
         let span : new.reader.asked.span.length ≡ new.span.length = ap (λ (s : Span). s.length) x.of_span.span_is in
@@ -143,29 +143,32 @@ module _ (set : SetPlan) (at : Key) (pick : Pick) (ask : RangeAsk) (now : ℕ) w
     -- too few drives gave what is next, before the head was told or after
     few : (whys : List Why) (bytes : List ℕ) (pin : Option Pin) (claim : Claim) (t : Bool) → (x : HasRead new told bytes bytes log) → new.told ≡ t
         → IsRefusedIn new.reader.asked (ShardQuorum whys) told (length bytes) → HasPin (key_slot at) pin claim
-        → GetStands set (the_task set at pick ask now) at pick ask (fetched_state (Refused whys) t) pin (Some new) claim log
+        → GetStands set (the_task set at pick ask matches now) at pick ask (fetched_state (Refused whys) t) pin (Some new) claim log
     few whys bytes pin claim false x is refused has =
-        let none = subst (λ b. HasTold set (the_task set at pick ask now) at pick x.version new.span x.id b bytes log) is x.has_told in
+        let none = subst (λ b. HasTold set (the_task set at pick ask matches now) at pick x.version new.span x.id b bytes log) is x.has_told in
         let some : 0 < new.span.length = omega (arith, x.counted, x.more) in
         let start : new.span.at + length bytes ≡ new.span.at = omega (arith, ap (length {A = ℕ}) none.none) in
         let is_lost = lost set ask x.version x.id new whys told (length bytes) log x.of_span some x.all_logged x.logged refused in (
           may_hold (key_slot at) pin claim has,
           record {
-            ready = ready set at pick ask now (RefusedReply (FewShards whys)) log none.fresh (inr (record {
+            ready = ready set at pick ask matches now (RefusedReply (FewShards whys)) log none.fresh (inr (record {
               whole = Found x.version (whole_of x.version) x.id;
               reads = none.reads;
-              tells = inl (record {
-                span = new.span;
-                plans = x.of_span.plans;
-                told = inr (whys, subst (λ (n : ℕ). BodyIsLost set x.version new.span n whys log) start is_lost, refl);
-              });
+              tells = inr (
+                none.met,
+                inl (record {
+                  span = new.span;
+                  plans = x.of_span.plans;
+                  told = inr (whys, subst (λ (n : ℕ). BodyIsLost set x.version new.span n whys log) start is_lost, refl);
+                }),
+              );
             }));
             none_after = refl;
             gives = λ more. refl;
           },
         )
     few whys bytes pin claim true x is refused has =
-        let told_so = subst (λ b. HasTold set (the_task set at pick ask now) at pick x.version new.span x.id b bytes log) is x.has_told in (
+        let told_so = subst (λ b. HasTold set (the_task set at pick ask matches now) at pick x.version new.span x.id b bytes log) is x.has_told in (
           has,
           record {
             outcome = CutOff (cut_of.ShardCut whys) (tale_of log);
@@ -179,7 +182,7 @@ module _ (set : SetPlan) (at : Key) (pick : Pick) (ask : RangeAsk) (now : ℕ) w
               tale_is = told_so.tale;
               some = x.some is;
               less = omega (arith, x.counted, x.more);
-              front = front_told set at pick ask now x.version new.span x.id bytes log told_so (given_so bytes x);
+              front = front_told set at pick ask matches now x.version new.span x.id bytes log told_so (given_so bytes x);
               wanted = wanted_by new.reader.asked;
               is_wanted = x.of_span.wanted;
               few = lost_later set ask x.version x.id new whys told (length bytes) log x.of_span (x.some is) x.all_logged x.logged refused;
@@ -189,11 +192,11 @@ module _ (set : SetPlan) (at : Key) (pick : Pick) (ask : RangeAsk) (now : ℕ) w
         )
 
     -- there was not enough memory
-    lacks : (bytes : List ℕ) → HasRead new told bytes bytes log → Pays set (the_task set at pick ask now) (Some cut_of.NoMemory) log
-    lacks bytes x = lack_pays set at pick ask now x.version new.span x.id new.told bytes log x.has_told (omega (arith, x.counted)) (given_so bytes x)
+    lacks : (bytes : List ℕ) → HasRead new told bytes bytes log → Pays set (the_task set at pick ask matches now) (Some cut_of.NoMemory) log
+    lacks bytes x = lack_pays set at pick ask matches now x.version new.span x.id new.told bytes log x.has_told (omega (arith, x.counted)) (given_so bytes x)
 
   -- the rest of a reading behind a step
-  module _ (old new : Reading) (log : Log) (x : IsFetching set (the_task set at pick ask now) at pick ask old log) (stays : StaysReading old new) where
+  module _ (old new : Reading) (log : Log) (x : IsFetching set (the_task set at pick ask matches now) at pick ask old log) (stays : StaysReading old new) where
     span_long : new.span.length ≡ old.span.length
     span_long = ap (λ (s : Span). s.length) stays.span_is
 
@@ -220,7 +223,7 @@ module _ (set : SetPlan) (at : Key) (pick : Pick) (ask : RangeAsk) (now : ℕ) w
       more = omega (arith, x.more, stays.left_is);
       some = λ told_now. x.some (sym stays.told_is ∙ told_now);
       has_told = rw (stays.span_is, stays.told_is)
-          (told_on set at pick ask now x.version old.span x.id old.told x.given log (event_of calls) (event_quiet calls) x.has_told);
+          (told_on set at pick ask matches now x.version old.span x.id old.told x.given log (event_of calls) (event_quiet calls) x.has_told);
     }
 
     -- how far the op is then, by what the reader answered
@@ -228,12 +231,12 @@ module _ (set : SetPlan) (at : Key) (pick : Pick) (ask : RangeAsk) (now : ℕ) w
         → HasRead new told (given_after answer new.reader.piece.items x.given) x.given later
         → AnswersBy answer new.reader.asked new.reader.state new.reader.piece.items told (given_after answer new.reader.piece.items x.given)
         → (answer ≡ Ok Piece → told.since ≡ []) → HasPin (key_slot at) pin claim
-        → GetStands set (the_task set at pick ask now) at pick ask (fetched_state stepped new.told) pin (Some new) claim later
+        → GetStands set (the_task set at pick ask matches now) at pick ask (fetched_state stepped new.told) pin (Some new) claim later
     stands_so (Ok More) stepped told later pin claim is r answers turned has =
-        subst (λ s. GetStands set (the_task set at pick ask now) at pick ask (fetched_state s new.told) pin (Some new) claim later) (sym is)
+        subst (λ s. GetStands set (the_task set at pick ask matches now) at pick ask (fetched_state s new.told) pin (Some new) claim later) (sym is)
         (has, goes new told later x.given r)
     stands_so (Ok Piece) stepped told later pin claim is r answers turned has =
-        subst (λ s. GetStands set (the_task set at pick ask now) at pick ask (fetched_state s new.told) pin (Some new) claim later) (sym is)
+        subst (λ s. GetStands set (the_task set at pick ask matches now) at pick ask (fetched_state s new.told) pin (Some new) claim later) (sym is)
         (has, gives new told later x.given r (turned refl) answers.0 answers.1)
     stands_so (Ok Done) stepped told later pin claim is r answers turned has =
         let span : new.reader.asked.span.length ≡ new.span.length = ap (λ (s : Span). s.length) r.of_span.span_is in
@@ -250,24 +253,24 @@ turned_so : (answer : Result ReadStep BodyFault) (old new : State) (told : Told)
     → (told_after (turns answer old new) told calls).since ≡ []
 turned_so answer old new told calls is = subst (λ (a : Result ReadStep BodyFault). (told_after (turns a old new) told calls).since ≡ []) (sym is) refl
 
-module _ {D : Type 0} (ghosts : Ghosts D) (set : SetPlan) (at : Key) (pick : Pick) (ask : RangeAsk) (now : ℕ) where
+module _ {D : Type 0} (ghosts : Ghosts D) (set : SetPlan) (at : Key) (pick : Pick) (ask : RangeAsk) (matches : Option (List ℕ)) (now : ℕ) where
   -- one step of a reading
   pub fetched : (old new : Reading) (stepped : Stepped) (pin : Option Pin) (claim : Claim) (log : Log) (before after : List D) → StaysReading old new
       → ReadsSo ghosts old new stepped before after → AllOnlyRead (views ghosts before) (views ghosts after) → length before ≡ set.drives
-      → length after ≡ length before → HasPin (key_slot at) pin claim → IsFetching set (the_task set at pick ask now) at pick ask old log
+      → length after ≡ length before → HasPin (key_slot at) pin claim → IsFetching set (the_task set at pick ask matches now) at pick ask old log
       → (k : ℕ) × (seen : Seen)
-      × GetStands set (the_task set at pick ask now) at pick ask (fetched_state stepped new.told) pin (Some new) claim (log ++ Called k seen ∷ [])
+      × GetStands set (the_task set at pick ask matches now) at pick ask (fetched_state stepped new.told) pin (Some new) claim (log ++ Called k seen ∷ [])
       × CallMoves set k seen claim claim (views ghosts before) (views ghosts after)
   fetched old new stepped pin claim log before after stays (inl lacks_it) read counted long has x =
       let later = log ++ event_of [] in
       let all : AreLogged (all_calls x.told) later = λ k seen stands. Contains-append_left log (event_of []) (Called k (seen_in seen)) (x.all_logged k seen stands) in
-      let pays : Pays set (the_task set at pick ask now) (Some cut_of.NoMemory) later =
-      lack_pays set at pick ask now x.version old.span x.id old.told x.given later
-      (told_on set at pick ask now x.version old.span x.id old.told x.given log (event_of []) (event_quiet []) x.has_told) (omega (arith, x.counted))
+      let pays : Pays set (the_task set at pick ask matches now) (Some cut_of.NoMemory) later =
+      lack_pays set at pick ask matches now x.version old.span x.id old.told x.given later
+      (told_on set at pick ask matches now x.version old.span x.id old.told x.given log (event_of []) (event_quiet []) x.has_told) (omega (arith, x.counted))
       (of_version set ask x.version x.id old x.told x.given later x.of_span all x.account.exact) in (
         drive_in [],
         gave_in [],
-        subst (λ s. GetStands set (the_task set at pick ask now) at pick ask (fetched_state s new.told) pin (Some new) claim later) (sym lacks_it.0) (has, pays),
+        subst (λ s. GetStands set (the_task set at pick ask matches now) at pick ask (fetched_state s new.told) pin (Some new) claim later) (sym lacks_it.0) (has, pays),
         calls_move ghosts set [] before after claim (omega (arith, counted, set.enough_drives)) long lacks_it.1 read,
       )
   fetched old new stepped pin claim log before after stays (inr stepped_so) read counted long has x =
@@ -284,12 +287,12 @@ module _ {D : Type 0} (ghosts : Ghosts D) (set : SetPlan) (at : Key) (pick : Pic
       let account : IsAccountOf new.reader told given = subst (λ (a : Asked). AreOfState a new.reader.state told given) (sym same) on.0 in
       let answers : AnswersBy answer new.reader.asked new.reader.state piece told given =
       subst (λ (a : Asked). AnswersBy answer a new.reader.state piece told given) (sym same) on.1 in
-      let r = read_on set at pick ask now old new log x stays told given calls account
+      let r = read_on set at pick ask matches now old new log x stays told given calls account
       (all_logged_on ghosts set turned x.told calls log before after are x.all_logged)
       (logged_on ghosts set turned x.told calls log before after are x.all_logged x.logged) in (
         drive_in calls,
         gave_in calls,
-        stands_so set at pick ask now old new log x stays answer stepped told (log ++ event_of calls) pin claim stepped_so.2 r answers
+        stands_so set at pick ask matches now old new log x stays answer stepped told (log ++ event_of calls) pin claim stepped_so.2 r answers
             (turned_so answer old.reader.state new.reader.state x.told calls) has,
         calls_move ghosts set calls before after claim (omega (arith, counted, set.enough_drives)) long are read,
       )

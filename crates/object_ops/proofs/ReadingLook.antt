@@ -17,11 +17,11 @@ use Rattle.receipts.specs.Looks.{EndsAtLook, HasEntry, IsIdle}
 use Rattle.receipts.specs.Paying.{ChangesNothing, LeavesAll}
 use Rattle.receipts.specs.Registers.{bucket_slot}
 use Rattle.receipts.specs.declared.barred.Barred.TheVariants.{Spent}
+use Rattle.op_steps.specs.BucketLooks.{SaysBucket}
 use Rattle.op_steps.specs.Notes.{note_of, noted}
-use Rattle.object_ops.specs.Looking.{SaysBucket}
+use Rattle.op_steps.specs.declared.looking.Looked.{Looked}
+use Rattle.op_steps.specs.declared.looking.Looked.TheVariants as looked_of
 use Rattle.object_ops.specs.Reading.{HasFound, IsFresh}
-use Rattle.object_ops.specs.declared.looking.Looked.{Looked}
-use Rattle.object_ops.specs.declared.looking.Looked.TheVariants as looked_of
 use Rattle.object_ops.proofs.ReadingTell.{none_all, one_all}
 
 -- the entry of a section

@@ -96,12 +96,12 @@ reads_on at pick whole log more quiet x = record {
 untold_tale : (log : Log) (telling : Telling) (cut : Cut) → tale_of (log ++ Told telling (Some cut) ∷ []) ≡ tale_of log
 untold_tale log telling cut = tales_join log (Told telling (Some cut) ∷ []) ∙ append-nil (tale_of log)
 
-module _ (set : SetPlan) (at : Key) (pick : Pick) (ask : RangeAsk) (now : ℕ) where
+module _ (set : SetPlan) (at : Key) (pick : Pick) (ask : RangeAsk) (matches : Option (List ℕ)) (now : ℕ) where
   abbrev pub the_task : Task
-  the_task = record { call = call_of.Get at pick ask; now = now }
+  the_task = record { call = call_of.Get at pick ask matches; now = now }
 
   -- a reply is owed
-  pub ready : (reply : Reply) (log : Log) → IsFresh log → GetOwes set at pick ask reply log → IsReady set the_task reply log
+  pub ready : (reply : Reply) (log : Log) → IsFresh log → GetOwes set at pick ask matches reply log → IsReady set the_task reply log
   ready reply log fresh owed = record { untold = fresh.untold; uncut = fresh.uncut; owed = (ap length fresh.untaken, owed) }
 
   -- it was owed, with events behind it that take nothing and leave no note
@@ -123,10 +123,11 @@ module _ (set : SetPlan) (at : Key) (pick : Pick) (ask : RangeAsk) (now : ℕ) w
 
     -- ---- quiet events
 
-    none_on : (bytes : List ℕ) (log more : Log) → All IsQuiet more → TellsNone at pick version id bytes log → TellsNone at pick version id bytes (log ++ more)
+    none_on : (bytes : List ℕ) (log more : Log) → All IsQuiet more → TellsNone the_task at pick version id bytes log → TellsNone the_task at pick version id bytes (log ++ more)
     none_on bytes log more quiet x = record {
       fresh = quiet_fresh log more quiet x.fresh;
       reads = reads_on at pick (Found version (whole_of version) id) log more quiet x.reads;
+      met = x.met;
       none = x.none;
     }
 
@@ -181,12 +182,12 @@ module _ (set : SetPlan) (at : Key) (pick : Pick) (ask : RangeAsk) (now : ℕ) w
     -- ---- the head
 
     -- it is owed
-    pub head_owed : (bytes : List ℕ) (log : Log) → Plans (body_length version.what) ask (Ok span) → TellsNone at pick version id bytes log
+    pub head_owed : (bytes : List ℕ) (log : Log) → Plans (body_length version.what) ask (Ok span) → TellsNone the_task at pick version id bytes log
         → IsReady set the_task the_reply log
     head_owed bytes log plans x = ready the_reply log x.fresh (inr (record {
       whole = Found version (whole_of version) id;
       reads = x.reads;
-      tells = inl (record { span = span; plans = plans; told = inl refl });
+      tells = inr (x.met, inl (record { span = span; plans = plans; told = inl refl }));
     }))
 
     -- it was told

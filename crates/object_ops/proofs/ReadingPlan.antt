@@ -1,5 +1,5 @@
--- What a version and a range come to, by what the span's plan and the reader say.
-use Rattle.std.proofs.Common.{◌≡◌, ◌+◌, ℕ, List, Option, Ok, inr, refl, subst, sym}
+-- What a version, a condition and a range come to, by what the span's plan and the reader say.
+use Rattle.std.proofs.Common.{◌≡◌, ◌+◌, ℕ, List, Option, Ok, false, true, inr, refl, subst, sym, arith}
 use Rattle.call_types.specs.declared.names.RangeAsk.{RangeAsk}
 use Rattle.call_types.specs.declared.names.Span.{Span}
 use Rattle.call_types.specs.declared.names.VersionName.{VersionName}
@@ -7,27 +7,50 @@ use Rattle.call_types.specs.declared.reply.Reply.TheVariants.{Found}
 use Rattle.call_types.specs.declared.version.Version.{Version}
 use Rattle.call_types.specs.declared.version.What.{What}
 use Rattle.drive_base.specs.declared.plan.SetPlan.{SetPlan}
+use Rattle.get_read.specs.Readers.{Begins}
+use Rattle.get_read.specs.declared.reader.Reader.{Reader}
 use Rattle.span_plan.specs.Span.{Plans}
 use Rattle.stamp_id.specs.declared.version.VersionId.{VersionId}
 use Rattle.receipts.specs.Letters.{Wanted}
-use Rattle.receipts.specs.Reading.{IsWanted}
+use Rattle.receipts.specs.Reading.{IsWanted, is_met}
 use Rattle.receipts.specs.Spans.{body_length}
-use Rattle.object_ops.specs.ReadingPlan.{PlansSo}
-use Rattle.object_ops.specs.declared.reading_plan.Planned.TheVariants.{Tells}
+use Rattle.object_ops.specs.ReadingPlan.{PlansSo, wanted_by}
+use Rattle.object_ops.specs.declared.reading_plan.Planned.TheVariants.{Reads, Tells}
 
 -- what is wanted of a version's body, up to the end of a span
 abbrev pub wanted_so : VersionId → List ℕ → Span → Wanted
 wanted_so id print span = record { id = id; print = print; reach = span.at + span.length }
 
-module _ (set : SetPlan) (version : Version) (id : Option VersionName) (ask : RangeAsk) (what : What) (is : version.what ≡ what) where
+module _ (set : SetPlan) (version : Version) (id : Option VersionName) (ask : RangeAsk) (matches : Option (List ℕ)) (what : What) (is : version.what ≡ what)
+    (met : is_met matches version.what ≡ true) where
   -- the span is empty
   pub empty_so : (span : Span) (wanted : Wanted) → Plans (body_length what) ask (Ok span) → span.length ≡ 0 → IsWanted what span wanted
-      → PlansSo set version id ask (Tells (Found version span id))
-  empty_so span wanted plans empty is_wanted = inr (record {
-    span = span;
-    plans = subst (λ w. Plans (body_length w) ask (Ok span)) (sym is) plans;
-    empty = empty;
-    wanted = wanted;
-    is_wanted = subst (λ w. IsWanted w span wanted) (sym is) is_wanted;
-    told = refl;
-  })
+      → PlansSo set version id ask matches (Tells (Found version span id))
+  empty_so span wanted plans empty is_wanted = inr (
+    met,
+    inr (record {
+      span = span;
+      plans = subst (λ w. Plans (body_length w) ask (Ok span)) (sym is) plans;
+      empty = empty;
+      wanted = wanted;
+      is_wanted = subst (λ w. IsWanted w span wanted) (sym is) is_wanted;
+      told = refl;
+    }),
+  )
+
+  -- it has bytes, which a reader is to give
+  pub reads_so : (data_id : VersionId) (print : List ℕ) (span : Span) (reader : Reader) → Plans (body_length what) ask (Ok span) → (span.length ≡ 0 → ⊥)
+      → Begins set print data_id span reader → IsWanted what span (wanted_by reader.asked)
+      → PlansSo set version id ask matches
+      (Reads (record { reader = reader; reply = Found version span id; span = span; left = span.length; told = false; calls = 18446744073709551615 }))
+  reads_so data_id print span reader plans some begins is_wanted = (
+    met,
+    record {
+      plans = subst (λ w. Plans (body_length w) ask (Ok span)) (sym is) plans;
+      reply_is = refl;
+      wanted = subst (λ w. IsWanted w span (wanted_by reader.asked)) (sym is) is_wanted;
+      set_is = begins.set_is;
+      span_is = begins.span_is;
+    },
+    record { some = omega (arith, some); left = refl; few = omega arith; untold = refl; none = begins.none },
+  )

@@ -1,5 +1,5 @@
 -- What the log has after the begin of a read.
-use Rattle.std.proofs.Common.{◌≡◌, ◌∙◌, ℕ, Bool, List, [], ◌∷◌, ◌++◌, Option, Some, None, Result, Ok, Err, option_and_then, inl, inr, refl, sym, ap, subst}
+use Rattle.std.proofs.Common.{◌≡◌, ◌⊎◌, ◌∙◌, ℕ, Bool, List, [], ◌∷◌, ◌++◌, Option, Some, None, Result, Ok, Err, option_and_then, inl, inr, refl, sym, ap, subst}
 use Rattle.audit_trail.specs.declared.entry.Deed.{Deed}
 use Rattle.audit_trail.specs.declared.entry.Deed.TheVariants.{Done, Kept}
 use Rattle.audit_trail.specs.declared.entry.Entry.{Entry}
@@ -35,7 +35,7 @@ use Rattle.receipts.specs.Events.Event.{Turned}
 use Rattle.receipts.specs.Events.Shown.{NoneShown}
 use Rattle.receipts.specs.Looks.{IsIdle}
 use Rattle.receipts.specs.Paying.{LeavesAll}
-use Rattle.receipts.specs.Reading.{HeadOwes, ReadsKey}
+use Rattle.receipts.specs.Reading.{EndsBeforeRead, ReadsKey}
 use Rattle.receipts.specs.Registers.{key_register, key_slot}
 use Rattle.receipts.specs.Spans.{body_length as receipt_length, whole_of}
 use Rattle.receipts.proofs.JoinLemmas.{sections_join}
@@ -95,9 +95,13 @@ read_leaves at mode pick (Err (NotInFlight id)) deed is = absurd is
 
 -- ---- the log after it
 
+-- a read is refused: it ended before its section found a version, or by the state of the key
+abbrev pub RefusesRead : TheKey → Pick → Refusal → Log → Type 0
+RefusesRead at pick why log = EndsBeforeRead at (reply_of.Refused why) log ⊎ ReadsKey at pick (reply_of.Refused why) log
+
 abbrev pub AfterStart : TheKey → Pick → Started → Log → Type 0
 AfterStart at pick (started.Found version id pin) log = IsFresh log × ReadsKey at pick (reply_of.Found version (whole_of version) id) log
-AfterStart at pick (started.Refused why) log = IsFresh log × HeadOwes at pick (reply_of.Refused why) log
+AfterStart at pick (started.Refused why) log = IsFresh log × RefusesRead at pick why log
 AfterStart at pick started.LacksMemory log = IsFresh log
 
 -- the sections after it
@@ -130,7 +134,7 @@ module _ (at : TheKey) (mode : Mode) (pick : Pick) (numbers : SlotNumbers) (log 
 
   -- the read was refused
   refused_start : (fault : SlotFault) (made : Stub) (why : Refusal) → made.slot ≡ numbers.index → made.fault ≡ Some fault
-      → IsIdle (key_slot at) (key_register at) (note_of made) → IsOfFault fault why → HeadOwes at pick (reply_of.Refused why) (now_log (Some made))
+      → IsIdle (key_slot at) (key_register at) (note_of made) → IsOfFault fault why → RefusesRead at pick why (now_log (Some made))
   refused_start fault made why slot is idle told = inl (inr (inl (record {
     look = found.look;
     own = record { note = note_of made; shown = NoneShown };
@@ -143,8 +147,8 @@ module _ (at : TheKey) (mode : Mode) (pick : Pick) (numbers : SlotNumbers) (log 
 
   -- it wrote none
   bare_start : (fault : SlotFault) (stub : Option Stub) (why : Refusal) → WritesNone numbers fault stub → IsOfFault fault why
-      → HeadOwes at pick (reply_of.Refused why) (now_log stub)
-  bare_start fault stub why x told = subst (λ s. HeadOwes at pick (reply_of.Refused why) (now_log s)) (sym x.1)
+      → RefusesRead at pick why (now_log stub)
+  bare_start fault stub why x told = subst (λ s. RefusesRead at pick why (now_log s)) (sym x.1)
       (refused_start fault x.0 why x.2.slot x.2.fault_is (inl x.2.entry_is) told)
 
   abbrev Said : Result ReadStart SlotFault → Option Stub → Type 0
@@ -166,13 +170,13 @@ module _ (at : TheKey) (mode : Mode) (pick : Pick) (numbers : SlotNumbers) (log 
 
   -- what a refusal leaves
   refused : (fault : SlotFault) (stub : Option Stub) (why : Refusal) → StubOfEntry {T = ReadStart} numbers (Err fault) stub → Said (Err fault) stub
-      → IsDueBy mode pick (Err fault) → RefusesSo fault why → HeadOwes at pick (reply_of.Refused why) (now_log stub)
+      → IsDueBy mode pick (Err fault) → RefusesSo fault why → RefusesRead at pick why (now_log stub)
   refused (Key refusal) stub why x says due told =
-      subst (λ r. HeadOwes at pick (reply_of.Refused r) (now_log stub)) (sym told)
+      subst (λ r. RefusesRead at pick r (now_log stub)) (sym told)
       (inr (read_start (Err (Key refusal)) (reply_of.Refused (refusal_of refusal)) (Some (Key refusal)) stub x says (λ entry deed. deed) due))
   refused (Quorum fault) stub why x says due told =
       let s = of_entry (Err (Quorum fault)) (Some (Quorum fault)) stub x says in
-      subst (λ s. HeadOwes at pick (reply_of.Refused why) (now_log s)) (sym x.1)
+      subst (λ s. RefusesRead at pick why (now_log s)) (sym x.1)
       (refused_start (Quorum fault) x.0 why x.2.2.slot x.2.2.fault_is
       (inr (has_entry (key_slot at) (key_register at) Kept numbers x.2.0 (Some (Quorum fault)) x.0 index x.2.1 x.2.2 s.name_is s.deed_is)) told)
   refused SeqSpent stub why x says due told = bare_start SeqSpent stub why x told

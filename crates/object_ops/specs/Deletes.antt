@@ -28,6 +28,8 @@ use Rattle.op_steps.specs.Notes.{refusal_by}
 use Rattle.op_steps.specs.Ready.{IsReady}
 use Rattle.op_steps.specs.declared.next.OpNext.{OpNext}
 use Rattle.op_steps.specs.declared.next.OpNext.TheVariants as next
+use Rattle.op_steps.specs.declared.looking.Looked.{Looked}
+use Rattle.op_steps.specs.declared.looking.Looked.TheVariants.{LacksMemory, Refused, There}
 use Rattle.object_ops.specs.Clearing.{HasNone, files_left, left_of as left_to_clear, next_of, with_taken}
 use Rattle.object_ops.specs.Reading.{HasFound}
 use Rattle.object_ops.specs.Removing.{ids_of}
@@ -35,8 +37,6 @@ use Rattle.object_ops.specs.declared.clearing.Clearing.{Clearing}
 use Rattle.object_ops.specs.declared.delete_op.DeleteOp.{DeleteOp}
 use Rattle.object_ops.specs.declared.delete_state.DeleteState.{DeleteState}
 use Rattle.object_ops.specs.declared.delete_state.DeleteState.TheVariants.{Committing, Looking, Telling, Told}
-use Rattle.object_ops.specs.declared.looking.Looked.{Looked}
-use Rattle.object_ops.specs.declared.looking.Looked.TheVariants.{LacksMemory, Refused, There}
 
 -- a call deletes an object
 abbrev pub IsDelete : Call → Type 0

@@ -22,6 +22,8 @@ use Rattle.op_steps.specs.Ready.{IsReady}
 use Rattle.op_steps.specs.Words.{LetsGo}
 use Rattle.op_steps.specs.declared.next.OpNext.{OpNext}
 use Rattle.op_steps.specs.declared.next.OpNext.TheVariants as next
+use Rattle.op_steps.specs.declared.looking.Looked.{Looked}
+use Rattle.op_steps.specs.declared.looking.Looked.TheVariants as looked
 use Rattle.object_ops.specs.Reading.{HasFound, HasPin, HoldsNone, HoldsPin}
 use Rattle.object_ops.specs.ReadingTold.{IsFetching, IsGiving}
 use Rattle.object_ops.specs.declared.get_state.GetState.{GetState}
@@ -29,8 +31,6 @@ use Rattle.object_ops.specs.declared.get_state.GetState.TheVariants.{Beginning, 
 use Rattle.object_ops.specs.declared.reading.Reading.{Reading}
 use Rattle.object_ops.specs.declared.reading.Stepped.{Stepped}
 use Rattle.object_ops.specs.declared.reading.Stepped.TheVariants as stepped
-use Rattle.object_ops.specs.declared.looking.Looked.{Looked}
-use Rattle.object_ops.specs.declared.looking.Looked.TheVariants as looked
 use Rattle.object_ops.specs.declared.reading_plan.Planned.{Planned}
 use Rattle.object_ops.specs.declared.reading_plan.Planned.TheVariants as planned
 

@@ -1,5 +1,5 @@
 -- How far a GetObject is after its steps.
-use Rattle.std.specs.Prelude.{◌≡◌, ℕ, Bool, true, false, Option, Some, None, nat_lt, if◌then◌else◌}
+use Rattle.std.specs.Prelude.{◌≡◌, ℕ, List, Bool, true, false, Option, Some, None, nat_lt, if◌then◌else◌}
 use Rattle.call_types.specs.declared.feed.Cut.{Cut}
 use Rattle.call_types.specs.declared.feed.Cut.TheVariants.{NoMemory}
 use Rattle.call_types.specs.declared.names.RangeAsk.{RangeAsk}
@@ -15,11 +15,11 @@ use Rattle.object_ops.specs.declared.reading_start.Started.{Started}
 use Rattle.object_ops.specs.declared.reading_start.Started.TheVariants.{Found, LacksMemory, Refused}
 
 -- after the begin of its read: what was planned for the version that was found, with its pin
-abbrev pub Begins : SetPlan → RangeAsk → Started → Begun → Type 0
-Begins set ask (Found version id pin) begun =
-    (begun.pin ≡ Some pin) × ((made : Planned) × PlansSo set version id ask made × Plans made begun.state begun.reading)
-Begins set ask (Refused why) begun = (begun.pin ≡ None) × (begun.state ≡ Telling (reply.Refused why)) × (begun.reading ≡ None)
-Begins set ask LacksMemory begun = (begun.pin ≡ None) × (begun.state ≡ Over (Some NoMemory)) × (begun.reading ≡ None)
+abbrev pub Begins : SetPlan → RangeAsk → Option (List ℕ) → Started → Begun → Type 0
+Begins set ask matches (Found version id pin) begun =
+    (begun.pin ≡ Some pin) × ((made : Planned) × PlansSo set version id ask matches made × Plans made begun.state begun.reading)
+Begins set ask matches (Refused why) begun = (begun.pin ≡ None) × (begun.state ≡ Telling (reply.Refused why)) × (begun.reading ≡ None)
+Begins set ask matches LacksMemory begun = (begun.pin ≡ None) × (begun.state ≡ Over (Some NoMemory)) × (begun.reading ≡ None)
 
 -- after the head or a piece was told: the piece comes next, or a call of a data drive, or nothing
 abbrev pub told_state : ℕ → Bool → Option Cut → GetState

@@ -1,15 +1,17 @@
 -- What a HeadObject does.
-use Rattle.std.specs.Prelude.{◌≡◌, ℕ, Bool, true, false, [], Option, Some, None}
+use Rattle.std.specs.Prelude.{◌≡◌, ℕ, List, Bool, true, false, [], Option, Some, None}
 use Rattle.call_types.specs.declared.feed.Cut.{Cut}
 use Rattle.call_types.specs.declared.feed.Cut.TheVariants.{NoMemory}
 use Rattle.call_types.specs.declared.names.Key.{Key}
 use Rattle.call_types.specs.declared.refusal.Refusal.TheVariants.{SeqSpent}
+use Rattle.call_types.specs.declared.reply.Reply.{Reply}
 use Rattle.call_types.specs.declared.reply.Reply.TheVariants as reply
 use Rattle.desk_base.specs.Answering.{Task}
 use Rattle.drive_base.specs.declared.plan.SetPlan.{SetPlan}
 use Rattle.slot_core.specs.declared.handles.Pin.{Pin}
 use Rattle.receipts.specs.Events.{Log}
 use Rattle.receipts.specs.Paying.{Pays}
+use Rattle.receipts.specs.Reading.{TellsHead}
 use Rattle.receipts.specs.Registers.{bucket_slot, key_slot}
 use Rattle.receipts.specs.Spans.{whole_of}
 use Rattle.receipts.specs.declared.barred.Barred.{Barred}
@@ -19,11 +21,11 @@ use Rattle.op_steps.specs.Ready.{IsReady}
 use Rattle.op_steps.specs.Words.{LetsGo}
 use Rattle.op_steps.specs.declared.next.OpNext.{OpNext}
 use Rattle.op_steps.specs.declared.next.OpNext.TheVariants as next
+use Rattle.op_steps.specs.declared.looking.Looked.{Looked}
+use Rattle.op_steps.specs.declared.looking.Looked.TheVariants as looked
 use Rattle.object_ops.specs.Reading.{HasFound, HasPin, HoldsNone, HoldsPin}
 use Rattle.object_ops.specs.declared.head_state.HeadState.{HeadState}
 use Rattle.object_ops.specs.declared.head_state.HeadState.TheVariants.{Beginning, Ending, Looking, Over, Telling}
-use Rattle.object_ops.specs.declared.looking.Looked.{Looked}
-use Rattle.object_ops.specs.declared.looking.Looked.TheVariants as looked
 use Rattle.object_ops.specs.declared.reading_start.Started.{Started}
 use Rattle.object_ops.specs.declared.reading_start.Started.TheVariants as started
 
@@ -70,10 +72,11 @@ Looks (looked.Refused why) state = state ≡ Telling (reply.Refused why)
 Looks looked.LacksMemory state = state ≡ Over (Some NoMemory)
 
 -- after the begin of the read, with its pin
-abbrev pub Starts : Started → HeadState → Option Pin → Type 0
-Starts (started.Found version id pin) state held = (state ≡ Telling (reply.Found version (whole_of version) id)) × (held ≡ Some pin)
-Starts (started.Refused why) state held = (state ≡ Telling (reply.Refused why)) × (held ≡ None)
-Starts started.LacksMemory state held = (state ≡ Over (Some NoMemory)) × (held ≡ None)
+abbrev pub Starts : Option (List ℕ) → Started → HeadState → Option Pin → Type 0
+Starts matches (started.Found version id pin) state held =
+    ((told : Reply) × TellsHead matches (reply.Found version (whole_of version) id) told × (state ≡ Telling told)) × (held ≡ Some pin)
+Starts matches (started.Refused why) state held = (state ≡ Telling (reply.Refused why)) × (held ≡ None)
+Starts matches started.LacksMemory state held = (state ≡ Over (Some NoMemory)) × (held ≡ None)
 
 -- after the telling: a read that has a pin ends
 abbrev pub ending_of : Option Pin → Option Cut → HeadState

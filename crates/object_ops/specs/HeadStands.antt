@@ -9,7 +9,7 @@ use Rattle.object_ops.specs.declared.head_op.HeadOp.{HeadOp}
 
 -- what is asked
 abbrev pub head_task : HeadOp → Task
-head_task op = record { call = call.Head op.at op.pick; now = op.now }
+head_task op = record { call = call.Head op.at op.pick op.matches; now = op.now }
 
 abbrev pub StandsFor : HeadOp → Claim → Log → Type 0
 StandsFor op claim log = HeadStands op.set (head_task op) op.at op.state op.pin claim log
@@ -19,4 +19,5 @@ pub record StaysHead (old new : HeadOp) : Type 0 where
   pub set_is : new.set ≡ old.set
   pub at_is : new.at ≡ old.at
   pub pick_is : new.pick ≡ old.pick
+  pub matches_is : new.matches ≡ old.matches
   pub now_is : new.now ≡ old.now

@@ -9,7 +9,6 @@ pub mod GetSteps
 pub mod Head
 pub mod HeadBegin
 pub mod HeadStands
-pub mod Looking
 pub mod Put
 pub mod PutBegin
 pub mod PutFeeding

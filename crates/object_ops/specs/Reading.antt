@@ -3,7 +3,6 @@ use Rattle.std.specs.Prelude.{◌≡◌, ◌⊎◌, ℕ, List, [], ◌∷◌, Al
 use Rattle.call_types.specs.declared.names.Key.{Key}
 use Rattle.call_types.specs.declared.names.Mode.{Mode}
 use Rattle.call_types.specs.declared.names.Pick.{Pick}
-use Rattle.call_types.specs.declared.names.RangeAsk.{RangeAsk}
 use Rattle.desk_base.specs.declared.call.Call.{Call}
 use Rattle.desk_base.specs.declared.call.Call.TheVariants.{Get, Head}
 use Rattle.slot_data.specs.Holding.{Pinned}
@@ -16,9 +15,11 @@ use Rattle.receipts.specs.Looks.{FindsBucket}
 use Rattle.receipts.specs.Paying.{ChangesNothing}
 use Rattle.op_steps.specs.Claims.{Claim, no_claim}
 
--- a call reads a key: its head, or its body too
-abbrev pub IsReadOf : Key → Pick → Call → Type 0
-IsReadOf at pick call = (call ≡ Head at pick) ⊎ ((ask : RangeAsk) × (call ≡ Get at pick ask))
+-- the `If-Match` of a call
+abbrev pub matches_of : Call → Option (List ℕ)
+matches_of (Get at pick ask matches) = matches
+matches_of (Head at pick matches) = matches
+matches_of other = None
 
 -- a pin of a slot is all that is held
 abbrev pub pinned_claim : ℕ → Pinned → Claim

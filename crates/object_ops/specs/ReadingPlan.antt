@@ -1,5 +1,5 @@
--- What a version and a range come to.
-use Rattle.std.specs.Prelude.{◌≡◌, ◌⊎◌, ◌<◌, ◌^◌, ℕ, false, [], Option, Some, None, Ok, Err}
+-- What a version, a condition and a range come to.
+use Rattle.std.specs.Prelude.{◌≡◌, ◌⊎◌, ◌<◌, ◌^◌, ℕ, List, true, false, [], Option, Some, None, Ok, Err}
 use Rattle.call_types.specs.declared.names.RangeAsk.{RangeAsk}
 use Rattle.call_types.specs.declared.names.Span.{Span}
 use Rattle.call_types.specs.declared.names.VersionName.{VersionName}
@@ -13,7 +13,7 @@ use Rattle.get_read.specs.declared.state.Asked.{Asked}
 use Rattle.span_plan.specs.Span.{Plans}
 use Rattle.span_plan.specs.declared.ranges.InvalidRange.{InvalidRange}
 use Rattle.receipts.specs.Letters.{Wanted}
-use Rattle.receipts.specs.Reading.{IsWanted}
+use Rattle.receipts.specs.Reading.{ConditionFails, IsWanted, is_met}
 use Rattle.receipts.specs.Spans.{body_length}
 use Rattle.object_ops.specs.declared.reading.Reading.{Reading}
 use Rattle.object_ops.specs.declared.reading_plan.Planned.{Planned}
@@ -59,8 +59,9 @@ pub record IsUnread (reading : Reading) : Type 0 where
   pub untold : reading.told ≡ false
   pub none : IsAccountOf reading.reader (record { before = []; since = [] }) []
 
--- a reply that no bytes follow, or a reading, or nothing for want of memory
-abbrev pub PlansSo : SetPlan → Version → Option VersionName → RangeAsk → Planned → Type 0
-PlansSo set version id ask (Tells reply) = IsInvalid version ask reply ⊎ IsEmpty version id ask reply
-PlansSo set version id ask (Reads reading) = IsOfSpan set ask version id reading × IsUnread reading
-PlansSo set version id ask LacksMemory = Unit {0}
+-- a reply that no bytes follow, or a reading, or nothing for want of memory. The range is looked at only where the condition holds
+abbrev pub PlansSo : SetPlan → Version → Option VersionName → RangeAsk → Option (List ℕ) → Planned → Type 0
+PlansSo set version id ask matches (Tells reply) = ConditionFails matches version reply
+    ⊎ ((is_met matches version.what ≡ true) × (IsInvalid version ask reply ⊎ IsEmpty version id ask reply))
+PlansSo set version id ask matches (Reads reading) = (is_met matches version.what ≡ true) × IsOfSpan set ask version id reading × IsUnread reading
+PlansSo set version id ask matches LacksMemory = Unit {0}

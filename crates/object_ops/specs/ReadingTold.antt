@@ -12,17 +12,18 @@ use Rattle.drive_base.specs.declared.plan.SetPlan.{SetPlan}
 use Rattle.get_read.specs.Readers.{IsAccountOf, Told, all_calls}
 use Rattle.receipts.specs.Events.{Log, cuts_of, tale_of}
 use Rattle.receipts.specs.Paying.{IsTaleOf, WasOwed}
-use Rattle.receipts.specs.Reading.{ReadsKey}
+use Rattle.receipts.specs.Reading.{ReadsKey, is_met}
 use Rattle.receipts.specs.Spans.{whole_of}
-use Rattle.object_ops.specs.Reading.{IsFresh}
+use Rattle.object_ops.specs.Reading.{IsFresh, matches_of}
 use Rattle.object_ops.specs.ReadingLog.{AreLogged, IsLogged}
 use Rattle.object_ops.specs.ReadingPlan.{IsOfSpan}
 use Rattle.object_ops.specs.declared.reading.Reading.{Reading}
 
--- the key was read, and nothing told yet
-pub record TellsNone (at : Key) (pick : Pick) (version : Version) (id : Option VersionName) (bytes : List ℕ) (log : Log) : Type 0 where
+-- the key was read, the condition of the call holds, and nothing was told yet
+pub record TellsNone (task : Task) (at : Key) (pick : Pick) (version : Version) (id : Option VersionName) (bytes : List ℕ) (log : Log) : Type 0 where
   pub fresh : IsFresh log
   pub reads : ReadsKey at pick (Found version (whole_of version) id) log
+  pub met : is_met (matches_of task.call) version.what ≡ true
   pub none : bytes ≡ []
 
 -- the head was told when it was owed, and behind it these bytes
@@ -33,7 +34,7 @@ pub record TellsBytes (set : SetPlan) (task : Task) (version : Version) (span : 
 
 -- by whether the head was told
 abbrev pub HasTold : SetPlan → Task → Key → Pick → Version → Span → Option VersionName → Bool → List ℕ → Log → Type 0
-HasTold set task at pick version span id false bytes log = TellsNone at pick version id bytes log
+HasTold set task at pick version span id false bytes log = TellsNone task at pick version id bytes log
 HasTold set task at pick version span id true bytes log = TellsBytes set task version span id bytes log
 
 -- a call of a data drive is due: all that its reader gave was told, the calls of the reader are in the log, and a head that was told has bytes behind it

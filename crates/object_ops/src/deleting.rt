@@ -7,10 +7,9 @@ ghost use Rattle.drive_base.specs.declared.drive.TheConstants.{LONGEST_NAME};
 
 use crate::delete_state::DeleteState;
 use crate::deletion::Deletion;
-use crate::looking::Looked;
 use call_types::{Act, Cut, Key, Mode, Pick, Refusal, Reply};
 use fault_base::NoMemory;
-use op_steps::call_refusal;
+use op_steps::{Looked, call_refusal};
 use receipts::Barred;
 use slot_core::{Commit, Committed, SlotFault};
 use std::alloc::Global;

@@ -5,6 +5,7 @@ ghost use Rattle.desk_base.specs.Calls.{IsKey};
 ghost use Rattle.op_steps.specs.Claims.{no_claim};
 ghost use Rattle.object_ops.specs.GetBegin.{IsGet, IsNewGet};
 
+use crate::condition::copied;
 use crate::get_op::GetOp;
 use crate::get_state::GetState;
 use call_types::{Key, Pick, RangeAsk};
@@ -12,6 +13,7 @@ use desk_base::Call;
 use drive_base::SetPlan;
 use fault_base::NoMemory;
 use op_steps::Op;
+use seal_file::Text;
 use slot_history::bucket_name;
 use std::alloc::Global;
 
@@ -25,7 +27,12 @@ impl GetOp {
         ensures begins { IfOk result (λ op. (slot : ℕ) × (slot < 64) × ⟦<GetOp as Op>⟧.stands op (no_claim slot) []) }
     {
         match call {
-            Call::Get { at, pick, ask } => GetOp::of(alloc, set, at, *pick, *ask, now),
+            Call::Get {
+                at,
+                pick,
+                ask,
+                matches,
+            } => GetOp::of(alloc, set, at, *pick, *ask, matches, now),
             _ => Err(NoMemory),
         }
     }
@@ -37,18 +44,21 @@ impl GetOp {
         at: &Key,
         pick: Pick,
         ask: RangeAsk,
+        matches: &Option<Text>,
         now: u64,
     ) -> Result<GetOp, NoMemory>
         requires { IsKey at.now }
-        ensures { IfOk result (IsNewGet set at.now pick ask now) }
+        ensures { IfOk result (IsNewGet set at.now pick ask matches.now now) }
     {
         let name = bucket_name(alloc, &at.bucket)?;
         let key = at.clone()?;
+        let own_matches = copied(matches)?;
         Ok(GetOp {
             set,
             at: key,
             pick,
             ask,
+            matches: own_matches,
             name,
             now,
             state: GetState::Looking,

@@ -10,6 +10,7 @@ use crate::get_state::GetState;
 use crate::reading::Reading;
 use call_types::{Key, Pick, RangeAsk};
 use drive_base::SetPlan;
+use seal_file::Text;
 use slot_core::Pin;
 
 /// GetObject, step by step: a look at the bucket, the begin of a read of the key, the calls of the data drives with the reply between them, and the end of
@@ -24,6 +25,8 @@ pub struct GetOp {
     pub(crate) pick: Pick,
     /// The part of its body that is asked for.
     pub(crate) ask: RangeAsk,
+    /// The value of its `If-Match`.
+    pub(crate) matches: Option<Text>,
     /// The name of the bucket's register.
     pub(crate) name: String,
     /// The Unix second of the call.

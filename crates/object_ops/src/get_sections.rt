@@ -16,7 +16,6 @@ ghost use Rattle.object_ops.specs.declared.get_state.GetState.TheVariants as sta
 use crate::get_op::GetOp;
 use crate::get_state::{GetState, go_to};
 use crate::get_tell::put_in;
-use crate::looking::{Looked, look_at_bucket};
 use crate::pins::pin_out;
 use crate::reading::Reading;
 use crate::reading_plan::{Planned, planned_of};
@@ -24,6 +23,8 @@ use crate::reading_start::{Started, started_of};
 use audit_trail::Audit;
 use call_types::{Cut, Mode, RangeAsk, Reply};
 use drive_base::{Drive, SetPlan};
+use op_steps::{Looked, look_at_bucket};
+use seal_file::Text;
 use slot_core::{Pin, Slot, Stub};
 use std::alloc::Global;
 
@@ -61,14 +62,20 @@ pub(crate) struct Begun {
 }
 
 /// How far a GetObject is after the begin of its read.
-fn begun_of(alloc: Global, set: &SetPlan, ask: &RangeAsk, started: Started) -> Begun
-    ensures begins { Begins set.now ask.now started result }
+fn begun_of(
+    alloc: Global,
+    set: &SetPlan,
+    ask: &RangeAsk,
+    matches: &Option<Text>,
+    started: Started,
+) -> Begun
+    ensures begins { Begins set.now ask.now matches.now started result }
     ensures held { lacks_pin result.state result.pin ≡ false }
     ensures same_drives { drives_of set.now result.reading ≡ set.now.drives }
 {
     match started {
         Started::Found(version, id, pin) => {
-            let (state, reading) = planned_state(planned_of(alloc, set, version, id, ask));
+            let (state, reading) = planned_state(planned_of(alloc, set, version, id, ask, matches));
             Begun {
                 state,
                 pin: Some(pin),
@@ -113,7 +120,7 @@ impl GetOp {
         look.stub
     }
 
-    /// Begins the read of the key, and plans what its range asks for.
+    /// Begins the read of the key, and plans what its condition and its range ask for.
     pub(crate) fn begin<D: Drive, A: Audit>(
         &mut self,
         alloc: Global,
@@ -134,7 +141,13 @@ impl GetOp {
             (slot_seen A.entries A.count slot.old) (slot_seen A.entries A.count slot.new) (views D.Drive disks.old) (views D.Drive disks.new) }
     {
         let turn = slot.begin_read(alloc, disks, &self.at, mode, &self.pick);
-        let begun = begun_of(alloc, &self.set, &self.ask, started_of(turn.answer, mode));
+        let begun = begun_of(
+            alloc,
+            &self.set,
+            &self.ask,
+            &self.matches,
+            started_of(turn.answer, mode),
+        );
         let Begun {
             state,
             pin,

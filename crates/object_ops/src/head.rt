@@ -2,7 +2,10 @@
 
 ghost use Rattle.std.specs.Prelude.{◌≡◌, ◌+◌, ◌<◌, ◌^◌, List, length};
 ghost use Rattle.drive_base.specs.View.{DriveView, views};
+ghost use Rattle.call_types.specs.declared.reply.Reply.TheVariants.{Found};
+ghost use Rattle.receipts.specs.Reading.{TellsHead};
 ghost use Rattle.receipts.specs.Registers.{bucket_slot, key_slot};
+ghost use Rattle.receipts.specs.Spans.{whole_of};
 ghost use Rattle.slot_core.specs.Numbers.{NumbersMove};
 ghost use Rattle.slot_core.specs.Views.{numbers_of};
 ghost use Rattle.op_steps.specs.Store.{slot_seen};
@@ -11,18 +14,19 @@ ghost use Rattle.object_ops.specs.Head.{Looks, Starts, barred_after, barred_stat
 ghost use Rattle.object_ops.specs.HeadStands.{StandsFor, StaysHead, head_task};
 ghost use Rattle.object_ops.specs.declared.head_state.HeadState.TheVariants as state;
 
+use crate::condition::meets;
 use crate::head_op::HeadOp;
 use crate::head_state::HeadState;
-use crate::looking::{Looked, look_at_bucket};
 use crate::pins::pin_out;
 use crate::reading_start::{Started, length_of, started_of};
 use crate::telling::tell_head;
 use audit_trail::Audit;
-use call_types::{Cut, Feed, Mode, Refusal, Reply, Span};
+use call_types::{Cut, Feed, Mode, Refusal, Reply, Span, Version, VersionName};
 use desk_base::Teller;
 use drive_base::Drive;
-use op_steps::{Op, OpNext};
+use op_steps::{Looked, Op, OpNext, look_at_bucket};
 use receipts::Barred;
+use seal_file::Text;
 use slot_core::{Pin, Slot, Stub};
 use slot_history::{bucket_slot, key_slot};
 use std::alloc::Global;
@@ -38,21 +42,29 @@ fn looked_state(looked: Looked) -> HeadState
     }
 }
 
+/// What is told of a version that was found: it with its whole body, where the condition holds.
+fn found_reply(matches: &Option<Text>, version: Version, id: Option<VersionName>) -> Reply
+    ensures { TellsHead matches.now (Found version (whole_of version) id) result }
+{
+    if !meets(matches, &version.what) {
+        return Reply::Refused(Refusal::PreconditionFailed);
+    }
+    let span = Span {
+        at: 0,
+        length: length_of(&version.what),
+    };
+    Reply::Found { version, span, id }
+}
+
 /// How far it is after the begin of its read, and its pin.
-fn started_state(started: Started) -> (HeadState, Option<Pin>)
-    ensures { Starts started result.0 result.1 }
+fn started_state(matches: &Option<Text>, started: Started) -> (HeadState, Option<Pin>)
+    ensures { Starts matches.now started result.0 result.1 }
 {
     match started {
-        Started::Found(version, id, pin) => {
-            let span = Span {
-                at: 0,
-                length: length_of(&version.what),
-            };
-            (
-                HeadState::Telling(Reply::Found { version, span, id }),
-                Some(pin),
-            )
-        }
+        Started::Found(version, id, pin) => (
+            HeadState::Telling(found_reply(matches, version, id)),
+            Some(pin),
+        ),
         Started::Refused(why) => (HeadState::Telling(Reply::Refused(why)), None),
         Started::LacksMemory => (HeadState::Over(Some(Cut::NoMemory)), None),
     }
@@ -134,7 +146,7 @@ impl HeadOp {
             (slot_seen A.entries A.count slot.old) (slot_seen A.entries A.count slot.new) (views D.Drive disks.old) (views D.Drive disks.new) }
     {
         let turn = slot.begin_read(alloc, disks, &self.at, mode, &self.pick);
-        let (state, pin) = started_state(started_of(turn.answer, mode));
+        let (state, pin) = started_state(&self.matches, started_of(turn.answer, mode));
         self.state = state;
         self.pin = pin;
         turn.stub

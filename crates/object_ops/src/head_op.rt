@@ -8,6 +8,7 @@ ghost use Rattle.drive_base.specs.declared.drive.TheConstants.{LONGEST_NAME};
 use crate::head_state::HeadState;
 use call_types::{Key, Pick};
 use drive_base::SetPlan;
+use seal_file::Text;
 use slot_core::Pin;
 
 /// HeadObject, step by step: a look at the bucket, the begin of a read of the key, the reply, and the end of the read.
@@ -19,6 +20,8 @@ pub struct HeadOp {
     pub(crate) at: Key,
     /// The version that is asked for.
     pub(crate) pick: Pick,
+    /// The value of its `If-Match`.
+    pub(crate) matches: Option<Text>,
     /// The name of the bucket's register.
     pub(crate) name: String,
     /// The Unix second of the call.

@@ -14,7 +14,6 @@ ghost use Rattle.object_ops.specs.PutStands.{IsSamePut, PutStands, left_of};
 ghost use Rattle.object_ops.specs.declared.put_state.PutState.TheVariants as state;
 ghost use Rattle.object_ops.specs.declared.put_work.Work.{Work as WorkSpec};
 
-use crate::looking::look_at_bucket;
 use crate::put_op::PutOp;
 use crate::put_state::{PutState, go_to};
 use crate::put_working::begun;
@@ -22,6 +21,7 @@ use crate::putting::{PutEnd, after_look, end_of, put_committed};
 use audit_trail::Audit;
 use call_types::{Cut, Mode, Reply};
 use drive_base::Drive;
+use op_steps::look_at_bucket;
 use slot_core::{Slot, Stub, Turn};
 use slot_history::key_slot;
 use std::alloc::Global;

@@ -4,12 +4,11 @@ ghost use Rattle.std.specs.Prelude.{◌≡◌, IfOk};
 ghost use Rattle.put_stage.specs.Stepping.{MayFinish};
 ghost use Rattle.object_ops.specs.Putting.{AfterCommit, AfterLook, BarredAfter, BarredAt, BarredEnd, Ends, OwesNext, RefusedBegin, put_deed, refusal_of_stage};
 
-use crate::looking::Looked;
 use crate::put_state::PutState;
 use crate::put_work::Work;
 use call_types::{Act, Cut, Key, Mode, Refusal, Reply};
 use fault_base::NoMemory;
-use op_steps::call_refusal;
+use op_steps::{Looked, call_refusal};
 use put_stage::{Stage, StageFault, Staged};
 use receipts::Barred;
 use seal_file::Text;

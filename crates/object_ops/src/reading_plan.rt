@@ -1,11 +1,13 @@
-//! What a version and a range come to: a reply at once, or a reading.
+//! What a version, a condition and a range come to: a reply at once, or a reading.
 
 ghost use Rattle.object_ops.specs.ReadingPlan.{PlansSo};
 
+use crate::condition::meets;
 use crate::reading::Reading;
 use call_types::{RangeAsk, Refusal, Reply, Version, VersionName, What};
 use drive_base::SetPlan;
 use get_read::Reader;
+use seal_file::Text;
 use span_plan::{plan, span_laws};
 use std::alloc::Global;
 
@@ -20,18 +22,22 @@ pub(crate) enum Planned {
     LacksMemory,
 }
 
-/// What is to be done for a version that was found, an object. An empty span is told without a reading.
+/// What is to be done for a version that was found, an object. The condition comes before the range, and an empty span is told without a reading.
 pub(crate) fn planned_of(
     alloc: Global,
     set: &SetPlan,
     version: Version,
     id: Option<VersionName>,
     ask: &RangeAsk,
+    matches: &Option<Text>,
 ) -> Planned
-    ensures { PlansSo set.now version id ask.now result }
+    ensures { PlansSo set.now version id ask.now matches.now result }
 {
     // The laws for the proof, that a span ends in its body. The call does nothing.
     span_laws();
+    if !meets(matches, &version.what) {
+        return Planned::Tells(Reply::Refused(Refusal::PreconditionFailed));
+    }
     let What::Object {
         data_id,
         print,

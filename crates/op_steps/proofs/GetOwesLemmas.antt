@@ -12,7 +12,7 @@ use Rattle.call_types.specs.declared.names.VersionName.{VersionName}
 use Rattle.call_types.specs.declared.refusal.KeyRefusal.{KeyRefusal}
 use Rattle.call_types.specs.declared.refusal.KeyRefusal.TheVariants as key
 use Rattle.call_types.specs.declared.refusal.Refusal.{Refusal}
-use Rattle.call_types.specs.declared.refusal.Refusal.TheVariants.{InvalidRange, ShardQuorum}
+use Rattle.call_types.specs.declared.refusal.Refusal.TheVariants.{InvalidRange, PreconditionFailed, ShardQuorum}
 use Rattle.call_types.specs.declared.reply.Reply.{Reply}
 use Rattle.call_types.specs.declared.reply.Reply.TheVariants.{Buckets, Completed, Deleted, Found, Mode as TheMode, Opened, Page, Plain, Refused, Stored, Versions}
 use Rattle.call_types.specs.declared.version.Version.{Version}
@@ -62,6 +62,10 @@ same_letters a b e = same_whys a b (same_refusal (ShardQuorum a) (ShardQuorum b)
 no_range : (whys : List Why) (long : ℕ) → ShardQuorum whys ≡ InvalidRange long → ⊥
 no_range whys long e = absurd cc
 
+-- nor a condition that fails
+no_condition : (whys : List Why) → ShardQuorum whys ≡ PreconditionFailed → ⊥
+no_condition whys e = absurd cc
+
 -- a section isn't refused so
 not_of_section : (whys : List Why) (why : Refusal) → IsOfSection why → ShardQuorum whys ≡ why → ⊥
 not_of_section whys why is same = subst IsOfSection (sym same) is
@@ -96,11 +100,13 @@ record CannotGoOn (set : SetPlan) (whys : List Why) (log : Log) : Type 0 where
   reads : ReadsData wanted log
   cause : CannotRead set wanted next whys log
 
-module _ (set : SetPlan) (at : Key) (pick : Pick) (ask : RangeAsk) (log : Log) where
+module _ (set : SetPlan) (at : Key) (pick : Pick) (ask : RangeAsk) (matches : Option (List ℕ)) (log : Log) where
   -- one that is refused so read its key
-  refused_read : (whys : List Why) (whole : Reply) → ReadsKey at pick whole log → TellsRead set ask whole (letters whys) log
+  refused_read : (whys : List Why) (whole : Reply) → ReadsKey at pick whole log → TellsRead set ask matches whole (letters whys) log
       → CannotGoOn set whys log
-  refused_read whys (Found version whole id) reads (inl span) = by span.told
+  refused_read whys (Found version whole id) reads (inl fails) =
+      absurd (no_condition whys (same_refusal (ShardQuorum whys) PreconditionFailed fails.told))
+  refused_read whys (Found version whole id) reads (inr (met, inl span)) = by span.told
     where
       by : (letters whys ≡ Found version span.span id)
           ⊎ ((others : List Why) × BodyIsLost set version span.span span.span.at others log × (letters whys ≡ Refused (ShardQuorum others))) → CannotGoOn set whys log
@@ -111,7 +117,7 @@ module _ (set : SetPlan) (at : Key) (pick : Pick) (ask : RangeAsk) (log : Log) w
         reads = reads_found log reads.look reads.own at reads.mode pick version whole id ask span.span lost.wanted reads.sections reads.bucket reads.entry lost.is_wanted span.plans;
         cause = subst (λ (w : List Why). CannotRead set lost.wanted span.span.at w log) (sym (same_letters whys others same)) lost.cause;
       }
-  refused_read whys (Found version whole id) reads (inr invalid) =
+  refused_read whys (Found version whole id) reads (inr (met, inr invalid)) =
       absurd (no_range whys invalid.invalid.0 (same_refusal (ShardQuorum whys) (InvalidRange invalid.invalid.0) invalid.told))
   refused_read whys (Refused why) reads told =
       absurd (by reads.due.answer reads.due.replies)
@@ -129,7 +135,7 @@ module _ (set : SetPlan) (at : Key) (pick : Pick) (ask : RangeAsk) (log : Log) w
   refused_read whys (Opened id) reads told = absurd told
   refused_read whys (Completed etag id) reads told = absurd told
 
-  refused_get : (whys : List Why) → GetOwes set at pick ask (letters whys) log → CannotGoOn set whys log
+  refused_get : (whys : List Why) → GetOwes set at pick ask matches (letters whys) log → CannotGoOn set whys log
   refused_get whys (inl ends) = absurd (ends_before at whys log ends)
   refused_get whys (inr told) = refused_read whys told.whole told.reads told.tells
 
@@ -146,8 +152,9 @@ module _ (set : SetPlan) (at : Key) (pick : Pick) (ask : RangeAsk) (log : Log) w
     plans : Plans (body_length version.what) ask (Ok span)
 
   found_read : (version : Version) (span : Span) (id : Option VersionName) (whole : Reply) → ReadsKey at pick whole log
-      → TellsRead set ask whole (Found version span id) log → FoundBy version span
-  found_read version span id (Found other full given) reads (inl x) = by x.told
+      → TellsRead set ask matches whole (Found version span id) log → FoundBy version span
+  found_read version span id (Found other full given) reads (inl fails) = (let told = fails.told in absurd cc)
+  found_read version span id (Found other full given) reads (inr (met, inl x)) = by x.told
     where
       by : (Found version span id ≡ Found other x.span given)
           ⊎ ((whys : List Why) × BodyIsLost set other x.span x.span.at whys log × (Found version span id ≡ Refused (ShardQuorum whys))) → FoundBy version span
@@ -167,7 +174,7 @@ module _ (set : SetPlan) (at : Key) (pick : Pick) (ask : RangeAsk) (log : Log) w
             plans = subst₂ (λ (v : Version) (s : Span). Plans (body_length v.what) ask (Ok s)) (sym one) (sym two) x.plans;
           }
       by (inr (whys, lost, same)) = absurd cc
-  found_read version span id (Found other full given) reads (inr invalid) = (let told = invalid.told in absurd cc)
+  found_read version span id (Found other full given) reads (inr (met, inr invalid)) = (let told = invalid.told in absurd cc)
   found_read version span id (Refused why) reads told = absurd cc
   found_read version span id Plain reads told = absurd told
   found_read version span id (Buckets rows) reads told = absurd told
@@ -179,7 +186,7 @@ module _ (set : SetPlan) (at : Key) (pick : Pick) (ask : RangeAsk) (log : Log) w
   found_read version span id (Opened other) reads told = absurd told
   found_read version span id (Completed etag other) reads told = absurd told
 
-  found_get : (version : Version) (span : Span) (id : Option VersionName) → GetOwes set at pick ask (Found version span id) log → FoundBy version span
+  found_get : (version : Version) (span : Span) (id : Option VersionName) → GetOwes set at pick ask matches (Found version span id) log → FoundBy version span
   found_get version span id (inl (inl (inl lacking))) = (let told = lacking.told in absurd cc)
   found_get version span id (inl (inl (inr (inl look)))) = (let told = look.refuses.told in absurd cc)
   found_get version span id (inl (inl (inr (inr barred)))) = (let told = barred.barred.told in absurd cc)
@@ -188,16 +195,16 @@ module _ (set : SetPlan) (at : Key) (pick : Pick) (ask : RangeAsk) (log : Log) w
   found_get version span id (inr told) = found_read version span id told.whole told.reads told.tells
 
 -- the reply that was owed to a GetObject
-owed_get : (set : SetPlan) (task : Task) (at : Key) (pick : Pick) (ask : RangeAsk) (reply : Reply) (log : Log) → task.call ≡ Get at pick ask
-    → OwesReply set task reply log → GetOwes set at pick ask reply log
-owed_get set task at pick ask reply log is owes = (subst (λ (c : Call). OwesCall set c task.now reply log) is owes).1
+owed_get : (set : SetPlan) (task : Task) (at : Key) (pick : Pick) (ask : RangeAsk) (matches : Option (List ℕ)) (reply : Reply) (log : Log) → task.call ≡ Get at pick ask matches
+    → OwesReply set task reply log → GetOwes set at pick ask matches reply log
+owed_get set task at pick ask matches reply log is owes = (subst (λ (c : Call). OwesCall set c task.now reply log) is owes).1
 
 -- a cut one's log has no more sections
-cut_read : (set : SetPlan) (task : Task) (at : Key) (pick : Pick) (ask : RangeAsk) (whys : List Why) (tale : List Telling) (log : Log) → task.call ≡ Get at pick ask
+cut_read : (set : SetPlan) (task : Task) (at : Key) (pick : Pick) (ask : RangeAsk) (matches : Option (List ℕ)) (whys : List Why) (tale : List Telling) (log : Log) → task.call ≡ Get at pick ask matches
     → BodyIsCut set task whys tale log → CannotGoOn set whys log
-cut_read set task at pick ask whys tale log is x =
+cut_read set task at pick ask matches whys tale log is x =
     let owed = x.front.was_owed in
-    let found = found_get set at pick ask owed.before x.version x.span x.id (owed_get set task at pick ask (Found x.version x.span x.id) owed.before is owed.owed) in
+    let found = found_get set at pick ask matches owed.before x.version x.span x.id (owed_get set task at pick ask matches (Found x.version x.span x.id) owed.before is owed.owed) in
     let sections : sections_of log ≡ found.look ∷ found.own ∷ [] =
     ap sections_of owed.parts ∙ (sections_join owed.before (Told (TheHead (Found x.version x.span x.id)) None ∷ owed.rest)
     ∙ (ap₂ (λ (a b : List Section). a ++ b) found.sections owed.still ∙ append-nil (found.look ∷ found.own ∷ []))) in
@@ -221,13 +228,13 @@ module _ {D T : Type 0} (ghosts : Ghosts D) (takes breaks : Effect T) where
       ]
 
   pub gets_go_on : GetsGoOn ghosts takes breaks
-  gets_go_on set task at pick ask disks whys log old new ran complete is serve (inl owed) =
+  gets_go_on set task at pick ask matches disks whys log old new ran complete is serve (inl owed) =
       goes_on set disks whys owed.before (Told (TheHead (letters whys)) None ∷ owed.rest) log old new ran complete serve owed.parts
-      (refused_get set at pick ask owed.before whys (owed_get set task at pick ask (letters whys) owed.before is owed.owed))
-  gets_go_on set task at pick ask disks whys log old new ran complete is serve (inr (tale, cut)) =
-      goes_on set disks whys log [] log old new ran complete serve (sym (append-nil log)) (cut_read set task at pick ask whys tale log is cut)
+      (refused_get set at pick ask matches owed.before whys (owed_get set task at pick ask matches (letters whys) owed.before is owed.owed))
+  gets_go_on set task at pick ask matches disks whys log old new ran complete is serve (inr (tale, cut)) =
+      goes_on set disks whys log [] log old new ran complete serve (sym (append-nil log)) (cut_read set task at pick ask matches whys tale log is cut)
 
   pub gets_lack_nothing : GetsLackNothing ghosts takes breaks
-  gets_lack_nothing set task at pick ask disks whys log old new ran complete is serve all told =
-      let x = gets_go_on set task at pick ask disks whys log old new ran complete is serve told in
+  gets_lack_nothing set task at pick ask matches disks whys log old new ran complete is serve all told =
+      let x = gets_go_on set task at pick ask matches disks whys log old new ran complete is serve told in
       x.1.is_other (all x.1.drive x.1.within)

@@ -1,4 +1,5 @@
 pub mod AcceptLemmas
+pub mod BucketLookLemmas
 pub mod CallingLemmas
 pub mod CalmLemmas
 pub mod CauseLemmas

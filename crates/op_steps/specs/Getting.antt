@@ -1,5 +1,5 @@
 -- A GetObject that isn't refused or cut for want of manifests or blocks where enough data drives serve.
-use Rattle.std.specs.Prelude.{◌≡◌, ◌⊎◌, ℕ, ◌<◌, List}
+use Rattle.std.specs.Prelude.{◌≡◌, ◌⊎◌, ℕ, ◌<◌, List, Option}
 use Rattle.std.specs.Int.{IsBitSet}
 use Rattle.call_types.specs.declared.names.Key.{Key}
 use Rattle.call_types.specs.declared.names.Pick.{Pick}
@@ -28,13 +28,13 @@ module _ {D T : Type 0} (ghosts : Ghosts D) (takes breaks : Effect T) where
   -- where enough data drives serve in the log of a GetObject, and the log is complete so, it is told letters only where a drive that isn't one of them showed
   -- another manifest
   abbrev pub GetsGoOn : Type 0
-  GetsGoOn = (set : SetPlan) (task : Task) (at : Key) (pick : Pick) (ask : RangeAsk) (disks : ℕ) (whys : List Why) (log : Log) (old new : Store D T)
-      (ran : Ran ghosts takes breaks set log old new) → LogComplete ghosts takes breaks set log old new ran → task.call ≡ Get at pick ask
+  GetsGoOn = (set : SetPlan) (task : Task) (at : Key) (pick : Pick) (ask : RangeAsk) (matches : Option (List ℕ)) (disks : ℕ) (whys : List Why) (log : Log)
+      (old new : Store D T) (ran : Ran ghosts takes breaks set log old new) → LogComplete ghosts takes breaks set log old new ran → task.call ≡ Get at pick ask matches
       → EnoughServe ghosts takes breaks set disks log old new ran → TellsLetters set task whys log
       → (wanted : Wanted) × ShowsAnother ghosts takes breaks set disks wanted log old new
 
   -- where all data drives do, it is told none
   abbrev pub GetsLackNothing : Type 0
-  GetsLackNothing = (set : SetPlan) (task : Task) (at : Key) (pick : Pick) (ask : RangeAsk) (disks : ℕ) (whys : List Why) (log : Log) (old new : Store D T)
-      (ran : Ran ghosts takes breaks set log old new) → LogComplete ghosts takes breaks set log old new ran → task.call ≡ Get at pick ask
+  GetsLackNothing = (set : SetPlan) (task : Task) (at : Key) (pick : Pick) (ask : RangeAsk) (matches : Option (List ℕ)) (disks : ℕ) (whys : List Why) (log : Log)
+      (old new : Store D T) (ran : Ran ghosts takes breaks set log old new) → LogComplete ghosts takes breaks set log old new ran → task.call ≡ Get at pick ask matches
       → EnoughServe ghosts takes breaks set disks log old new ran → ((k : ℕ) → k < set.drives → IsBitSet disks k) → TellsLetters set task whys log → ⊥

@@ -1,3 +1,4 @@
+pub mod BucketLooks
 pub mod Calling
 pub mod Causes
 pub mod Claims

@@ -12,6 +12,7 @@
 #![tactic(auto)]
 
 mod laws;
+mod looking;
 mod next;
 mod op;
 mod refusing;
@@ -22,6 +23,7 @@ pub use laws::{
     call_law, calls_law, cause_law, commit_law, complete_law, data_law, get_law, history_law,
     live_law, look_law, names_law, read_law, request_law, requests_law, showing_laws,
 };
+pub use looking::{Look, Looked, look_at_bucket};
 pub use next::OpNext;
 pub use op::Op;
 pub use refusing::{call_refusal, section_refusal};

@@ -1,7 +1,15 @@
-use Rattle.std.proofs.Common.{refl}
-use Rattle.object_ops.proofs.ReadingPlan.{empty_so, wanted_so}
+use Rattle.std.proofs.Common.{◌∙◌, refl, sym}
+use Rattle.object_ops.proofs.ReadingPlan.{empty_so, reads_so, wanted_so}
 use Rattle.object_ops.proofs.reading_plan.planned_of.Goals as goal
 
 pub returns-then-span-eq0 : goal.returns-then-span-eq0
-returns-then-span-eq0 c = empty_so c.args.set.now c.args.version c.args.id c.args.ask.now _ c.in-Object.is c.in-Ok.span
+returns-then-span-eq0 c = empty_so c.args.set.now c.args.version c.args.id c.args.ask.now c.args.matches.now _ c.in-Object.is
+    (sym c.meets.ensures ∙ c.if-not-meets.false) c.in-Ok.span
     (wanted_so c.in-Object.data_id c.in-Object.print c.in-Ok.span) c.in-Ok.ensures c.if-span-eq0.true (refl, refl, refl)
+
+pub returns-in-Ok-new : goal.returns-in-Ok-new
+returns-in-Ok-new c =
+    let begins = c.in-Ok-new.ensures in
+    reads_so c.args.set.now c.args.version c.args.id c.args.ask.now c.args.matches.now _ c.in-Object.is (sym c.meets.ensures ∙ c.if-not-meets.false)
+    c.in-Object.data_id c.in-Object.print c.in-Ok.span c.in-Ok-new.reader c.in-Ok.ensures c.if-span-eq0.false begins
+    (begins.id_is, begins.print_is, begins.reach_is)

@@ -9,4 +9,4 @@ pub returns-clause-barred : goal.returns-clause-barred
 returns-clause-barred c =
     let op = c.args.self.now in
     subst (λ state. BarredSo (StandsFor op) (GetStands op.set (get_task op) op.at op.pick op.ask state op.pin op.reading) (step_of op.state op.at) c.args.why)
-    (sym c.barred_after.ensures) (barred_so op.set op.at op.pick op.ask op.now op.state op.pin op.reading c.args.why)
+    (sym c.barred_after.ensures) (barred_so op.set op.at op.pick op.ask op.matches op.now op.state op.pin op.reading c.args.why)

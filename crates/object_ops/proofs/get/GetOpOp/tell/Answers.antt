@@ -15,4 +15,4 @@ returns-in-Telling-clause-tells g c =
     (GetStands op.set (get_task op) op.at op.pick op.ask later op.pin op.reading)
     (teller_of c.args.teller.now (T.faults c.args.teller.now)) (teller_of c.tell_head-cut.new.teller (T.faults c.tell_head-cut.new.teller)))
     (sym c.in-Telling.is) (sym c.ending_of.ensures)
-    (tell_so op.set op.at op.pick op.ask op.now T.takes T.breaks c.in-Telling.reply op.pin op.reading cut _ _ c.tell_head-cut.ensures)
+    (tell_so op.set op.at op.pick op.ask op.matches op.now T.takes T.breaks c.in-Telling.reply op.pin op.reading cut _ _ c.tell_head-cut.ensures)

@@ -9,7 +9,7 @@ use Rattle.object_ops.proofs.get_op.GetOp.begin.Goals as goal
 
 pub returns-clause-left : goal.returns-clause-left
 returns-clause-left g c =
-    rw (c.go_to.ensures, c.put_in.ensures) (begins_left c.args.self.now.set c.args.self.now.ask c.started_of.result c.begun_of-begun.result c.begun_of-begun.ensures.begins)
+    rw (c.go_to.ensures, c.put_in.ensures) (begins_left c.args.self.now.set c.args.self.now.ask c.args.self.now.matches c.started_of.result c.begun_of-begun.result c.begun_of-begun.ensures.begins)
 
 pub returns-clause-turns : goal.returns-clause-turns
 returns-clause-turns g c =
@@ -17,7 +17,7 @@ returns-clause-turns g c =
     let D = g.D.Drive in
     let read = c.begin_read-turn.ensures in
     let turn = c.begin_read-turn.result in
-    rw (c.go_to.ensures, c.put_in.ensures) (begin_so op.set op.at op.pick op.ask op.now g.D.Drive (slot_seen g.A.Audit.entries g.A.Audit.count c.args.slot.now)
+    rw (c.go_to.ensures, c.put_in.ensures) (begin_so op.set op.at op.pick op.ask op.matches op.now g.D.Drive (slot_seen g.A.Audit.entries g.A.Audit.count c.args.slot.now)
     (slot_seen g.A.Audit.entries g.A.Audit.count c.begin_read-turn.new.self) c.args.mode op.pin op.reading op.state c.begun_of-begun.result
     turn.answer c.started_of.result turn.stub c.args.disks.now c.begin_read-turn.new.disks c.requires.state c.requires.next
     (record {

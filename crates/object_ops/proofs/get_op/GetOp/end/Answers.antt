@@ -24,7 +24,7 @@ returns-in-Some-clause-turns g c = λ disks.
     let ended = c.end_read.ensures in
     let turn = c.end_read.result in
     let none = subst (λ a. StubOfNone (numbers_of c.args.slot.now) a turn.stub) ended.done ended.turns.stub_is in
-    end_so op.set op.at op.pick op.ask op.now D (slot_seen g.A.Audit.entries g.A.Audit.count c.args.slot.now)
+    end_so op.set op.at op.pick op.ask op.matches op.now D (slot_seen g.A.Audit.entries g.A.Audit.count c.args.slot.now)
     (slot_seen g.A.Audit.entries g.A.Audit.count c.end_read.new.self) c.args.cut c.in-Some.pin op.pin op.pin op.reading op.state turn.answer turn.stub disks
     c.requires.state (sym c.pin_out.ensures ∙ c.in-Some.is) c.requires.next none
     (record { turns = ended.turns; holds = ended.holds; leaves = ended.leaves })

@@ -12,7 +12,7 @@ pub returns-clause-turns : goal.returns-clause-turns
 returns-clause-turns g c =
     let op = c.args.self.now in
     let D = g.D.Drive in
-    look_so op.set op.at op.pick op.ask op.now D (slot_seen g.A.Audit.entries g.A.Audit.count c.args.slot.now)
+    look_so op.set op.at op.pick op.ask op.matches op.now D (slot_seen g.A.Audit.entries g.A.Audit.count c.args.slot.now)
     (slot_seen g.A.Audit.entries g.A.Audit.count c.look_at_bucket-look.new.slot) c.as_str.result.now op.pin op.reading op.state c.looked_state.result
     c.look_at_bucket-look.result (views D c.args.disks.now) (views D c.look_at_bucket-look.new.disks) c.requires.state c.requires.next
     (c.as_str.ensures.value ∙ op.named) c.look_at_bucket-look.ensures.looks c.looked_state.ensures

@@ -25,6 +25,6 @@ returns-in-Some-clause-tells g c =
     let op = c.args.self.now in
     let T = g.T.Teller in
     let told = c.tell-cut in
-    rw (c.go_to.ensures, c.put_in.ensures) (give_as op.set op.at op.pick op.ask op.now T.takes T.breaks c.in-Some.reading told.new.self op.state c.told_state.result op.pin op.reading told.result
+    rw (c.go_to.ensures, c.put_in.ensures) (give_as op.set op.at op.pick op.ask op.matches op.now T.takes T.breaks c.in-Some.reading told.new.self op.state c.told_state.result op.pin op.reading told.result
     (teller_of c.args.teller.now (T.faults c.args.teller.now)) (teller_of told.new.teller (T.faults told.new.teller))
     c.requires (sym c.reading_out.ensures.out ∙ c.in-Some.is) c.told_state.ensures told.ensures.told told.ensures.moves)

@@ -9,4 +9,4 @@ pub returns-clause-barred : goal.returns-clause-barred
 returns-clause-barred c =
     let op = c.args.self.now in
     subst (λ state. BarredSo (StandsFor op) (HeadStands op.set (head_task op) op.at state op.pin) (step_of op.state op.at) c.args.why)
-    (sym c.barred_after.ensures) (barred_so op.set op.at op.pick op.now op.state op.pin c.args.why)
+    (sym c.barred_after.ensures) (barred_so op.set op.at op.pick op.matches op.now op.state op.pin c.args.why)

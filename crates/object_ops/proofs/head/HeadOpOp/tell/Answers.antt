@@ -14,4 +14,4 @@ returns-in-Telling-clause-tells g c =
     subst₂ (λ state later. TellsSo T.takes T.breaks (HeadStands op.set (head_task op) op.at state op.pin) (HeadStands op.set (head_task op) op.at later op.pin)
     (teller_of c.args.teller.now (T.faults c.args.teller.now)) (teller_of c.tell_head-cut.new.teller (T.faults c.tell_head-cut.new.teller)))
     (sym c.in-Telling.is) (sym c.ending_of.ensures)
-    (tell_so op.set op.at op.pick op.now T.takes T.breaks c.in-Telling.reply op.pin cut _ _ c.tell_head-cut.ensures)
+    (tell_so op.set op.at op.pick op.matches op.now T.takes T.breaks c.in-Telling.reply op.pin cut _ _ c.tell_head-cut.ensures)

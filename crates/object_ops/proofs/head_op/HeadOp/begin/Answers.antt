@@ -7,7 +7,7 @@ use Rattle.object_ops.proofs.ReadingStart.{due_by}
 use Rattle.object_ops.proofs.head_op.HeadOp.begin.Goals as goal
 
 pub returns-clause-left : goal.returns-clause-left
-returns-clause-left g c = starts_left c.started_of.result c.started_state-state.result.0 c.started_state-state.result.1 c.started_state-state.ensures
+returns-clause-left g c = starts_left c.args.self.now.matches c.started_of.result c.started_state-state.result.0 c.started_state-state.result.1 c.started_state-state.ensures
 
 pub returns-clause-turns : goal.returns-clause-turns
 returns-clause-turns g c =
@@ -15,7 +15,7 @@ returns-clause-turns g c =
     let D = g.D.Drive in
     let read = c.begin_read-turn.ensures in
     let turn = c.begin_read-turn.result in
-    begin_so op.set op.at op.pick op.now g.D.Drive (slot_seen g.A.Audit.entries g.A.Audit.count c.args.slot.now)
+    begin_so op.set op.at op.pick op.matches op.now g.D.Drive (slot_seen g.A.Audit.entries g.A.Audit.count c.args.slot.now)
     (slot_seen g.A.Audit.entries g.A.Audit.count c.begin_read-turn.new.self) c.args.mode op.pin c.started_state-state.result.1 op.state c.started_state-state.result.0
     turn.answer c.started_of.result turn.stub c.args.disks.now c.begin_read-turn.new.disks c.requires.state c.requires.next
     (record {

@@ -16,9 +16,9 @@ use Rattle.op_steps.specs.Claims.{Claim}
 use Rattle.op_steps.specs.Moves.{TurnMoves}
 use Rattle.op_steps.specs.Notes.{noted, refusal_by}
 use Rattle.op_steps.specs.Store.{SlotSeen}
-use Rattle.object_ops.specs.declared.looking.Look.{Look}
-use Rattle.object_ops.specs.declared.looking.Looked.{Looked}
-use Rattle.object_ops.specs.declared.looking.Looked.TheVariants.{LacksMemory, Refused, There}
+use Rattle.op_steps.specs.declared.looking.Look.{Look}
+use Rattle.op_steps.specs.declared.looking.Looked.{Looked}
+use Rattle.op_steps.specs.declared.looking.Looked.TheVariants.{LacksMemory, Refused, There}
 
 -- what an answer shows: a bucket of a mode, that there is none, or the refusal of the section. Want of memory shows nothing
 abbrev pub ShowsLook : Result (List ℕ) SlotFault → Looked → Type 0

@@ -1,6 +1,6 @@
 use Rattle.op_steps.specs.Store.{slot_seen}
-use Rattle.object_ops.proofs.LookingLemmas.{looks_so}
-use Rattle.object_ops.proofs.looking.look_at_bucket.Goals as goal
+use Rattle.op_steps.proofs.BucketLookLemmas.{looks_so}
+use Rattle.op_steps.proofs.looking.look_at_bucket.Goals as goal
 
 pub returns-clause-looks : goal.returns-clause-looks
 returns-clause-looks g c =

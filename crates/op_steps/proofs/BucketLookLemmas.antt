@@ -17,10 +17,10 @@ use Rattle.op_steps.specs.Notes.{noted}
 use Rattle.op_steps.specs.Store.{SlotSeen}
 use Rattle.op_steps.proofs.LookLemmas.{look_is_turn}
 use Rattle.op_steps.proofs.LookLogLemmas.{fault_says, kept_all, lacks_of, there_of}
-use Rattle.object_ops.specs.Looking.{LooksSo, SaysBucket, ShowsLook}
-use Rattle.object_ops.specs.declared.looking.Look.{Look}
-use Rattle.object_ops.specs.declared.looking.Looked.{Looked}
-use Rattle.object_ops.specs.declared.looking.Looked.TheVariants.{LacksMemory, Refused, There}
+use Rattle.op_steps.specs.BucketLooks.{LooksSo, SaysBucket, ShowsLook}
+use Rattle.op_steps.specs.declared.looking.Look.{Look}
+use Rattle.op_steps.specs.declared.looking.Looked.{Looked}
+use Rattle.op_steps.specs.declared.looking.Looked.TheVariants.{LacksMemory, Refused, There}
 
 -- what the log of a look says, by its answer
 look_says : (bucket : List ℕ) (numbers : SlotNumbers) (answer : Result (List ℕ) SlotFault) (stub : Option Stub) (looked : Looked)

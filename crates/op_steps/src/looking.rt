@@ -6,21 +6,21 @@ ghost use Rattle.slot_history.specs.Names.{bucket_name};
 ghost use Rattle.slot_core.specs.Numbers.{NumbersMove};
 ghost use Rattle.slot_core.specs.Views.{numbers_of};
 ghost use Rattle.op_steps.specs.Store.{slot_seen};
-ghost use Rattle.object_ops.specs.Looking.{LooksSo, ShowsLook};
+ghost use Rattle.op_steps.specs.BucketLooks.{LooksSo, ShowsLook};
 ghost use Rattle.drive_base.specs.declared.drive.TheConstants.{LONGEST_NAME};
 
+use crate::refusing::section_refusal;
 use audit_trail::Audit;
 use bucket_book::read;
 use call_types::{Mode, Refusal};
 use drive_base::Drive;
-use op_steps::section_refusal;
 use seal_file::Bytes;
 use slot_core::{Slot, SlotFault, Stub};
 use std::alloc::Global;
 
 /// What the look at a call's bucket shows.
 #[derive(Drop)]
-pub(crate) enum Looked {
+pub enum Looked {
     /// A bucket of this mode.
     There(Mode),
     /// No bucket, or why the look was refused.
@@ -31,15 +31,15 @@ pub(crate) enum Looked {
 
 /// A look that was made, and its stub.
 #[derive(Drop)]
-pub(crate) struct Look {
+pub struct Look {
     /// What it showed.
-    pub(crate) looked: Looked,
+    pub looked: Looked,
     /// Its stub.
-    pub(crate) stub: Option<Stub>,
+    pub stub: Option<Stub>,
 }
 
 /// Looks at the register of this name, which is a bucket's.
-pub(crate) fn look_at_bucket<D: Drive, A: Audit>(
+pub fn look_at_bucket<D: Drive, A: Audit>(
     alloc: Global,
     slot: &mut Slot<D, A>,
     disks: &mut [D],
