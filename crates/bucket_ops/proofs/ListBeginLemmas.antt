@@ -3,8 +3,9 @@ use Rattle.std.proofs.Common.{ℕ, List, [], Contains, codes, inl, inr, refl, sy
 use Rattle.std.proofs.lemmas.List.Elements.{All-nil}
 use Rattle.std.specs.List.Sorted.{IsStrictlySortedBy}
 use Rattle.bucket_book.specs.Name.{IsBucketName}
-use Rattle.receipts.specs.BucketLists.{DoesNothing, FindsRow, row_order}
+use Rattle.receipts.specs.BucketLists.{FindsRow, row_order}
 use Rattle.receipts.specs.Events.{IsUntold, Section, sections_of}
+use Rattle.receipts.specs.Paging.{DoesNothing}
 use Rattle.bucket_ops.specs.Lists.{HasFound, IsAtPage, IsBehind, IsUpTo}
 use Rattle.bucket_ops.specs.Seeking.{IsFirstPage, Sheet}
 use Rattle.bucket_ops.proofs.OrderLemmas.{upto_itself}

@@ -14,10 +14,11 @@ use Rattle.slot_core.specs.Views.{SlotNumbers}
 use Rattle.slot_core.specs.declared.fault.SlotFault.{SlotFault}
 use Rattle.slot_core.specs.declared.fault.SlotFault.TheVariants.{AuditFailed, Key, NoMemory, NotInFlight, Quorum, SeqSpent}
 use Rattle.slot_core.specs.declared.stub.Stub.{Stub}
-use Rattle.receipts.specs.BucketLists.{DoesNothing, ListBucketsOwes}
+use Rattle.receipts.specs.BucketLists.{ListBucketsOwes}
 use Rattle.receipts.specs.Events.{IsUntold, Log, Section, Shown, body_of, cuts_of, sections_of}
 use Rattle.receipts.specs.Events.Event.{Turned}
 use Rattle.receipts.specs.Looks.{HasEntry, IsIdle}
+use Rattle.receipts.specs.Paging.{DoesNothing}
 use Rattle.receipts.specs.Paying.{ChangesNothing, LeavesAll, Pays}
 use Rattle.receipts.proofs.JoinLemmas.{sections_join}
 use Rattle.op_steps.specs.Notes.{note_of, noted, refusal_by}

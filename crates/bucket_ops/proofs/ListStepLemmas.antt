@@ -24,12 +24,12 @@ use Rattle.slot_core.specs.Stubs.{Says, StubOfEntry}
 use Rattle.slot_core.specs.Views.{SlotNumbers}
 use Rattle.slot_core.specs.declared.fault.SlotFault.{SlotFault}
 use Rattle.slot_core.specs.declared.stub.Stub.{Stub}
-use Rattle.receipts.specs.BucketLists.{DoesNothing}
 use Rattle.receipts.specs.Events.{IsUntold, Log, Note, Section as SectionSeen, body_of, cuts_of, sections_of}
 use Rattle.receipts.specs.Events.Event.{BarredFrom, Turned}
 use Rattle.receipts.specs.Events.Shown.{ContentShown, NamesShown, NoneShown}
 use Rattle.audit_trail.specs.declared.entry.Deed.TheVariants.{Kept}
 use Rattle.receipts.specs.Looks.{HasEntry}
+use Rattle.receipts.specs.Paging.{DoesNothing}
 use Rattle.receipts.specs.Registers.{bucket_register}
 use Rattle.receipts.specs.Spans.{GivesBytes}
 use Rattle.receipts.specs.declared.barred.Barred.{Barred}

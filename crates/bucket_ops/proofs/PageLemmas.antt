@@ -5,8 +5,9 @@ use Rattle.std.proofs.lemmas.List.Elements.{All-get_or}
 use Rattle.bucket_book.specs.Name.{IsBucketName}
 use Rattle.drive_base.specs.Names.{IsBefore, byte_order}
 use Rattle.std.specs.declared.cmp.Ordering.TheVariants.{Less}
-use Rattle.receipts.specs.BucketLists.{BucketsAreListed, IsAskedFor, ListsPage}
+use Rattle.receipts.specs.BucketLists.{BucketsAreListed, IsAskedFor}
 use Rattle.receipts.specs.Events.{Log, sections_of}
+use Rattle.receipts.specs.Paging.{ListsPage}
 use Rattle.receipts.specs.Registers.{bucket_register, bucket_slot}
 use Rattle.receipts.proofs.RegisterLemmas.{bucket_slot_below}
 use Rattle.bucket_ops.specs.Lists.{HasFound, IsAmong, IsAtPage, IsBehind, IsInPage, IsUpTo, LooksOnlyAt, WasLookedAt}

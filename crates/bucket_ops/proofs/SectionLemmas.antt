@@ -14,12 +14,13 @@ use Rattle.std.specs.declared.cmp.Ordering.TheVariants.{Less}
 use Rattle.std.proofs.lemmas.Map.Keys.{Less-from_sorted}
 use Rattle.std.proofs.lemmas.List.{get_or_default}
 use Rattle.drive_base.specs.declared.drive.TheConstants.{LONGEST_NAME}
-use Rattle.receipts.specs.BucketLists.{DoesNothing, FindsRow, IsAskedFor, row_order}
+use Rattle.receipts.specs.BucketLists.{FindsRow, IsAskedFor, row_order}
 use Rattle.receipts.specs.Events.{IsUntold, Log, Note, Section, body_of, cuts_of, sections_of}
 use Rattle.receipts.specs.Events.Event.{Turned}
 use Rattle.receipts.specs.Events.{Shown}
 use Rattle.receipts.specs.Events.Shown.{ContentShown, NamesShown, NoneShown}
 use Rattle.receipts.specs.Looks.{HasEntry, LooksAt}
+use Rattle.receipts.specs.Paging.{DoesNothing}
 use Rattle.receipts.specs.Registers.{bucket_register, bucket_slot}
 use Rattle.receipts.proofs.JoinLemmas.{bodies_join, cuts_join, sections_join}
 use Rattle.bucket_ops.specs.Lists.{HasAsked, HasFound, IsAmong, IsAtPage, IsBehind, IsInPage, LooksOnlyAt, WasLookedAt}

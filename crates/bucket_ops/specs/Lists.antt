@@ -10,9 +10,10 @@ use Rattle.desk_base.specs.declared.call.Call.TheVariants.{ListBuckets}
 use Rattle.drive_base.specs.Names.{IsPage, byte_order}
 use Rattle.drive_base.specs.declared.drive.TheConstants.{LONGEST_NAME}
 use Rattle.drive_base.specs.declared.plan.SetPlan.{SetPlan}
-use Rattle.receipts.specs.BucketLists.{DoesNothing, FindsRow, IsAskedFor, ListsPage, row_order}
+use Rattle.receipts.specs.BucketLists.{FindsRow, IsAskedFor, row_order}
 use Rattle.receipts.specs.Events.{IsUntold, Log, Section, body_of, cuts_of, sections_of}
 use Rattle.receipts.specs.Looks.{LooksAt}
+use Rattle.receipts.specs.Paging.{DoesNothing, ListsPage}
 use Rattle.receipts.specs.Paying.{Pays}
 use Rattle.receipts.specs.Registers.{bucket_register, bucket_slot}
 use Rattle.op_steps.specs.Claims.{Claim, no_claim}

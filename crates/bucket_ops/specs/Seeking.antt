@@ -40,7 +40,7 @@ sheet_of work = record {
 
 -- how many names a page has at most
 abbrev pub page_names : ℕ
-page_names = 1000
+page_names = 32
 
 -- no bucket with a lawful name has a register of this name
 abbrev pub IsNoBucket : List ℕ → Type 0

@@ -14,7 +14,7 @@ use slot_history::bucket_slot;
 use std::alloc::Global;
 
 /// How many names a page has at most.
-pub const PAGE_NAMES: u32 = 1000;
+pub const PAGE_NAMES: u32 = 32;
 
 /// The bytes behind the two with which the name of a bucket's register begins, if a name begins so.
 fn behind_begin(name: &[u8]) -> Option<&[u8]>
