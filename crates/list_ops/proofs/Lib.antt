@@ -1,0 +1,12 @@
+pub mod AskLemmas
+pub mod BeginLemmas
+pub mod BoundLemmas
+pub mod FindLemmas
+pub mod GatherLemmas
+pub mod KeyLemmas
+pub mod LogLemmas
+pub mod PlaceLemmas
+pub mod RoundLemmas
+pub mod StepLemmas
+pub mod TextLemmas
+pub mod ViewLemmas
