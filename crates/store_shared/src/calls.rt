@@ -13,6 +13,7 @@ use bucket_ops::{ChangeOp, ListOp, LookOp};
 use call_types::{Cut, Feed};
 use desk_base::{Call, Teller};
 use fault_base::NoMemory;
+use list_ops::PageOp;
 use object_ops::{DeleteOp, GetOp, HeadOp, PutOp};
 use op_steps::Op;
 use std::alloc::Global;
@@ -97,11 +98,11 @@ pub(crate) fn serve_call<S: OpDesk, F: Feed, T: Teller>(
             let op = DeleteOp::new(alloc, set, call, now);
             serve(desk, alloc, pass, call, op, feed, teller)
         }
-        Call::List2 { .. }
-        | Call::ListVersions { .. }
-        | Call::Create { .. }
-        | Call::Part { .. }
-        | Call::Complete { .. }
-        | Call::Abort { .. } => refuse_later(desk, pass, alloc, call, now, feed, teller),
+        Call::List2 { .. } | Call::ListVersions { .. } => {
+            let op = PageOp::new(alloc, set, call, now);
+            serve(desk, alloc, pass, call, op, feed, teller)
+        }
+        Call::Create { .. } | Call::Part { .. } | Call::Complete { .. } | Call::Abort { .. } =>
+            refuse_later(desk, pass, alloc, call, now, feed, teller),
     }
 }

@@ -42,3 +42,8 @@ pub returns-in-Delete-clause-serves : goal.returns-in-Delete-clause-serves
 returns-in-Delete-clause-serves g c =
     let task : Task = record { call = c.args.call.now; now = c.args.now } in
     c.serve-in-Delete.ensures.serves task c.new-op-in-Delete.ensures.task
+
+pub returns-in-List2-clause-serves : goal.returns-in-List2-clause-serves
+returns-in-List2-clause-serves g c =
+    let task : Task = record { call = c.args.call.now; now = c.args.now } in
+    c.serve-in-List2.ensures.serves task c.new-op-in-List2.ensures.task
