@@ -4,6 +4,7 @@ mod DocumentLemmas
 mod DoorsLemmas
 mod FitsLemmas
 mod FreshLemmas
+mod HadLemmas
 mod LifeLemmas
 mod MadeLemmas
 mod OpenLemmas

@@ -15,6 +15,9 @@ use std::alloc::AllocError;
 use std::fs::{self, File, OpenFile};
 use std::rt::Files;
 
+/// The name of the folder of a drive's data.
+pub(crate) const DATA: &str = "data";
+
 /// The lock of a root, if it is to be had.
 pub fn root_lock<R: Files<File = File>>(rt: &R, root: &str) -> Option<RootLock> {
     RootLock::take(rt, root).ok()
@@ -35,7 +38,7 @@ pub fn file_rig<R: Files + AllocGlobal + Clone + Drop>(
         make_parents(rt, set.drives, root)?;
     }
     let slots = file_slots(rt, set.drives, root, is_locked)?;
-    let disks = row(rt, set.drives, root, "data", is_locked)?;
+    let disks = row(rt, set.drives, root, DATA, is_locked)?;
     Rig::with_row(rt.alloc(), set, slots, disks)
 }
 
@@ -52,19 +55,38 @@ fn file_slots<R: Files + AllocGlobal + Clone + Drop>(
 {
     let mut slots = Vec::with_capacity(rt.alloc(), SLOTS)?;
     for slot in 0..SLOTS {
-        let mut digits = Buffer::new();
-        let lanes = row(rt, drives, root, digits.format(slot), is_locked)?;
-        slots.push(SlotParts {
-            lanes,
-            audit: NullAudit::new(),
-        })?;
+        let parts = slot_parts(rt, drives, root, slot, is_locked)?;
+        slots.push(parts)?;
     }
     Ok(slots)
 }
 
+/// The lanes and the audit of a slot.
+pub(crate) fn slot_parts<R: Files + AllocGlobal + Clone + Drop>(
+    rt: &R,
+    drives: u8,
+    root: &str,
+    slot: usize,
+    is_locked: bool,
+) -> Result<SlotParts<FileDrive<R>, NullAudit>, AllocError>
+    ensures lanes { IfOk result (λ parts. HasLanes drives parts) }
+    ensures locked { IfOk result (λ parts. LanesFailUnlocked is_locked parts) }
+{
+    let mut digits = Buffer::new();
+    let lanes = row(rt, drives, root, digits.format(slot), is_locked)?;
+    Ok(SlotParts {
+        lanes,
+        audit: NullAudit::new(),
+    })
+}
+
 /// Makes the folder of each drive where it isn't there. One that can't be made shows when the folders in it are opened.
-fn make_parents<R: Files + AllocGlobal>(rt: &R, drives: u8, root: &str) -> Result<(), AllocError> {
-    for index in 0..drives {
+pub(crate) fn make_parents<R: Files + AllocGlobal>(
+    rt: &R,
+    drives: u8,
+    root: &str,
+) -> Result<(), AllocError> {
+    for index in 0..usize::from(drives) {
         let path = drive_folder(rt, root, index)?;
         let _ = fs::create_dir(rt, path.as_str());
     }
@@ -75,7 +97,7 @@ fn make_parents<R: Files + AllocGlobal>(rt: &R, drives: u8, root: &str) -> Resul
 }
 
 /// The path of a drive's folder.
-fn drive_folder<R: AllocGlobal>(rt: &R, root: &str, index: u8) -> Result<String, AllocError> {
+fn drive_folder<R: AllocGlobal>(rt: &R, root: &str, index: usize) -> Result<String, AllocError> {
     let mut digits = Buffer::new();
     let mut path = String::from_str(rt.alloc(), root)?;
     path.push('/')?;
@@ -94,14 +116,27 @@ fn row<R: Files + AllocGlobal + Clone + Drop>(
     ensures count { IfOk result (λ row. length row.items ≡ drives) }
     ensures locked { IfOk result (λ row. All (FailsUnlocked is_locked) row.items) }
 {
-    let mut row = Vec::with_capacity(rt.alloc(), drives as usize)?;
-    for index in 0..drives {
-        let mut path = drive_folder(rt, root, index)?;
-        path.push('/')?;
-        path.push_str(name)?;
-        row.push(drive(rt, path.as_str(), is_locked)?)?;
+    let mut row = Vec::with_capacity(rt.alloc(), usize::from(drives))?;
+    for index in 0..usize::from(drives) {
+        row.push(drive_of_row(rt, root, index, name, is_locked)?)?;
     }
     Ok(row)
+}
+
+/// The drive over the folder of this name, of the drive of this index.
+pub(crate) fn drive_of_row<R: Files + AllocGlobal + Clone + Drop>(
+    rt: &R,
+    root: &str,
+    index: usize,
+    name: &str,
+    is_locked: bool,
+) -> Result<FileDrive<R>, AllocError>
+    ensures { IfOk result (λ drive. FailsUnlocked is_locked drive) }
+{
+    let mut path = drive_folder(rt, root, index)?;
+    path.push('/')?;
+    path.push_str(name)?;
+    drive(rt, path.as_str(), is_locked)
 }
 
 /// The drive over a folder, or one whose every call fails.

@@ -2,12 +2,15 @@
 //!
 //! `main` reads the words, makes the drives, the streams, the clock and for `serve` the doors, and hands them to [`run`](running::run), whose contract is the
 //! promise of the program, or to [`run_alone`](program::run_alone), which has the same for the commands without doors. `command_line` reads the words. `memory`
-//! and `folders` make a `rig`. `opening` opens a store over a rig and hands all back, `piping` serves a connection over it, `serving` serves doors over it by
-//! `workers` whose passes `dealing` cuts off one another, and `surveying` tells what its drives have for formats. `statuses` has the exit statuses.
+//! and `folders` make a `rig`, and `openers` does by threads what `folders` does one after another. `opening` opens a store over a rig and hands all back,
+//! `piping` serves a connection over it, `serving` serves doors over it by `workers` whose passes `dealing` cuts off one another, and `surveying` tells what its
+//! drives have for formats. `statuses` has the exit statuses.
 #![tactic(auto)]
 
 ghost use Rattle.std.specs.Prelude.{◌≡◌, ◌≤◌, IfOk, length};
+ghost use Rattle.ostore.specs.Locked.{RigFailsUnlocked};
 ghost use Rattle.ostore.specs.Program.{Fits};
+ghost use Rattle.ostore.specs.Rigs.{IsRigOf};
 ghost use Rattle.command_line.specs.Words.{Says};
 
 mod dealing;
@@ -17,6 +20,7 @@ mod gate;
 mod laws;
 mod memory;
 mod notices;
+mod openers;
 mod opening;
 mod piping;
 mod program;
@@ -31,13 +35,15 @@ mod tests;
 mod ways;
 mod workers;
 
-use audit_trail::Audit;
+use audit_trail::{Audit, NullAudit};
 use command_line::{Command, Plan, Usage, plan_of};
 use drive_base::Drive;
+use drive_file::FileDrive;
 use folders::{file_rig, root_lock};
 use io_base::{Sink, Source, Spawner, StdSink, StdSource, SystemClock, TcpDoor, TcpLimits};
 use memory::memory_rig;
 use notices::{tell_in_memory, tell_listening, tell_usage};
+use openers::file_rig_beside;
 use program::run_alone;
 use rig::Rig;
 use running::run;
@@ -47,7 +53,7 @@ use std::env;
 use std::io::{Eprint, ErrorKind, Stdin};
 use std::net::{Net, TcpListener, TcpStream};
 use std::process::ExitCode;
-use std::rt::Clock;
+use std::rt::{Clock, Files};
 use std::sync::Wait;
 use std::thread::Threads;
 use ways::with_ways;
@@ -77,7 +83,7 @@ fn main(rt: HostRuntime) -> ExitCode {
                 Some(root) => {
                     // Held until the run has ended.
                     let lock = root_lock(&rt, root.as_str());
-                    match file_rig(&rt, plan.set, root.as_str(), lock.is_some()) {
+                    match folder_rig(&rt, &plan, root.as_str(), lock.is_some()) {
                         Ok(rig) => run_over(&rt, words, &plan, source, &mut sink, rig),
                         Err(_) => OUT_OF_MEMORY,
                     }
@@ -119,6 +125,26 @@ fn begin(rt: &HostRuntime) -> Result<Begun, u8>
         },
         Err(Usage::NotACommand) => Err(USAGE),
         Err(Usage::NoMemory) => Err(OUT_OF_MEMORY),
+    }
+}
+
+/// The rig over the folders of a root, which for `serve` are opened side by side.
+fn folder_rig<R: Files + AllocGlobal + Threads + Clone + Drop + Send + Sync>(
+    rt: &R,
+    plan: &Plan,
+    root: &str,
+    is_locked: bool,
+) -> Result<Rig<FileDrive<R>, NullAudit>, AllocError>
+where
+    R::File: Send,
+    R::Dir: Send,
+    ensures rig { IfOk result (λ rig. IsRigOf plan.now.set rig) }
+    ensures locked { IfOk result (λ rig. RigFailsUnlocked is_locked rig) }
+{
+    if matches!(plan.command, Command::Serve) {
+        file_rig_beside(rt, plan.set, root, is_locked)
+    } else {
+        file_rig(rt, plan.set, root, is_locked)
     }
 }
 

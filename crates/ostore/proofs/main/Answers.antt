@@ -9,8 +9,8 @@ run_over-requires-clause-fits g c κs =
     (says_of c.in-Ok.field-0.words.items c.as_slice-words.result.now c.in-Ok.field-0.plan (sym c.as_slice-words.ensures.value) c.in-Ok.ensures)
     c.in-Ok-memory_rig.ensures.rig
 
-pub run_over-requires-in-Ok-file_rig-clause-fits : goal.run_over-requires-in-Ok-file_rig-clause-fits
-run_over-requires-in-Ok-file_rig-clause-fits g c κs =
-    fits_words c.as_slice-words.result.now c.in-Ok.field-0.plan c.in-Ok-file_rig.rig
+pub run_over-requires-in-Ok-folder_rig-clause-fits : goal.run_over-requires-in-Ok-folder_rig-clause-fits
+run_over-requires-in-Ok-folder_rig-clause-fits g c κs =
+    fits_words c.as_slice-words.result.now c.in-Ok.field-0.plan c.in-Ok-folder_rig.rig
     (says_of c.in-Ok.field-0.words.items c.as_slice-words.result.now c.in-Ok.field-0.plan (sym c.as_slice-words.ensures.value) c.in-Ok.ensures)
-    c.in-Ok-file_rig.ensures.rig
+    c.in-Ok-folder_rig.ensures.rig

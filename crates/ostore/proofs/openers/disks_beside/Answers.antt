@@ -1,0 +1,13 @@
+use Rattle.std.proofs.Common.{◌∙◌, sym, ℕ, ◌<◌, slice_index_or, rules}
+use Rattle.std.specs.Prelude.{IfOk}
+use Rattle.ostore.proofs.HadLemmas.{all_had}
+use Rattle.ostore.specs.Locked.{FailsUnlocked}
+use Rattle.ostore.proofs.openers.disks_beside.Goals as goal
+use Rattle.ostore.proofs.openers.disks_beside.Goals.{After-all_of}
+
+-- each drive that was opened fails where the root isn't locked
+each_fails : (g : _) (c : After-all_of g) (i : ℕ) (d : _) → i < c.from.result → IfOk (slice_index_or c.in_ok-opened.opened.items i d) (FailsUnlocked c.args.is_locked)
+each_fails g c i d within = let call = (c.in_ok-opened.ensures.each i d within).1.met in search rules
+
+pub returns-clause-locked : goal.returns-clause-locked
+returns-clause-locked g c = all_had (FailsUnlocked c.args.is_locked) c.from.result c.in_ok-opened.opened.items c.all_of.result c.all_of.ensures (sym c.in_ok-opened.opened.ok.0 ∙ c.in_ok-opened.ensures.len) (each_fails g c)
