@@ -99,11 +99,27 @@ fn put(alloc: Global, names: &Names, words: &str) -> Result<Call, NoAnswer>
     })
 }
 
-/// The call of these words: `buckets`, `bucket`, `put KEY BODY STATED MD5`, `get KEY FROM TO`, `head KEY`, `delete KEY`, or `create KEY`.
+/// The words of a call before its `if VALUE`.
+fn plain(words: &str) -> &str {
+    match words.split_once(" if ") {
+        Some((words, _)) => words,
+        None => words,
+    }
+}
+
+/// The value of the `If-Match` of a call, `.. if VALUE`, where one is said.
+fn condition(alloc: Global, names: &Names, words: &str) -> Result<Option<Text>, NoAnswer> {
+    match words.split_once(" if ") {
+        Some((_, value)) => Ok(Some(Text::from_vec(bytes(alloc, names, value)?))),
+        None => Ok(None),
+    }
+}
+
+/// The call of these words: `buckets`, `bucket`, `put KEY BODY STATED MD5`, `get KEY FROM TO if VALUE`, `head KEY if VALUE`, `delete KEY`, or `create KEY`.
 pub fn call(alloc: Global, names: &Names, words: &str) -> Result<Call, NoAnswer>
     ensures { IfOk result IsLawful }
 {
-    let (kind, rest) = first(words);
+    let (kind, rest) = first(plain(words));
     let (name, more) = first(rest);
     let pick = Pick::Current;
     match kind {
@@ -114,13 +130,20 @@ pub fn call(alloc: Global, names: &Names, words: &str) -> Result<Call, NoAnswer>
         "put" => put(alloc, names, words),
         "get" => {
             let ask = range(more)?;
+            let matches = condition(alloc, names, words)?;
             let at = key(alloc, name)?;
-            Ok(Call::Get { at, pick, ask })
+            Ok(Call::Get {
+                at,
+                pick,
+                ask,
+                matches,
+            })
         }
-        "head" => Ok(Call::Head {
-            at: key(alloc, name)?,
-            pick,
-        }),
+        "head" => {
+            let matches = condition(alloc, names, words)?;
+            let at = key(alloc, name)?;
+            Ok(Call::Head { at, pick, matches })
+        }
         "delete" => Ok(Call::Delete {
             at: key(alloc, name)?,
             pick,

@@ -48,6 +48,7 @@ fn plain_refusal(why: &Refusal) -> &'static str {
         Refusal::InvalidPart => "InvalidPart",
         Refusal::PartOrder => "PartOrder",
         Refusal::PartSmall => "PartSmall",
+        Refusal::PreconditionFailed => "PreconditionFailed",
         Refusal::SeqSpent => "SeqSpent",
         _ => "another refusal",
     }

@@ -37,15 +37,28 @@ fn pick(alloc: Global, pick: Pick) -> Result<String, NoAnswer> {
     }
 }
 
-/// A GetObject, behind its key.
-fn get(alloc: Global, of: Pick, ask: RangeAsk) -> Result<String, NoAnswer> {
-    let pick = pick(alloc, of)?;
+/// A range.
+fn range(alloc: Global, ask: RangeAsk) -> Result<String, NoAnswer> {
     Ok(match ask {
-        RangeAsk::Whole => format!(in alloc; "{pick} whole")?,
-        RangeAsk::FromTo(first, last) => format!(in alloc; "{pick} {first}-{last}")?,
-        RangeAsk::From(first) => format!(in alloc; "{pick} {first}-")?,
-        RangeAsk::Last(count) => format!(in alloc; "{pick} -{count}")?,
+        RangeAsk::Whole => said(alloc, "whole")?,
+        RangeAsk::FromTo(first, last) => format!(in alloc; "{first}-{last}")?,
+        RangeAsk::From(first) => format!(in alloc; "{first}-")?,
+        RangeAsk::Last(count) => format!(in alloc; "-{count}")?,
     })
+}
+
+/// A GetObject, behind its key.
+fn get(alloc: Global, of: Pick, ask: RangeAsk, matches: &Option<Text>) -> Result<String, NoAnswer> {
+    let (pick, range) = (pick(alloc, of)?, range(alloc, ask)?);
+    let matches = optional(alloc, "match", matches)?;
+    Ok(format!(in alloc; "{pick} {range}{matches}")?)
+}
+
+/// A HeadObject, behind its key.
+fn head(alloc: Global, of: Pick, matches: &Option<Text>) -> Result<String, NoAnswer> {
+    let pick = pick(alloc, of)?;
+    let matches = optional(alloc, "match", matches)?;
+    Ok(format!(in alloc; "{pick}{matches}")?)
 }
 
 /// A content type.
@@ -158,8 +171,13 @@ pub fn said_call(alloc: Global, call: &Call) -> Result<String, NoAnswer> {
             md5,
             length,
         } => ("Put", at, put(alloc, kind, *md5, *length)?),
-        Call::Get { at, pick, ask } => ("Get", at, get(alloc, *pick, *ask)?),
-        Call::Head { at, pick: of } => ("Head", at, pick(alloc, *of)?),
+        Call::Get {
+            at,
+            pick,
+            ask,
+            matches,
+        } => ("Get", at, get(alloc, *pick, *ask, matches)?),
+        Call::Head { at, pick, matches } => ("Head", at, head(alloc, *pick, matches)?),
         Call::Delete { at, pick: of } => ("Delete", at, pick(alloc, *of)?),
         Call::Create { at, kind: of } => ("Create", at, kind(alloc, of)?),
         Call::Part {

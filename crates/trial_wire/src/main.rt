@@ -17,6 +17,7 @@ mod request_rows;
 mod requests;
 mod sources;
 mod texts;
+mod value_rows;
 mod wire_rows;
 
 use std::alloc::Global;
@@ -41,6 +42,7 @@ impl Rows for Wires {
             "s3_reply" => reply_rows::answer(alloc, &self.kept, words),
             "s3_request" => request_rows::answer(alloc, &self.kept, words),
             "http_wire" => wire_rows::answer(alloc, &self.kept, &mut self.connection, words),
+            "header_values" => value_rows::answer(alloc, &self.kept, words),
             "s3_docs" => document_rows::answer(alloc, &self.kept, words),
             "desk_base" => desk_rows::answer(alloc, &self.kept, words),
             "command_line" => line_rows::answer(alloc, words),

@@ -61,6 +61,7 @@ fn bare_refusal(name: &str) -> Result<Refusal, NoAnswer> {
         "InvalidPart" => Ok(Refusal::InvalidPart),
         "PartOrder" => Ok(Refusal::PartOrder),
         "PartSmall" => Ok(Refusal::PartSmall),
+        "PreconditionFailed" => Ok(Refusal::PreconditionFailed),
         "SeqSpent" => Ok(Refusal::SeqSpent),
         _ => Err(NoAnswer),
     }

@@ -60,7 +60,7 @@ fn is_first(word: &str, yes: &str, no: &str) -> Result<bool, NoAnswer> {
 }
 
 /// An entity tag: `MD5`, or `MD5-PARTS`.
-fn etag(alloc: Global, word: &str) -> Result<Etag, NoAnswer> {
+pub fn etag(alloc: Global, word: &str) -> Result<Etag, NoAnswer> {
     let (digits, parts) = match word.split_once("-") {
         Some((digits, parts)) => (digits, parts),
         None => (word, "0"),

@@ -27,6 +27,10 @@ impl Source for Pieces {
         self.source.take(&mut into[..most])
     }
 
+    fn begin_message(&mut self) {
+        self.source.begin_message();
+    }
+
     fn read_faults(&self) -> u64 {
         self.source.read_faults()
     }
