@@ -68,18 +68,51 @@ def main():
     s3.upload_file(str(folder / "big"), BUCKET, "big", Config=whole)
     s3.download_file(BUCKET, "big", str(folder / "back"), Config=whole)
     assert (folder / "back").read_bytes() == big, "another body of 100 MB"
-    # Without that setting it gets parts of large files at once: newer ones under If-Match, which isn't served.
+    # Without that setting it gets parts of large files at once: newer ones under If-Match.
     (folder / "back").unlink()
-    try:
-        s3.download_file(BUCKET, "big", str(folder / "back"))
-        assert (folder / "back").read_bytes() == big, "another body of 100 MB in parts"
-        (folder / "back").unlink()
-    except ClientError as error:
-        assert error.response["Error"]["Code"] == "NotImplemented", error
+    s3.download_file(BUCKET, "big", str(folder / "back"))
+    assert (folder / "back").read_bytes() == big, "another body of 100 MB in parts"
+    (folder / "back").unlink()
     with concurrent.futures.ThreadPoolExecutor(10) as pool:
         list(pool.map(lambda number: s3.put_object(Bucket=BUCKET, Key=f"many/{number}", Body=b"%d" % number), range(50)))
         many = list(pool.map(lambda number: s3.get_object(Bucket=BUCKET, Key=f"many/{number}")["Body"].read(), range(50)))
     assert many == [b"%d" % number for number in range(50)], "another body of fifty"
+    look_at_conditions(s3, first, second)
+    look_at_pages(s3, boto3.resource("s3", endpoint_url=url, config=config(), **words))
+
+
+def look_at_conditions(s3, first, second):
+    """A part of a body that was replaced meanwhile isn't given."""
+    at = {"Bucket": BUCKET, "Key": "replaced"}
+    tag = s3.put_object(Body=first, **at)["ETag"]
+    assert s3.get_object(IfMatch=tag, Range="bytes=0-9", **at)["Body"].read() == first[:10], "another first part"
+    s3.put_object(Body=second, **at)
+    refused("PreconditionFailed", s3.get_object, IfMatch=tag, Range="bytes=10-19", **at)
+    refused("412", s3.head_object, IfMatch=tag, **at)
+
+
+def look_at_pages(s3, resource):
+    """All pages of both listings, by paginators."""
+    wanted = sorted(f"many/{number}" for number in range(50))
+    pages = list(s3.get_paginator("list_objects_v2").paginate(Bucket=BUCKET, Prefix="many/", PaginationConfig={"PageSize": 7}))
+    assert [row["Key"] for page in pages for row in page["Contents"]] == wanted and len(pages) == 8, pages
+    pages = list(s3.get_paginator("list_objects_v2").paginate(Bucket=BUCKET, Delimiter="/", PaginationConfig={"PageSize": 1}))
+    groups = [row["Prefix"] for page in pages for row in page.get("CommonPrefixes", [])]
+    keys = [row["Key"] for page in pages for row in page.get("Contents", [])]
+    assert groups == ["many/"] and keys == [KEY, "big", "replaced"], (groups, keys)
+    behind = [row["Key"] for row in s3.list_objects_v2(Bucket=BUCKET, StartAfter="many/48")["Contents"]]
+    assert behind == [*wanted[wanted.index("many/49") :], "replaced"], behind
+    paginator = s3.get_paginator("list_object_versions")
+    pages = list(paginator.paginate(Bucket=BUCKET, PaginationConfig={"PageSize": 4}))
+    versions = [(row["Key"], row["IsLatest"]) for page in pages for row in page.get("Versions", [])]
+    assert versions == [(KEY, True), (KEY, False), ("big", True), *((key, True) for key in wanted), ("replaced", True), ("replaced", False)], versions
+    assert len({row["VersionId"] for page in pages for row in page["Versions"]}) == len(versions), "an id comes twice"
+    s3.delete_object(Bucket=BUCKET, Key="replaced")
+    page = s3.list_object_versions(Bucket=BUCKET, Prefix="re", Delimiter="/")
+    assert [row["IsLatest"] for row in page["DeleteMarkers"]] == [True] and len(page["Versions"]) == 2, page
+    assert len(list(resource.Bucket(BUCKET).object_versions.all())) == len(versions) + 1, "another number of versions"
+    refused("NoSuchBucket", s3.list_objects_v2, Bucket="by-nobody")
+    refused("NotImplemented", s3.list_objects, Bucket=BUCKET)
 
 
 main()

@@ -6,6 +6,7 @@ through `pipe`, and is killed with SIGKILL at a random moment: while it opens, w
 take turns with a set 2+2 and a set 4+2, and in the first one of each, in which the store is made, it ends of its own accord:
 so 10 rounds have 8 kills. Then these hold, or the script fails and says why:
   - Every change that was acknowledged is there, and one that was not is there or not.
+  - The listings of keys and of versions have exactly what is there so.
   - No reply was wrong, and none was 503.
   - The term that `status` tells never falls, and rises with each life that answered.
   - No id of a version comes twice, and each has the term of its life.
@@ -16,6 +17,7 @@ rounds are done, copies of the folders are damaged further, and the letters of t
 All but the moments of the kills goes by SEED. 10 rounds and the seed 1 without numbers. TMPDIR says on which disk.
 """
 
+import hashlib
 import json
 import os
 import pathlib
@@ -30,6 +32,7 @@ import time
 
 sys.path.insert(0, str(pathlib.Path(__file__).resolve().parent / "lib"))
 from drive_files import Drive
+from listings import Wrong, must, pages_of
 from pipe_client import Cut, Pipe, request_of
 from program import program
 
@@ -45,15 +48,6 @@ WEIGHTS = [1, 1, 4, 8, 8, 4, 2, 1, 1, 1]
 MARKER = "a delete marker"
 # The kinds of files, and how their names begin.
 KINDS = {"bucket": "b/", "key": "k/", "manifest": "m/", "shard": "s/", "format": "format"}
-
-
-class Wrong(Exception):
-    """Something is not as it is to be."""
-
-
-def must(holds, what):
-    if not holds:
-        raise Wrong(what)
 
 
 class PlainKey:
@@ -75,12 +69,22 @@ class PlainKey:
         if got != self.sure:
             self.changed(got)
 
+    def listed(self, rows, name):
+        """The rows of the key in a listing of keys are those of a body that it has or may have."""
+        bodies = {row_of(body): body for body in [*self.maybe, self.sure]}
+        must(tuple(row[2:] for row in rows) in bodies, f"{name} is listed as {rows}")
+        body = bodies[tuple(row[2:] for row in rows)]
+        if body != self.sure:
+            self.changed(body)
+
 
 class KeptKey:
     """A key of the bucket with versioning: the known versions by their ids, the newest, and contents that cut changes may yet give it."""
 
     def __init__(self):
         self.versions, self.newest, self.maybe = {}, None, []
+        # What all changes that were cut would have given it, also where others were made since.
+        self.unsure = []
 
     def changed(self, version, content):
         self.versions[version] = content
@@ -88,6 +92,7 @@ class KeptKey:
 
     def cut(self, content):
         self.maybe.append(content)
+        self.unsure.append(content)
 
     def read(self, reply, name):
         must(reply.status in (200, 404), f"GET of {name}: {reply}")
@@ -107,6 +112,27 @@ class KeptKey:
         else:
             must(reply.status == 200 and reply.body == content, f"GET of the version {version} of {name}: another reply, {reply.status}")
         must(reply.version == version, f"GET of the version {version} of {name}: {reply.version} is told")
+
+    def listed(self, rows, name):
+        """The rows of the key in a listing of versions: all known versions, in their order, and else such as a change that was cut made."""
+        known, ids = list(reversed(self.versions)), [row[2] for row in rows]
+        must(ids[0:1] == [row[2] for row in rows if row[3]], f"the latest of {name}: {rows}")
+        must(known == [id for id in ids if id in self.versions], f"the versions of {name}: {rows}, and {known} are known")
+        for row in rows:
+            told = row[4:] or MARKER
+            if row[2] in self.versions:
+                content = self.versions[row[2]]
+                must(told == (MARKER if content is MARKER else row_of(content)[0]), f"{name} is listed as {row}")
+            else:
+                may_be = [it for it in (self.maybe if row[3] else self.unsure) if told == (MARKER if it is MARKER else row_of(it)[0])]
+                must(may_be, f"{name} has a version that no change made: {row}")
+                if row[3]:
+                    self.changed(row[2], may_be[0])
+
+
+def row_of(body):
+    """What a row of a listing tells of a body: its tag and its length. None where there is no body."""
+    return () if body is None else ((f'"{hashlib.md5(body).hexdigest()}"', len(body)),)
 
 
 class Killer:
@@ -244,10 +270,20 @@ class Set:
                 self.kept[key].read(self.get(pipe, KEPT, key), short(key))
                 for version in self.some_versions(key):
                     self.kept[key].read_version(self.get(pipe, KEPT, key, version), version, short(key))
+            self.list_all(pipe)
             self.reading = time.monotonic() - began
         finally:
             if killer:
                 killer.stop()
+
+    def list_all(self, pipe):
+        """Lists the keys of the one bucket and the versions of the other, by pages of a few."""
+        for bucket, is_versions in ((PLAIN, False), (KEPT, True)):
+            rows = [row for page in pages_of(pipe, bucket, {}, 5, is_versions) for row in page.rows]
+            must({row[1] for row in rows} <= set(KEYS), f"other keys are listed: {rows}")
+            for key in KEYS:
+                self.states(bucket)[key].listed([row for row in rows if row[1] == key], short(key))
+            self.ids.update(row[2] for row in rows if is_versions)
 
     def some_versions(self, key):
         """Three of the versions of a key, and all of them where there are fewer."""

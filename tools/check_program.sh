@@ -267,7 +267,7 @@ refuses 411 MissingContentLength 'The Content-Length header is missing.' < <(ask
 refuses 501 NotImplemented 'Chunked bodies are not served.' < <(ask 'PUT /pic/a HTTP/1.1\r\nTransfer-Encoding: chunked\r\n\r\n')
 refuses 400 InvalidURI 'The target is not a path in UTF-8.' < <(ask 'GET /%ff HTTP/1.1\r\n\r\n')
 refuses 501 NotImplemented 'This call is not served.' < <(ask 'GET /pic?acl HTTP/1.1\r\n\r\n')
-refuses 501 NotImplemented 'This call is not served.' < <(ask "${make}GET /pic?list-type=2 HTTP/1.1\r\n\r\n")
+refuses 501 NotImplemented 'This call is not served.' < <(ask "${make}GET /pic?prefix=a HTTP/1.1\r\n\r\n")
 refuses 501 NotImplemented 'This call is not served.' < <(ask "${make}POST /pic/a?uploads HTTP/1.1\r\n\r\n")
 refuses 400 InvalidBucketName 'The bucket name is not valid.' < <(ask 'PUT /Pic HTTP/1.1\r\n\r\n')
 refuses 400 KeyTooLongError 'The key is longer than 1024 bytes.' < <(ask "GET /pic/$long HTTP/1.1\r\n\r\n")
@@ -283,6 +283,7 @@ refuses 404 NoSuchKey 'The specified key does not exist.' < <(ask "$make$get")
 refuses 404 NoSuchVersion 'The specified version does not exist.' < <(ask "$make${put}GET /pic/a?versionId=$other HTTP/1.1\r\n\r\n")
 refuses 405 MethodNotAllowed 'The specified version is a delete marker.' \
     < <(ask "$make$enable$put${delete}GET /pic/a?versionId=$marker_id HTTP/1.1\r\n\r\n")
+refuses 412 PreconditionFailed "The precondition doesn't hold." < <(ask "$make${put}GET /pic/a HTTP/1.1\r\nIf-Match: \"x\"\r\n\r\n")
 refuses 416 InvalidRange 'The range is not satisfiable.' < <(ask "$make${put}GET /pic/a HTTP/1.1\r\nRange: bytes=5-\r\n\r\n")
 if [[ "${1:-}" == slow ]]; then
     refuses 400 TooManyVersions 'The key has 10000 versions.' < <(ask "$make$enable"; for _ in {1..10001}; do ask "$delete"; done)

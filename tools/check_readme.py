@@ -6,7 +6,7 @@ clients that are installed, which may take minutes. Last it compares what `./ost
     tools/check_readme.py [clients | release]
 
 With the word `release` the program is a copy of `ostore`, `VERSION` and `release` alone, and no folder with the command `rt` is on the
-path.
+path. The pages are then those of the commit that the release is of, where this tree has other sources and git knows that commit.
 
 In a block that is fenced as `console`, a line behind `$ ` is a command, and the lines below it are what it prints: on standard output, and
 for a command that ends with `&` on standard error too. A command below which nothing stands has to print nothing. A block that is fenced as
@@ -31,14 +31,15 @@ import sys
 import tempfile
 import time
 
-sys.path.insert(0, str(pathlib.Path(__file__).resolve().parent / "lib"))
+sys.path[:0] = [str(pathlib.Path(__file__).resolve().parent), str(pathlib.Path(__file__).resolve().parent / "lib")]
+import release
 from program import prefer_memory, program, program_of
 
 TOP = pathlib.Path(__file__).resolve().parent.parent
 PAGES = ("README.md", "docs/CLIENTS.md")
 ADDRESS = "127.0.0.1:9000"
 # The clients that a machine may lack, each with a call that shows whether it is there.
-CLIENTS = {"aws": ["aws", "--version"], "rclone": ["rclone", "version"], "s3cmd": ["s3cmd", "--version"], "python3": ["python3", "-c", "import boto3"]}
+CLIENTS = {"aws": ["aws", "--version"], "rclone": ["rclone", "version"], "s3cmd": ["s3cmd", "--version"], "s3fs": ["s3fs", "--version"], "python3": ["python3", "-c", "import boto3"]}
 # The longest that a command may take, in seconds, and the longest until a command in the background has printed what the page shows.
 LONGEST = 600
 MASKS = (
@@ -50,10 +51,21 @@ MASKS = (
 MOVED_ON = re.compile(r"^ostore: this is release \S+, and the sources have moved on since; .*\n", re.M)
 
 
-def blocks_of(page):
+def text_of(page, is_release):
+    """A page; for a release of other sources than this tree's as it was then, where git knows that."""
+    if is_release:
+        told = dict(line.split(": ", 1) for line in (TOP / "release/RELEASE").read_text().splitlines())
+        if told["sources"] != release.sum_of(release.sources().encode()):
+            then = subprocess.run(["git", "show", f"{told['commit']}:{page}"], cwd=TOP, capture_output=True, text=True)
+            if then.returncode == 0:
+                return then.stdout
+    return (TOP / page).read_text()
+
+
+def blocks_of(text):
     """The fenced blocks of a page that are run: each with its kind, the number of its first line, and its lines."""
     kind, start, lines = None, 0, []
-    for number, line in enumerate((TOP / page).read_text().splitlines(), 1):
+    for number, line in enumerate(text.splitlines(), 1):
         if line.startswith("```"):
             if kind in ("console", "sh"):
                 yield kind, start, lines
@@ -109,7 +121,7 @@ class Reader:
         here = work / "here"
         here.mkdir()
         put_program(here, is_release)
-        shutil.copy(TOP / "README.md", here)
+        (here / "README.md").write_text(text_of("README.md", is_release))
         unset = {it for it in os.environ if it.startswith(("AWS_", "RCLONE_"))}
         env = {name: value for name, value in os.environ.items() if name not in unset}
         env.update(HOME=str(work), no_proxy="127.0.0.1", NO_PROXY="127.0.0.1", LC_ALL="C", AWS_EC2_METADATA_DISABLED="true", AWS_PAGER="")
@@ -202,7 +214,7 @@ def check(page, work, word):
     """How many commands of a page passed, and how many failed. Behind one that failed none is run."""
     reader, passed = Reader(page, work, word == "release"), 0
     try:
-        for kind, start, lines in blocks_of(page):
+        for kind, start, lines in blocks_of(text_of(page, word == "release")):
             client = client_of(lines)
             if client and word != "clients":
                 continue

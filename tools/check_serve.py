@@ -14,6 +14,7 @@ Each check prints a line with what it found:
   queue      more connections than workers wait until a worker is free
   order      a client that holds its bytes back has each reply before the next request, `100 Continue` before a body, and a refusal
              that closes without one
+  kept       beside all these a client asks for little every 6 seconds, for 66 seconds, and its connection isn't cut
 
 64 connections do 12 calls each and two lives are killed; with the word `full` it is 200 calls and 20 lives. TMPDIR says on which
 disk the folders are. Without it and without `full` they are in memory, where the system has a place for that, since a disk may
@@ -113,6 +114,44 @@ def rate(server, clients, seconds):
     at_once([lambda number=number: go(number) for number in range(clients)])
     must(20 * clients * min(counts) >= sum(counts), f"a client isn't served beside the others: {counts}")
     return sum(counts) / seconds
+
+
+class Kept:
+    """A client that asks now and then, by a thread of its own, over a server of its own."""
+
+    def __init__(self, server):
+        self.server, self.why, self.idle = server, None, 0.0
+        self.thread = threading.Thread(target=self.go_on, daemon=True)
+        self.thread.start()
+
+    def go_on(self):
+        # Once more where the client itself was idle for too long, as on a loaded machine.
+        for _ in range(2):
+            self.why = self.asks()
+            if self.why is None or self.idle < IDLE:
+                return
+
+    def asks(self):
+        """Asks for the buckets twelve times, which are less than 1,024 bytes in all. Answers why not."""
+        self.idle = 0.0
+        try:
+            with self.server.is_ready().connect() as line:
+                for number in range(12):
+                    time.sleep(6 if number else 0)
+                    try:
+                        reply = line.ask("GET", "/")
+                    finally:
+                        self.idle = max(self.idle, line.silence)
+                    must(reply.status == 200, f"request {number + 1}: {reply}")
+        except (Failed, Cut, OSError) as why:
+            return f"{why!r} behind {self.idle:.1f} s"
+        return None
+
+    def end(self):
+        """Waits until it is done."""
+        self.thread.join()
+        must(self.why is None, f"the connection was cut: {self.why}")
+        return "a connection lives as long as its client asks"
 
 
 class Checks:
@@ -324,7 +363,9 @@ def main():
         prefer_memory()
     folder = pathlib.Path(tempfile.mkdtemp(prefix="check_serve-"))
     checks = Checks(folder, Sizes(is_full))
+    server = Server(checks.root("kept"), 1)
     try:
+        kept = Kept(server)
         checks.check("search", checks.search)
         checks.check("many", checks.many)
         checks.check("slow", checks.slow)
@@ -333,7 +374,10 @@ def main():
         checks.check("addresses", checks.address)
         checks.check("queue", checks.queue)
         checks.check("order", checks.order)
+        checks.check("kept", kept.end)
     finally:
+        with server:
+            pass
         shutil.rmtree(folder, ignore_errors=True)
     print(f"{checks.passed} passed, {checks.failed} failed")
     sys.exit(checks.failed > 0)
