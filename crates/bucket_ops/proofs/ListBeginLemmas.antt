@@ -8,7 +8,7 @@ use Rattle.receipts.specs.Events.{IsUntold, Section, sections_of}
 use Rattle.receipts.specs.Paging.{DoesNothing}
 use Rattle.bucket_ops.specs.Lists.{HasFound, IsAtPage, IsBehind, IsUpTo}
 use Rattle.bucket_ops.specs.Seeking.{IsFirstPage, Sheet}
-use Rattle.bucket_ops.proofs.OrderLemmas.{upto_itself}
+use Rattle.receipts.proofs.OrderLemmas.{upto_itself}
 use Rattle.bucket_ops.proofs.PageLemmas.{none_at_begin}
 
 none_there : (section : Section) → Contains [] section → ⊥

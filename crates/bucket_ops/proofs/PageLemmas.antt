@@ -12,7 +12,8 @@ use Rattle.receipts.specs.Registers.{bucket_register, bucket_slot}
 use Rattle.receipts.proofs.RegisterLemmas.{bucket_slot_below}
 use Rattle.bucket_ops.specs.Lists.{HasFound, IsAmong, IsAtPage, IsBehind, IsInPage, IsUpTo, LooksOnlyAt, WasLookedAt}
 use Rattle.bucket_ops.specs.Seeking.{EndsSlot, IsFirstPage, IsNextPage, IsPassed, Sheet, page_names}
-use Rattle.bucket_ops.proofs.OrderLemmas.{before_trans, behind_begin, never_itself, sides, upto_itself, upto_last, upto_trans}
+use Rattle.receipts.proofs.OrderLemmas.{before_trans, never_itself, sides, upto_itself, upto_last, upto_trans}
+use Rattle.bucket_ops.proofs.OrderLemmas.{behind_begin}
 
 -- the names up to a place are done with where those up to an earlier one are, and the others are passed over
 looked_more : (sheet : Sheet) (done end : ℕ) (log : Log) (page : IsInPage sheet done log) → ((k : ℕ) (d : List ℕ) → done ≤ k → k < end

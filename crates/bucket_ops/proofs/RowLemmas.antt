@@ -10,7 +10,7 @@ use Rattle.call_types.specs.declared.reply.BucketRow.{BucketRow}
 use Rattle.drive_base.specs.Names.{IsBefore}
 use Rattle.receipts.specs.BucketLists.{row_order}
 use Rattle.bucket_ops.specs.Rows.{PutsRow, row_of}
-use Rattle.bucket_ops.proofs.OrderLemmas.{before_trans, behind_other}
+use Rattle.receipts.proofs.OrderLemmas.{before_trans, behind_other}
 
 -- what is at or behind a name that is none of a list's stands behind it, where the first row does
 head_before : (row first : BucketRow) (rows : List BucketRow) → IsStrictlySortedBy row_order (first ∷ rows) → IsBefore row.name first.name

@@ -26,7 +26,7 @@ use Rattle.receipts.proofs.JoinLemmas.{bodies_join, cuts_join, sections_join}
 use Rattle.bucket_ops.specs.Lists.{HasAsked, HasFound, IsAmong, IsAtPage, IsBehind, IsInPage, LooksOnlyAt, WasLookedAt}
 use Rattle.bucket_ops.specs.Rows.{AddsRow, row_of}
 use Rattle.bucket_ops.specs.Seeking.{Sheet, page_names, with_names, with_rows}
-use Rattle.bucket_ops.proofs.OrderLemmas.{behind_other, never_itself}
+use Rattle.receipts.proofs.OrderLemmas.{behind_other, never_itself}
 use Rattle.bucket_ops.proofs.RowLemmas.{puts_all, puts_keeps, puts_own, puts_rises}
 
 -- a log with one section more that has a note
