@@ -4,3 +4,4 @@ pub mod Laws
 pub mod Names
 pub mod Prints
 pub mod Shards
+pub mod Staging

@@ -1,7 +1,7 @@
 -- A desk that tells one refusal does what is asked of a desk.
-use Rattle.std.proofs.Common.{◌≡◌, ℕ, ◌+◌, List, [], Option, Some, None, inl, inr, refl, sym, arith, length}
+use Rattle.std.proofs.Common.{◌≡◌, ℕ, ◌+◌, List, [], Option, Some, None, inl, inr, refl, sym, ap, arith, length, append-nil}
 use Rattle.std.specs.Prelude.{Result, Ok, Err}
-use Rattle.std.specs.Io.KnownBytes.{prepend_known}
+use Rattle.std.specs.Io.KnownBytes.{prepend_known, append_known}
 use Rattle.call_types.specs.Feeds.{FeedView, Gave}
 use Rattle.call_types.specs.declared.feed.Cut.{Cut}
 use Rattle.call_types.specs.declared.feed.Cut.TheVariants.{ReadFault, BodyCut, WriteFault, ShardCut, NoMemory}
@@ -17,9 +17,20 @@ nothing_left : (left : Option (List ℕ)) → left ≡ prepend_known [] left
 nothing_left None = refl
 nothing_left (Some left) = refl
 
+-- nor was anything taken
+nothing_more : (taken : Option (List ℕ)) → taken ≡ append_known taken []
+nothing_more None = refl
+nothing_more (Some taken) = ap Some (sym (append-nil taken))
+
 -- no byte was given
 gave_none : (feed : FeedView) → Gave [] feed feed
-gave_none feed = record { stated = refl; given = omega arith; left = nothing_left feed.left }
+gave_none feed = record {
+  stated = refl;
+  given = omega arith;
+  left = nothing_left feed.left;
+  taken = nothing_more feed.taken;
+  ended = λ none ended. ended;
+}
 
 -- one refusal is a whole reply
 pub refusal_serves : {T : Type 0} (takes breaks : Effect T) (call : Call) (why : Refusal) (result : Result (Unit {0}) Cut) (feed : FeedView) (old new : T) (a b : ℕ)

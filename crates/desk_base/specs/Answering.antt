@@ -1,9 +1,8 @@
 -- What a desk is asked, what it tells, and why a call is cut.
 use Rattle.std.specs.Prelude.{◌≡◌, ◌⊎◌, ℕ, ◌<◌, ◌≤◌, List, [], ◌∷◌, ◌++◌, length, map, Result, Ok, Err}
-use Rattle.std.specs.Io.KnownBytes.{IsAtEnd}
 use Rattle.std.specs.List.{concat}
 use Rattle.fault_base.specs.Counts.{Rose}
-use Rattle.call_types.specs.Feeds.{FeedView, Gave}
+use Rattle.call_types.specs.Feeds.{FeedEnded, FeedView, Gave}
 use Rattle.call_types.specs.declared.feed.Cut.{Cut}
 use Rattle.call_types.specs.declared.feed.Cut.TheVariants.{ReadFault, BodyCut, WriteFault, ShardCut, NoMemory}
 use Rattle.call_types.specs.declared.reply.Reply.{Reply}
@@ -63,13 +62,13 @@ WasTold takes breaks (Err WriteFault) old tale new = BreaksLast takes breaks old
 WasTold takes breaks (Err (ShardCut _)) old tale new = TellsAll takes old tale new
 WasTold takes breaks (Err NoMemory) old tale new = TellsAll takes old tale new
 
--- why a call was cut, with the counts of faults of the feed and of the teller: the feed's rose, its input ended before the stated length, or the
--- teller's rose; no other count moves
+-- why a call was cut, with the counts of faults of the feed and of the teller: the feed's rose, its source met its end before the stated length,
+-- or the teller's rose; no other count moves
 abbrev pub CutCause : {T : Type 0} → Result T Cut → FeedView → ℕ → ℕ → ℕ → ℕ → Type 0
 CutCause (Ok _) feed read_old read_new write_old write_new = (read_new ≡ read_old) × (write_new ≡ write_old)
 CutCause (Err ReadFault) feed read_old read_new write_old write_new = Rose read_old read_new × (write_new ≡ write_old)
 CutCause (Err (BodyCut read stated)) feed read_old read_new write_old write_new = (read ≡ feed.given) × (stated ≡ feed.stated) × (feed.given < feed.stated)
-    × IsAtEnd feed.left × (read_new ≡ read_old) × (write_new ≡ write_old)
+    × FeedEnded feed × (read_new ≡ read_old) × (write_new ≡ write_old)
 CutCause (Err WriteFault) feed read_old read_new write_old write_new = (read_new ≡ read_old) × Rose write_old write_new
 CutCause (Err (ShardCut _)) feed read_old read_new write_old write_new = (read_new ≡ read_old) × (write_new ≡ write_old)
 CutCause (Err NoMemory) feed read_old read_new write_old write_new = (read_new ≡ read_old) × (write_new ≡ write_old)

@@ -5,7 +5,8 @@ use Rattle.drive_base.specs.declared.fault.DriveFault.TheVariants.{Absent, Faile
 use Rattle.drive_base.specs.Files.{Files, LooseFile, with_loose, with_placed}
 use Rattle.drive_base.specs.Leaves.{AnyLoose, Placed, PlacedOrNot}
 use Rattle.drive_base.specs.View.{DriveView}
-use Rattle.drive_base.specs.DriveModel.{DriveCall, FilesAfter, Size, Read, Append, Sync, Rename, Discard, Remove}
+use Rattle.drive_base.specs.DriveModel.{FilesAfter}
+use Rattle.drive_base.specs.Trail.{DriveCall, Size, Read, Append, Sync, Rename, Discard, Remove, Names}
 use Rattle.drive_base.specs.HonestDamage.{KeepsHonesty, IsHonestAt, CallsKeepHonesty}
 
 -- honest damage stays so over such a change
@@ -81,6 +82,10 @@ files_keep name (Remove at (Ok done)) old new h = removed_keeps name old.files a
 files_keep name (Remove at (Err Absent)) old new h = same_keeps name old.files new.files h.1
 files_keep name (Remove at (Err Failed)) old new h = elim h [ inl same ↦ same_keeps name old.files new.files same | inr gone ↦ removed_keeps name old.files at new.files gone ]
 files_keep name (Remove at (Err NoMemory)) old new h = absurd h
+files_keep name (Names from most (Ok names)) old new h = same_keeps name old.files new.files h.1
+files_keep name (Names from most (Err Absent)) old new h = absurd h
+files_keep name (Names from most (Err Failed)) old new h = same_keeps name old.files new.files h
+files_keep name (Names from most (Err NoMemory)) old new h = same_keeps name old.files new.files h
 
 -- each call of a drive that tells
 pub calls_keep_honesty : CallsKeepHonesty

@@ -1,3 +1,4 @@
+pub mod CallLemmas
 pub mod HonestLemmas
 pub mod PageLemmas
 pub mod SetLemmas

@@ -1,7 +1,8 @@
 -- From the drives of a list to what is seen of them, and back.
-use Rattle.std.proofs.Common.{sym, subst, ◌≡◌, ◌<◌, ℕ, zero, suc, List, [], ◌∷◌, length, slice_index_or, refl, ◌∙◌, arith, IsTrue}
+use Rattle.std.proofs.Common.{ap, append_assoc, sym, subst, ◌≡◌, ◌<◌, ℕ, zero, suc, List, [], ◌∷◌, ◌++◌, length, slice_index_or, refl, ◌∙◌, arith, IsTrue}
 use Rattle.std.proofs.lemmas.List.{length-map}
 use Rattle.drive_base.specs.View.{AllGoOn, AllTell, DriveView, view, views, view_at, AtEach, AtSome, GoesOn, OnlyRead, UntouchedGoOn, UntouchedAreOnlyRead, TwoCallsGoOn, TwoCallsOnlyRead, OnlyReadGoOn}
+use Rattle.drive_base.specs.Trail.{AreReadings, DriveCall, GrewByReadings}
 use Rattle.drive_base.specs.declared.drive.Drive.{Ghosts}
 
 module _ {D : Type 0} (ghosts : Ghosts D) where
@@ -78,17 +79,33 @@ still_tell IsAsked old new all tell k lt asked =
 goes_on_twice : (old mid new : DriveView) → GoesOn old mid → GoesOn mid new → GoesOn old new
 goes_on_twice old mid new one two = record { tells = two.tells ∙ one.tells; count = omega arith }
 
+-- readings, and readings behind them
+both_read : (first second : List DriveCall) → AreReadings first → AreReadings second → AreReadings (first ++ second)
+both_read [] second one two = two
+both_read (call ∷ first) second one two = (one.0, both_read first second one.1 two)
+
+grew_twice : (old mid new : List DriveCall) → GrewByReadings old mid → GrewByReadings mid new → GrewByReadings old new
+grew_twice old mid new one two = record {
+  more = two.more ++ one.more;
+  readings = both_read two.more one.more two.readings one.readings;
+  grown = two.grown ∙ (ap (λ (calls : List DriveCall). two.more ++ calls) one.grown ∙ sym (append_assoc two.more one.more old));
+}
+
+pub none_since : (calls : List DriveCall) → GrewByReadings calls calls
+none_since calls = record { more = []; readings = tt; grown = refl }
+
 only_read_twice : (old mid new : DriveView) → OnlyRead old mid → OnlyRead mid new → OnlyRead old new
 only_read_twice old mid new one two = record {
   goes_on = goes_on_twice old mid new one.goes_on two.goes_on;
   files = λ told. let still : IsTrue mid.tells = rw one.goes_on.tells told in two.files still ∙ one.files told;
+  trail = grew_twice old.trail mid.trail new.trail one.trail two.trail;
 }
 
 pub untouched_go_on : UntouchedGoOn
 untouched_go_on drives = record { long = refl; each = λ k lt. record { tells = refl; count = omega arith } }
 
 pub untouched_are_only_read : UntouchedAreOnlyRead
-untouched_are_only_read drives = record { long = refl; each = λ k lt. record { goes_on = record { tells = refl; count = omega arith }; files = λ told. refl } }
+untouched_are_only_read drives = record { long = refl; each = λ k lt. record { goes_on = record { tells = refl; count = omega arith }; files = λ told. refl; trail = none_since (view_at drives k).trail } }
 
 pub two_calls_go_on : TwoCallsGoOn
 two_calls_go_on old mid new one two = record {

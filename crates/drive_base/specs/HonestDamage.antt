@@ -1,7 +1,8 @@
 -- Honest damage: what a drive may show in place of what it keeps.
 use Rattle.std.specs.Prelude.{◌≡◌, ◌≢◌, ◌⊎◌, ℕ, IsTrue, List, take, drop, Option, Some}
 use Rattle.drive_base.specs.Files.{Files}
-use Rattle.drive_base.specs.DriveModel.{DriveCall, DriveModel}
+use Rattle.drive_base.specs.DriveModel.{DriveModel}
+use Rattle.drive_base.specs.Trail.{DriveCall}
 use Rattle.drive_base.specs.View.{DriveView}
 
 -- what is kept under a name is shown, or bytes in its place that a rule calls damaged; the rule sees what is kept and the bytes

@@ -1,3 +1,4 @@
+pub mod Calls
 pub mod DriveModel
 pub mod DriveSet
 pub mod Faults
@@ -6,4 +7,5 @@ pub mod HonestDamage
 pub mod Leaves
 pub mod Names
 pub mod Plan
+pub mod Trail
 pub mod View

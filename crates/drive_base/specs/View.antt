@@ -1,21 +1,23 @@
 -- What a contract sees of a drive, and of the drives of a set, so that it speaks of plain lists.
-use Rattle.std.specs.Prelude.{◌≡◌, ◌<◌, ◌≤◌, ℕ, Bool, false, IsTrue, List, length, map, slice_index_or}
+use Rattle.std.specs.Prelude.{◌≡◌, ◌<◌, ◌≤◌, ℕ, Bool, false, IsTrue, List, [], length, map, slice_index_or}
 use Rattle.drive_base.specs.declared.drive.Drive.{Ghosts}
 use Rattle.drive_base.specs.Files.{Files, no_files}
+use Rattle.drive_base.specs.Trail.{DriveCall, GrewByReadings}
 
--- a drive: whether it tells what it holds, its files, and its count of faults
+-- a drive: whether it tells what it holds, its files, its count of faults, and the calls that were made of it
 pub record DriveView : Type 0 where
   pub tells : Bool
   pub files : Files
   pub count : ℕ
+  pub trail : List DriveCall
 
 -- a drive that tells nothing and has no faults
 abbrev pub blank_view : DriveView
-blank_view = record { tells = false; files = no_files; count = 0 }
+blank_view = record { tells = false; files = no_files; count = 0; trail = [] }
 
 -- what is seen of one drive
 abbrev pub view : {D : Type 0} → Ghosts D → D → DriveView
-view ghosts drive = record { tells = ghosts.tells drive; files = ghosts.files drive; count = ghosts.count drive }
+view ghosts drive = record { tells = ghosts.tells drive; files = ghosts.files drive; count = ghosts.count drive; trail = ghosts.trail drive }
 
 -- what is seen of each drive of a list
 abbrev pub views : {D : Type 0} → Ghosts D → List D → List DriveView
@@ -45,6 +47,7 @@ pub record GoesOn (old new : DriveView) : Type 0 where
 pub record OnlyRead (old new : DriveView) : Type 0 where
   pub goes_on : GoesOn old new
   pub files : IsTrue old.tells → new.files ≡ old.files
+  pub trail : GrewByReadings old.trail new.trail
 
 -- each drive tells as before, and no count fell
 abbrev pub AllGoOn : List DriveView → List DriveView → Type 0

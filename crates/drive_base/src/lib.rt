@@ -7,14 +7,15 @@
 //!
 //! The contract holds of drives that tell what they hold and of drives that tell nothing, such as a
 //! folder or a drive behind a lock. What a drive holds is claimed only of one that tells it. Counts,
-//! causes and the order of names are claimed of every drive.
+//! causes and the order of names are claimed of every drive, and so is which calls were made of it and what each
+//! answered: a drive keeps a [`Trail`] of them, which contracts alone see.
 //!
 //! A set of drives is a [`SetPlan`]; a [`DriveSet`] names some of its drives, and [`drive_set_laws`] says how such sets are
 //! counted. The layers above see the drives of a set as a list of views, one for each: [`view_laws`] says what holds of
 //! such lists over several calls, and that no call makes damage dishonest. [`page`] lists the keys of a map as a drive
 //! lists its names.
 //!
-//! It stands on `fault_base`, which says when a count rose.
+//! It stands on `fault_base`, which says when a count rose, and on `ghost_note`, of which a trail is made.
 #![tactic(auto)]
 
 mod drive;
@@ -22,6 +23,7 @@ mod drive_set;
 mod fault;
 mod listing;
 mod plan;
+mod trail;
 mod trouble;
 mod views;
 
@@ -30,5 +32,6 @@ pub use drive_set::{DriveSet, drive_set_laws};
 pub use fault::DriveFault;
 pub use listing::page;
 pub use plan::{MOST_DRIVES, SetPlan, usual_parity};
+pub use trail::{Before, Trail};
 pub use trouble::Trouble;
 pub use views::view_laws;

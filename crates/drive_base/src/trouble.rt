@@ -20,5 +20,6 @@ pub trait Trouble<D: Drive> {
         ensures kept { IsTrue (D.tells drive.old) → (D.files drive.new).kept ≡ (D.files drive.old).kept }
         ensures loose { IsTrue (D.tells drive.old) → (D.files drive.new).loose ≡ (D.files drive.old).loose }
         ensures tells { D.tells drive.new ≡ D.tells drive.old }
+        ensures trail { D.trail drive.new ≡ D.trail drive.old }
         ensures count { D.count drive.old ≤ D.count drive.new };
 }

@@ -4,3 +4,4 @@ pub mod FilesLemmas
 pub mod NameLemmas
 pub mod ResultLemmas
 pub mod StopLemmas
+pub mod TrailLemmas

@@ -1,6 +1,7 @@
 -- What a memory drive means.
-use Rattle.std.specs.Prelude.{ℕ, Bool, Option}
+use Rattle.std.specs.Prelude.{ℕ, Bool, List, Option}
 use Rattle.drive_base.specs.Files.{Files}
+use Rattle.drive_base.specs.Trail.{DriveCall}
 use Rattle.drive_memory.specs.Contents.{held_files}
 use Rattle.drive_memory.specs.declared.drive.MemDrive.{MemDrive}
 use Rattle.drive_memory.specs.declared.fuse.Fuse.{Fuse}
@@ -24,3 +25,7 @@ is_lost drive = drive.lost
 -- the fuse as it stands: how many calls are still let through, and whether the next one after these takes effect
 abbrev pub fuse_of : MemDrive → Option Fuse
 fuse_of drive = drive.fuse
+
+-- the calls that were made of the drive, the newest first
+abbrev pub calls_of : MemDrive → List DriveCall
+calls_of drive = drive.trail

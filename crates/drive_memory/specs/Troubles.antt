@@ -2,15 +2,16 @@
 use Rattle.std.specs.Prelude.{◌≡◌, Bool, true, false, Some, None}
 use Rattle.std.specs.String.{string_bytes}
 use Rattle.drive_memory.specs.Damage.{HurtLeaves}
-use Rattle.drive_memory.specs.MemDrive.{files_of, fault_count, starved_count, is_lost, fuse_of}
+use Rattle.drive_memory.specs.MemDrive.{calls_of, files_of, fault_count, starved_count, is_lost, fuse_of}
 use Rattle.drive_memory.specs.declared.drive.MemDrive.{MemDrive}
 use Rattle.drive_memory.specs.declared.fuse.Fuse.{Fuse}
 use Rattle.drive_memory.specs.declared.troubles.Hurt.{Hurt}
 
--- neither count moved
+-- neither count moved, and no call was made
 pub record CountsStay (old new : MemDrive) : Type 0 where
   pub faults : fault_count new ≡ fault_count old
   pub starved : starved_count new ≡ starved_count old
+  pub trail : calls_of new ≡ calls_of old
 
 -- the drive is lost, and has its files and its fuse
 pub record LoseDoes (old : MemDrive) (struck : Bool) (new : MemDrive) : Type 0 where

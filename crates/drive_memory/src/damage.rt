@@ -2,7 +2,7 @@
 
 ghost use Rattle.std.specs.Prelude.{◌≡◌, None};
 ghost use Rattle.drive_memory.specs.Damage.{HurtLeaves, after_stop};
-ghost use Rattle.drive_memory.specs.MemDrive.{files_of, fault_count, starved_count, is_lost, fuse_of};
+ghost use Rattle.drive_memory.specs.MemDrive.{calls_of, files_of, fault_count, starved_count, is_lost, fuse_of};
 
 use crate::MemDrive;
 
@@ -18,6 +18,7 @@ impl MemDrive {
         ensures fuse { fuse_of self.new ≡ fuse_of self.old }
         ensures faults { fault_count self.new ≡ fault_count self.old }
         ensures starved { starved_count self.new ≡ starved_count self.old }
+        ensures trail { calls_of self.new ≡ calls_of self.old }
     {
         self.contents.hurt(name, place)
     }
@@ -30,6 +31,7 @@ impl MemDrive {
         ensures loss { is_lost self.new ≡ is_lost self.old }
         ensures faults { fault_count self.new ≡ fault_count self.old }
         ensures starved { starved_count self.new ≡ starved_count self.old }
+        ensures trail { calls_of self.new ≡ calls_of self.old }
     {
         self.contents.stop();
         self.fuse = None;

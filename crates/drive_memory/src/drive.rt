@@ -1,18 +1,19 @@
 //! The drive.
 
-ghost use Rattle.std.specs.Prelude.{◌≡◌, ◌≤◌, true, false, None, length, map, IfOk, string_bytes};
+ghost use Rattle.std.specs.Prelude.{◌≡◌, ◌≤◌, true, false, [], None, length, map, IfOk, string_bytes};
 ghost use Rattle.drive_base.specs.Faults.{Counts, CountsAppend, CountsNames};
 ghost use Rattle.drive_base.specs.Files.{no_files};
 ghost use Rattle.drive_base.specs.Leaves.{SizeAnswers, ReadAnswers, AppendLeaves, SyncLeaves, RenameLeaves, DiscardLeaves, RemoveLeaves};
 ghost use Rattle.drive_base.specs.Names.{IsPage, NamesAnswers};
+ghost use Rattle.drive_base.specs.Trail.{and_append, and_discard, and_names, and_read, and_remove, and_rename, and_size, and_sync};
 ghost use Rattle.drive_memory.specs.Does.{AppendDoes, SyncDoes, RenameDoes, DiscardDoes, RemoveDoes};
 ghost use Rattle.drive_memory.specs.Exact.{ReadsExactly, ChangesExactly};
-ghost use Rattle.drive_memory.specs.MemDrive.{files_of, fault_count, starved_count, is_lost, fuse_of};
+ghost use Rattle.drive_memory.specs.MemDrive.{calls_of, files_of, fault_count, starved_count, is_lost, fuse_of};
 
 use crate::contents::Contents;
 use crate::faults::Gate;
 use crate::fuse::Fuse;
-use drive_base::{Drive, DriveFault, LONGEST_NAME};
+use drive_base::{Before, Drive, DriveFault, LONGEST_NAME, Trail};
 use std::alloc::Global;
 
 /// A drive in memory.
@@ -23,6 +24,8 @@ pub struct MemDrive {
     pub(crate) fuse: Option<Fuse>,
     pub(crate) faults: u64,
     pub(crate) starved: u64,
+    /// The calls that were made of it.
+    pub(crate) trail: Trail,
 }
 
 impl MemDrive {
@@ -33,6 +36,7 @@ impl MemDrive {
         ensures starved { starved_count result ≡ 0 }
         ensures present { is_lost result ≡ false }
         ensures fuse { fuse_of result ≡ None }
+        ensures trail { calls_of result ≡ [] }
     {
         MemDrive {
             contents: Contents::new(alloc),
@@ -40,6 +44,7 @@ impl MemDrive {
             fuse: None,
             faults: 0,
             starved: 0,
+            trail: Trail::new(),
         }
     }
 
@@ -58,17 +63,14 @@ impl MemDrive {
     }
 }
 
-impl Drive for MemDrive {
-    ghost tells = { λ _. true };
-
-    ghost files = { files_of };
-
-    ghost count = { fault_count };
-
-    fn size(&mut self, name: &str) -> Result<u64, DriveFault>
+/// The calls themselves, which leave the trail.
+impl MemDrive {
+    /// `size`, but for the trail.
+    fn ask_size(&mut self, name: &str) -> Result<u64, DriveFault>
         ensures files { SizeAnswers (files_of self.old) name.now result (files_of self.new) }
         ensures count { Counts result (fault_count self.old) (fault_count self.new) }
         ensures exact { ReadsExactly self.old result self.new }
+        ensures trail { calls_of self.new ≡ calls_of self.old }
     {
         if !self.opens() {
             return Err(DriveFault::Failed);
@@ -79,11 +81,13 @@ impl Drive for MemDrive {
         Ok(size)
     }
 
-    fn read(&mut self, name: &str, at: u64, into: &mut [u8]) -> Result<usize, DriveFault>
+    /// `read`, but for the trail.
+    fn ask_read(&mut self, name: &str, at: u64, into: &mut [u8]) -> Result<usize, DriveFault>
         ensures files { ReadAnswers (files_of self.old) name.now at into.old result into.new (files_of self.new) }
         ensures within { IfOk result (λ n. n ≤ length into.old) }
         ensures count { Counts result (fault_count self.old) (fault_count self.new) }
         ensures exact { ReadsExactly self.old result self.new }
+        ensures trail { calls_of self.new ≡ calls_of self.old }
     {
         if !self.opens() {
             return Err(DriveFault::Failed);
@@ -94,10 +98,12 @@ impl Drive for MemDrive {
         Ok(count)
     }
 
-    fn append(&mut self, loose: &str, bytes: &[u8]) -> Result<(), DriveFault>
+    /// `append`, but for the trail.
+    fn ask_append(&mut self, loose: &str, bytes: &[u8]) -> Result<(), DriveFault>
         ensures files { AppendLeaves (files_of self.old) loose.now bytes.now result (files_of self.new) }
         ensures count { CountsAppend result (fault_count self.old) (fault_count self.new) }
         ensures exact { ChangesExactly (λ done. AppendDoes (files_of self.old) loose.now bytes.now done (files_of self.new)) self.old result self.new }
+        ensures trail { calls_of self.new ≡ calls_of self.old }
     {
         let Gate::Open { late } = self.meet() else {
             return Err(DriveFault::Failed);
@@ -106,10 +112,12 @@ impl Drive for MemDrive {
         self.settle(late, done)
     }
 
-    fn sync(&mut self, loose: &str) -> Result<(), DriveFault>
+    /// `sync`, but for the trail.
+    fn ask_sync(&mut self, loose: &str) -> Result<(), DriveFault>
         ensures files { SyncLeaves (files_of self.old) loose.now result (files_of self.new) }
         ensures count { Counts result (fault_count self.old) (fault_count self.new) }
         ensures exact { ChangesExactly (λ done. SyncDoes (files_of self.old) loose.now done (files_of self.new)) self.old result self.new }
+        ensures trail { calls_of self.new ≡ calls_of self.old }
     {
         let Gate::Open { late } = self.meet() else {
             return Err(DriveFault::Failed);
@@ -118,11 +126,13 @@ impl Drive for MemDrive {
         self.settle(late, done)
     }
 
-    fn rename(&mut self, loose: &str, name: &str) -> Result<(), DriveFault>
+    /// `rename`, but for the trail.
+    fn ask_rename(&mut self, loose: &str, name: &str) -> Result<(), DriveFault>
         requires { length name.now ≤ LONGEST_NAME }
         ensures files { RenameLeaves (files_of self.old) loose.now name.now result (files_of self.new) }
         ensures count { Counts result (fault_count self.old) (fault_count self.new) }
         ensures exact { ChangesExactly (λ done. RenameDoes (files_of self.old) loose.now name.now done (files_of self.new)) self.old result self.new }
+        ensures trail { calls_of self.new ≡ calls_of self.old }
     {
         let Gate::Open { late } = self.meet() else {
             return Err(DriveFault::Failed);
@@ -131,10 +141,12 @@ impl Drive for MemDrive {
         self.settle(late, done)
     }
 
-    fn discard(&mut self, loose: &str) -> Result<(), DriveFault>
+    /// `discard`, but for the trail.
+    fn ask_discard(&mut self, loose: &str) -> Result<(), DriveFault>
         ensures files { DiscardLeaves (files_of self.old) loose.now result (files_of self.new) }
         ensures count { Counts result (fault_count self.old) (fault_count self.new) }
         ensures exact { ChangesExactly (λ done. DiscardDoes (files_of self.old) loose.now done (files_of self.new)) self.old result self.new }
+        ensures trail { calls_of self.new ≡ calls_of self.old }
     {
         let Gate::Open { late } = self.meet() else {
             return Err(DriveFault::Failed);
@@ -143,10 +155,12 @@ impl Drive for MemDrive {
         self.settle(late, done)
     }
 
-    fn remove(&mut self, name: &str) -> Result<(), DriveFault>
+    /// `remove`, but for the trail.
+    fn ask_remove(&mut self, name: &str) -> Result<(), DriveFault>
         ensures files { RemoveLeaves (files_of self.old) name.now result (files_of self.new) }
         ensures count { Counts result (fault_count self.old) (fault_count self.new) }
         ensures exact { ChangesExactly (λ done. RemoveDoes (files_of self.old) name.now done (files_of self.new)) self.old result self.new }
+        ensures trail { calls_of self.new ≡ calls_of self.old }
     {
         let Gate::Open { late } = self.meet() else {
             return Err(DriveFault::Failed);
@@ -155,11 +169,13 @@ impl Drive for MemDrive {
         self.settle(late, done)
     }
 
-    fn names(&mut self, alloc: Global, from: &str, most: u32) -> Result<Vec<String>, DriveFault>
+    /// `names`, but for the trail.
+    fn ask_names(&mut self, alloc: Global, from: &str, most: u32) -> Result<Vec<String>, DriveFault>
         ensures page { IfOk result (λ names. IsPage from.now most LONGEST_NAME (map string_bytes names.items)) }
         ensures files { NamesAnswers (files_of self.old) from.now most LONGEST_NAME result (files_of self.new) }
         ensures count { CountsNames result (fault_count self.old) (fault_count self.new) }
         ensures exact { ReadsExactly self.old result self.new }
+        ensures trail { calls_of self.new ≡ calls_of self.old }
     {
         if !self.opens() {
             return Err(DriveFault::Failed);
@@ -168,6 +184,109 @@ impl Drive for MemDrive {
             return Err(DriveFault::NoMemory);
         };
         Ok(names)
+    }
+}
+
+#[tactic(auto, using(crate::proofs::TrailLemmas::reads_exactly, crate::proofs::TrailLemmas::changes_exactly))]
+impl Drive for MemDrive {
+    ghost tells = { λ _. true };
+
+    ghost files = { files_of };
+
+    ghost count = { fault_count };
+
+    ghost trail = { calls_of };
+
+    fn size(&mut self, name: &str) -> Result<u64, DriveFault>
+        ensures files { SizeAnswers (files_of self.old) name.now result (files_of self.new) }
+        ensures count { Counts result (fault_count self.old) (fault_count self.new) }
+        ensures exact { ReadsExactly self.old result self.new }
+        ensures trail { calls_of self.new ≡ and_size (calls_of self.old) name.now result }
+    {
+        let answer = self.ask_size(name);
+        self.trail.size(name, &answer);
+        answer
+    }
+
+    fn read(&mut self, name: &str, at: u64, into: &mut [u8]) -> Result<usize, DriveFault>
+        ensures files { ReadAnswers (files_of self.old) name.now at into.old result into.new (files_of self.new) }
+        ensures within { IfOk result (λ n. n ≤ length into.old) }
+        ensures count { Counts result (fault_count self.old) (fault_count self.new) }
+        ensures exact { ReadsExactly self.old result self.new }
+        ensures trail { calls_of self.new ≡ and_read (calls_of self.old) name.now at into.old result into.new }
+    {
+        let before = Before::of(into);
+        let answer = self.ask_read(name, at, into);
+        self.trail.read(name, at, &before, &answer, into);
+        answer
+    }
+
+    fn append(&mut self, loose: &str, bytes: &[u8]) -> Result<(), DriveFault>
+        ensures files { AppendLeaves (files_of self.old) loose.now bytes.now result (files_of self.new) }
+        ensures count { CountsAppend result (fault_count self.old) (fault_count self.new) }
+        ensures exact { ChangesExactly (λ done. AppendDoes (files_of self.old) loose.now bytes.now done (files_of self.new)) self.old result self.new }
+        ensures trail { calls_of self.new ≡ and_append (calls_of self.old) loose.now bytes.now result }
+    {
+        let answer = self.ask_append(loose, bytes);
+        self.trail.append(loose, bytes, &answer);
+        answer
+    }
+
+    fn sync(&mut self, loose: &str) -> Result<(), DriveFault>
+        ensures files { SyncLeaves (files_of self.old) loose.now result (files_of self.new) }
+        ensures count { Counts result (fault_count self.old) (fault_count self.new) }
+        ensures exact { ChangesExactly (λ done. SyncDoes (files_of self.old) loose.now done (files_of self.new)) self.old result self.new }
+        ensures trail { calls_of self.new ≡ and_sync (calls_of self.old) loose.now result }
+    {
+        let answer = self.ask_sync(loose);
+        self.trail.sync(loose, &answer);
+        answer
+    }
+
+    fn rename(&mut self, loose: &str, name: &str) -> Result<(), DriveFault>
+        requires { length name.now ≤ LONGEST_NAME }
+        ensures files { RenameLeaves (files_of self.old) loose.now name.now result (files_of self.new) }
+        ensures count { Counts result (fault_count self.old) (fault_count self.new) }
+        ensures exact { ChangesExactly (λ done. RenameDoes (files_of self.old) loose.now name.now done (files_of self.new)) self.old result self.new }
+        ensures trail { calls_of self.new ≡ and_rename (calls_of self.old) loose.now name.now result }
+    {
+        let answer = self.ask_rename(loose, name);
+        self.trail.rename(loose, name, &answer);
+        answer
+    }
+
+    fn discard(&mut self, loose: &str) -> Result<(), DriveFault>
+        ensures files { DiscardLeaves (files_of self.old) loose.now result (files_of self.new) }
+        ensures count { Counts result (fault_count self.old) (fault_count self.new) }
+        ensures exact { ChangesExactly (λ done. DiscardDoes (files_of self.old) loose.now done (files_of self.new)) self.old result self.new }
+        ensures trail { calls_of self.new ≡ and_discard (calls_of self.old) loose.now result }
+    {
+        let answer = self.ask_discard(loose);
+        self.trail.discard(loose, &answer);
+        answer
+    }
+
+    fn remove(&mut self, name: &str) -> Result<(), DriveFault>
+        ensures files { RemoveLeaves (files_of self.old) name.now result (files_of self.new) }
+        ensures count { Counts result (fault_count self.old) (fault_count self.new) }
+        ensures exact { ChangesExactly (λ done. RemoveDoes (files_of self.old) name.now done (files_of self.new)) self.old result self.new }
+        ensures trail { calls_of self.new ≡ and_remove (calls_of self.old) name.now result }
+    {
+        let answer = self.ask_remove(name);
+        self.trail.remove(name, &answer);
+        answer
+    }
+
+    fn names(&mut self, alloc: Global, from: &str, most: u32) -> Result<Vec<String>, DriveFault>
+        ensures page { IfOk result (λ names. IsPage from.now most LONGEST_NAME (map string_bytes names.items)) }
+        ensures files { NamesAnswers (files_of self.old) from.now most LONGEST_NAME result (files_of self.new) }
+        ensures count { CountsNames result (fault_count self.old) (fault_count self.new) }
+        ensures exact { ReadsExactly self.old result self.new }
+        ensures trail { calls_of self.new ≡ and_names (calls_of self.old) from.now most result }
+    {
+        let answer = self.ask_names(alloc, from, most);
+        self.trail.names(from, most, &answer);
+        answer
     }
 
     fn faults(&self) -> u64 {

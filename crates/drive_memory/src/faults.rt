@@ -5,7 +5,7 @@ ghost use Rattle.std.specs.Bool.{OnTrue, OnFalse};
 ghost use Rattle.fault_base.specs.Counts.{Rose};
 ghost use Rattle.drive_memory.specs.Exact.{Answered, FailsReading};
 ghost use Rattle.drive_memory.specs.Gates.{Faulted, Wanted, Meets, Settles};
-ghost use Rattle.drive_memory.specs.MemDrive.{files_of, fault_count, starved_count, is_lost, fuse_of};
+ghost use Rattle.drive_memory.specs.MemDrive.{calls_of, files_of, fault_count, starved_count, is_lost, fuse_of};
 
 use crate::{Fuse, MemDrive};
 use drive_base::DriveFault;
@@ -28,6 +28,7 @@ impl MemDrive {
         ensures fuse { fuse_of self.new ≡ fuse_of self.old }
         ensures faults { fault_count self.new ≡ fault_count self.old }
         ensures starved { starved_count self.new ≡ starved_count self.old }
+        ensures trail { calls_of self.new ≡ calls_of self.old }
     {
         self.lost = true;
     }
@@ -39,6 +40,7 @@ impl MemDrive {
         ensures fuse { fuse_of self.new ≡ None }
         ensures faults { fault_count self.new ≡ fault_count self.old }
         ensures starved { starved_count self.new ≡ starved_count self.old }
+        ensures trail { calls_of self.new ≡ calls_of self.old }
     {
         self.lost = false;
         self.fuse = None;
@@ -55,6 +57,7 @@ impl MemDrive {
         ensures files { files_of self.new ≡ files_of self.old }
         ensures faults { fault_count self.new ≡ fault_count self.old }
         ensures starved { starved_count self.new ≡ starved_count self.old }
+        ensures trail { calls_of self.new ≡ calls_of self.old }
     {
         self.fuse = Some(Fuse { calls, late });
     }
@@ -98,6 +101,7 @@ impl MemDrive {
     pub(crate) fn opens(&mut self) -> bool
         ensures passed { OnTrue result (Answered self.old self.new) }
         ensures contents { self.new.contents ≡ self.old.contents }
+        ensures trail { calls_of self.new ≡ calls_of self.old }
         ensures failed { OnFalse result (FailsReading self.old self.new) }
         ensures rose { OnFalse result (Rose self.old.faults self.new.faults) }
     {

@@ -6,7 +6,7 @@ ghost use Rattle.drive_memory.specs.MemDrive.{files_of, fault_count};
 ghost use Rattle.drive_memory.specs.Scripted.{is_telling};
 
 use crate::MemDrive;
-use drive_base::{Drive, DriveFault};
+use drive_base::{Before, Drive, DriveFault, Trail};
 use std::alloc::Global;
 
 /// Which calls of a drive fail. Each counts a fault and has no effect.
@@ -55,6 +55,8 @@ pub struct ScriptedDrive {
     calls: Calls,
     /// The calls since the script was set.
     since: u64,
+    /// The calls that were made of it.
+    pub(crate) trail: Trail,
 }
 
 impl Script {
@@ -94,6 +96,7 @@ impl ScriptedDrive {
             script,
             calls: Calls::default(),
             since: 0,
+            trail: Trail::new(),
         }
     }
 
@@ -123,6 +126,7 @@ impl ScriptedDrive {
         ensures voice { self.new.voice ≡ self.old.voice }
         ensures files { files_of self.new.drive ≡ files_of self.old.drive }
         ensures count { fault_count self.new.drive ≡ fault_count self.old.drive }
+        ensures trail { self.new.trail ≡ self.old.trail }
     {
         if self.script.fails(self.since, names, changes) {
             self.drive.lose();
@@ -140,58 +144,77 @@ impl Drive for ScriptedDrive {
 
     ghost count = { λ scripted. fault_count scripted.drive };
 
+    ghost trail = { λ scripted. scripted.trail };
+
     fn size(&mut self, name: &str) -> Result<u64, DriveFault> {
         self.begin(&[name], false);
         self.calls.size = self.calls.size.saturating_add(1);
-        self.drive.size(name)
+        let answer = self.drive.size(name);
+        self.trail.size(name, &answer);
+        answer
     }
 
     fn read(&mut self, name: &str, at: u64, into: &mut [u8]) -> Result<usize, DriveFault> {
         self.begin(&[name], false);
         self.calls.read = self.calls.read.saturating_add(1);
-        match self.drive.read(name, at, into) {
+        let before = Before::of(into);
+        let answer = match self.drive.read(name, at, into) {
             Ok(count) if count > 0 && self.voice.lies_about(name) => {
                 into[0] ^= 1;
                 Ok(count)
             }
             answer => answer,
-        }
+        };
+        self.trail.read(name, at, &before, &answer, into);
+        answer
     }
 
     fn append(&mut self, loose: &str, bytes: &[u8]) -> Result<(), DriveFault> {
         self.begin(&[loose], true);
         self.calls.append = self.calls.append.saturating_add(1);
-        self.drive.append(loose, bytes)
+        let answer = self.drive.append(loose, bytes);
+        self.trail.append(loose, bytes, &answer);
+        answer
     }
 
     fn sync(&mut self, loose: &str) -> Result<(), DriveFault> {
         self.begin(&[loose], true);
         self.calls.sync = self.calls.sync.saturating_add(1);
-        self.drive.sync(loose)
+        let answer = self.drive.sync(loose);
+        self.trail.sync(loose, &answer);
+        answer
     }
 
     fn rename(&mut self, loose: &str, name: &str) -> Result<(), DriveFault> {
         self.begin(&[loose, name], true);
         self.calls.rename = self.calls.rename.saturating_add(1);
-        self.drive.rename(loose, name)
+        let answer = self.drive.rename(loose, name);
+        self.trail.rename(loose, name, &answer);
+        answer
     }
 
     fn discard(&mut self, loose: &str) -> Result<(), DriveFault> {
         self.begin(&[loose], true);
         self.calls.discard = self.calls.discard.saturating_add(1);
-        self.drive.discard(loose)
+        let answer = self.drive.discard(loose);
+        self.trail.discard(loose, &answer);
+        answer
     }
 
     fn remove(&mut self, name: &str) -> Result<(), DriveFault> {
         self.begin(&[name], true);
         self.calls.remove = self.calls.remove.saturating_add(1);
-        self.drive.remove(name)
+        let answer = self.drive.remove(name);
+        self.trail.remove(name, &answer);
+        answer
     }
 
     fn names(&mut self, alloc: Global, from: &str, most: u32) -> Result<Vec<String>, DriveFault> {
         self.begin(&[], false);
         self.calls.names = self.calls.names.saturating_add(1);
-        self.drive.names(alloc, from, most)
+        let answer = self.drive.names(alloc, from, most);
+        self.trail.names(from, most, &answer);
+        answer
     }
 
     fn faults(&self) -> u64 {

@@ -12,6 +12,7 @@ pub mod StdSink
 pub mod StdSource
 pub mod SystemClock
 pub mod TcpDoor
+pub mod Trail
 pub mod Turns
 pub mod Works
 pub mod Wrote

@@ -1,10 +1,13 @@
 //! Where bytes come from and go to, and what tells the time: counted sources, counted sinks, clocks, doors that give
 //! connections, and what does works beside one another.
 //!
-//! The crate stands on `fault_base`. What reads or writes takes a `Source` or a
+//! The crate stands on `fault_base` and `ghost_note`. What reads or writes takes a `Source` or a
 //! `Sink`, so that its contract can name the bytes. One in memory tells them, and fails at chosen
-//! calls; one over the outside tells nothing, and is where trust in the system begins. Of a reader
-//! or a writer that tells its bytes even that one loses, repeats and changes none.
+//! calls; one over the outside doesn't tell what is left to take, and is where trust in the system
+//! begins. Of a reader or a writer that tells its bytes even that one loses, repeats and changes none.
+//!
+//! Each source tells the takes that were asked of it, and each sink the gives, with what each answered
+//! (`TakeCall` and `GiveCall` of `specs/Trail`), whatever the world behind it tells. No code sees them.
 //!
 //! Each source and each sink counts its faults. A call fails only where that count rose in the call,
 //! or stands at its last value, and no call lets it fall. A take that fails loses no byte. A give
@@ -14,8 +17,8 @@
 //! A `Clock` answers a moment that a date with a year of four digits can show, and never fails.
 //!
 //! A `Door` gives connections, each as a source and a sink, until it is over, and takes them back. One in memory tells the
-//! pairs that it gave and those that came back. One over TCP tells nothing; it fails only where it can't be made or the system
-//! takes no connection for it, and cuts peers that are idle, slow or take nothing (`TcpLimits`).
+//! pairs that it gave and those that came back, and so does one over TCP. That one fails only where it can't be made or the
+//! system takes no connection for it, and cuts peers that are idle, slow or take nothing (`TcpLimits`).
 //!
 //! A `Spawner` does `Work`s, each by a thread of its own or one after another, and hands all of them back: those done are over,
 //! those that could not be started are as they were, and counted.
@@ -36,6 +39,7 @@ mod standard_source;
 mod tcp_door;
 mod tcp_ends;
 mod tcp_limits;
+mod trail;
 mod turns;
 mod work;
 
@@ -53,5 +57,6 @@ pub use standard_source::StdSource;
 pub use tcp_door::TcpDoor;
 pub use tcp_ends::{TcpIn, TcpOut, TcpReader, TcpWriter};
 pub use tcp_limits::TcpLimits;
+pub use trail::{Takes, no_takes, one_take};
 pub use turns::Turns;
 pub use work::{Spawned, Work};

@@ -3,8 +3,11 @@
 ghost use Rattle.std.specs.Prelude.{◌≡◌, [], Some};
 ghost use Rattle.io_base.specs.Count.{CountsFault};
 ghost use Rattle.io_base.specs.Sink.{Gave};
+ghost use Rattle.io_base.specs.Trail.{given_more};
 
+use crate::trail::{Gives, no_gives, one_give};
 use crate::{IoFault, Sink};
+use ghost_note::Note;
 use std::marker::Model;
 
 /// A sink that keeps its bytes in memory, tells them, and fails at chosen calls.
@@ -15,10 +18,13 @@ pub struct MemSink {
     calls: u64,
     faults: u64,
     starved: u64,
+    gives: Note<Gives>,
 }
 
 impl Model for MemSink {
+    ghost use Rattle.std.specs.Prelude.{◌≡◌};
     ghost use Rattle.io_base.specs.MemSink.{MemorySink};
+    ghost use Rattle.io_base.specs.Trail.{accepted};
 
     ghost Value = { MemorySink };
 
@@ -28,7 +34,10 @@ impl Model for MemSink {
       calls = s.calls;
       faults = s.faults;
       starved = s.starved;
+      gives = s.gives.value;
     } };
+
+    ghost invariant = { λ s. s.given.items ≡ accepted s.gives.value };
 }
 
 impl MemSink {
@@ -36,7 +45,7 @@ impl MemSink {
     /// besides where it finds no memory; a call that fails is numbered too, and adds nothing. Numbers
     /// stand still at `u64::MAX`.
     pub fn new(fails: Vec<u64>) -> MemSink
-        ensures { result ≡ record { given = []; fails = fails.items; calls = 0; faults = 0; starved = 0 } }
+        ensures { result ≡ record { given = []; fails = fails.items; calls = 0; faults = 0; starved = 0; gives = [] } }
     {
         MemSink {
             given: Vec::new(*fails.allocator()),
@@ -44,6 +53,7 @@ impl MemSink {
             calls: 0,
             faults: 0,
             starved: 0,
+            gives: no_gives(),
         }
     }
 
@@ -67,25 +77,30 @@ impl Sink for MemSink {
 
     ghost given = { λ s. Some s.given };
 
+    ghost gives = { λ s. s.gives };
+
     ghost faults = { λ s. s.faults };
 
     fn give(&mut self, bytes: &[u8]) -> Result<(), IoFault>
         ensures given { Gave result bytes.now (Some self.old.given) (Some self.new.given) }
+        ensures trail { self.new.gives ≡ given_more self.old.gives bytes.now result }
         ensures counted { CountsFault result self.old.faults self.new.faults }
         ensures exact { KeepsInOrder result bytes.now self.old self.new }
     {
         let call = self.calls;
         self.calls = call.saturating_add(1);
-        if self.fails.contains(&call) {
+        let answer = if self.fails.contains(&call) {
             self.faults = self.faults.saturating_add(1);
-            return Err(IoFault::Failed);
-        }
-        if self.given.extend_from_slice(bytes).is_err() {
+            Err(IoFault::Failed)
+        } else if self.given.extend_from_slice(bytes).is_err() {
             self.starved = self.starved.saturating_add(1);
             self.faults = self.faults.saturating_add(1);
-            return Err(IoFault::Failed);
-        }
-        Ok(())
+            Err(IoFault::Failed)
+        } else {
+            Ok(())
+        };
+        self.gives = one_give(&self.gives, bytes, &answer);
+        answer
     }
 
     fn write_faults(&self) -> u64 {

@@ -1,19 +1,23 @@
 //! A sink over a writer of the outside.
 
-ghost use Rattle.std.specs.Prelude.{◌≡◌, None, MatchBool};
+ghost use Rattle.std.specs.Prelude.{◌≡◌, [], Some, MatchBool};
 ghost use Rattle.std.specs.Io.KnownBytes.{Appends};
 ghost use Rattle.io_base.specs.Count.{CountsFault};
 ghost use Rattle.io_base.specs.Sink.{Gave};
+ghost use Rattle.io_base.specs.Trail.{accepted, given_more};
 ghost use Rattle.io_base.specs.Wrote.{Wrote, WroteFront};
 
+use crate::trail::{Gives, no_gives, one_give};
 use crate::{IoFault, Sink};
+use ghost_note::Note;
 use std::io::{ErrorKind, Write};
 
-/// A sink over a writer of the outside, as standard output. It tells nothing. Each `give` is written
-/// and flushed before it answers.
+/// A sink over a writer of the outside, as standard output. It tells the bytes of the gives that the writer took. Each `give`
+/// is written and flushed before it answers.
 #[derive(Drop)]
 pub struct StdSink<W> {
     writer: W,
+    gives: Note<Gives>,
     faults: u64,
 }
 
@@ -23,30 +27,41 @@ impl<W: Write + Drop> StdSink<W> {
     /// Writes nothing yet.
     pub fn new(writer: W) -> StdSink<W>
         ensures writer { written W.contents result ≡ W.contents writer }
+        ensures trail { ⟦<StdSink<W> as Sink>⟧.gives result ≡ [] }
         ensures count { ⟦<StdSink<W> as Sink>⟧.faults result ≡ 0 }
     {
-        StdSink { writer, faults: 0 }
+        StdSink {
+            writer,
+            gives: no_gives(),
+            faults: 0,
+        }
     }
 }
 
 impl<W: Write + Drop> Sink for StdSink<W> {
-    ghost use Rattle.io_base.specs.StdSink.{written};
+    ghost use Rattle.io_base.specs.StdSink.{asked, written};
 
-    ghost given = { λ _. None };
+    ghost given = { λ s. Some (accepted (asked s)) };
+
+    ghost gives = { asked };
 
     ghost faults = { λ s. s.faults };
 
     /// Where the writer tells its bytes, it has got these in their order.
     fn give(&mut self, bytes: &[u8]) -> Result<(), IoFault>
-        ensures given { Gave result bytes.now None None }
+        ensures given { Gave result bytes.now (Some (accepted (asked self.old))) (Some (accepted (asked self.new))) }
+        ensures trail { asked self.new ≡ given_more (asked self.old) bytes.now result }
         ensures counted { CountsFault result self.old.faults self.new.faults }
         ensures wrote { Wrote result bytes.now (written W.contents self.old) (written W.contents self.new) }
     {
-        if deliver(&mut self.writer, bytes) {
-            return Ok(());
-        }
-        self.faults = self.faults.saturating_add(1);
-        Err(IoFault::Failed)
+        let answer = if deliver(&mut self.writer, bytes) {
+            Ok(())
+        } else {
+            self.faults = self.faults.saturating_add(1);
+            Err(IoFault::Failed)
+        };
+        self.gives = one_give(&self.gives, bytes, &answer);
+        answer
     }
 
     fn write_faults(&self) -> u64 {

@@ -1,14 +1,16 @@
 //! A door over TCP.
 
-ghost use Rattle.std.specs.Prelude.{◌≡◌, false, IfOk, IfSome, IsErr, None};
+ghost use Rattle.std.specs.Prelude.{◌≡◌, [], false, IfOk, IfSome, IsErr, None, Some};
 ghost use Rattle.std.specs.Duration.{as_nanos};
 ghost use Rattle.io_base.specs.Count.{CountsFault};
-ghost use Rattle.io_base.specs.Door.{Ends, Gives};
+ghost use Rattle.io_base.specs.Door.{Ends, Gives, told_more};
 ghost use Rattle.io_base.specs.TcpDoor.{accept_step, door_listens};
 
 use crate::tcp_ends::{end, set_up};
+use crate::trail::{Pairs, no_pairs, one_pair};
 use crate::{Door, IoFault, Sink, Source, TcpIn, TcpLimits, TcpOut};
 use fault_base::count_after;
+use ghost_note::Note;
 use std::alloc::Global;
 use std::io::ErrorKind;
 use std::net::{Net, SocketAddr, TcpListener, TcpStream};
@@ -19,14 +21,16 @@ use std::{rt, thread};
 /// How long the door rests before it asks again, where descriptors or memory are short.
 const REST_MILLIS: u64 = 100;
 
-/// A door that listens for connections over TCP. It is never over, and tells nothing. It counts only what ends it: that it
-/// could not be made, or that the system takes no connection for it.
+/// A door that listens for connections over TCP. It is never over, and tells the pairs that it gave and those that came back.
+/// It counts only what ends it: that it could not be made, or that the system takes no connection for it.
 #[derive(Drop)]
 pub struct TcpDoor<R> {
     rt: R,
     alloc: Global,
     listener: Option<Arc<TcpListener, Global>>,
     limits: TcpLimits,
+    gave: Note<Pairs<TcpIn<R>, TcpOut>>,
+    returned: Note<Pairs<TcpIn<R>, TcpOut>>,
     faults: u64,
 }
 
@@ -36,6 +40,8 @@ impl<R: Net<Listener = TcpListener, Stream = TcpStream> + rt::Clock + Copy + Sen
     /// be read.
     pub fn open(rt: R, alloc: Global, listen: &str, limits: TcpLimits) -> TcpDoor<R>
         ensures count { ⟦<TcpDoor<R> as Door>⟧.faults result ≡ 0 }
+        ensures gave { ⟦<TcpDoor<R> as Door>⟧.gave result ≡ Some [] }
+        ensures returned { ⟦<TcpDoor<R> as Door>⟧.returned result ≡ Some [] }
         ensures idle { as_nanos limits.idle ≡ 0 → door_listens result ≡ false }
         ensures write { as_nanos limits.write ≡ 0 → door_listens result ≡ false }
         ensures slow { as_nanos limits.slow ≡ 0 → door_listens result ≡ false }
@@ -50,6 +56,8 @@ impl<R: Net<Listener = TcpListener, Stream = TcpStream> + rt::Clock + Copy + Sen
             alloc,
             listener,
             limits,
+            gave: no_pairs(),
+            returned: no_pairs(),
             faults: 0,
         }
     }
@@ -71,6 +79,8 @@ impl<R: rt::Clock + Copy + Send> TcpDoor<R> {
     /// had, it is closed.
     pub fn again(&self) -> TcpDoor<R>
         ensures count { ⟦<TcpDoor<R> as Door>⟧.faults result ≡ 0 }
+        ensures gave { ⟦<TcpDoor<R> as Door>⟧.gave result ≡ Some [] }
+        ensures returned { ⟦<TcpDoor<R> as Door>⟧.returned result ≡ Some [] }
         ensures closed { door_listens self.now ≡ false → door_listens result ≡ false }
     {
         let listener = match &self.listener {
@@ -82,6 +92,8 @@ impl<R: rt::Clock + Copy + Send> TcpDoor<R> {
             alloc: self.alloc,
             listener,
             limits: self.limits,
+            gave: no_pairs(),
+            returned: no_pairs(),
             faults: 0,
         }
     }
@@ -104,26 +116,30 @@ impl<R: rt::Clock + Copy + Send> Door for TcpDoor<R> {
 
     ghost over = { λ _. false };
 
-    ghost gave = { λ _. None };
+    ghost gave = { λ d. Some d.gave.value };
 
-    ghost returned = { λ _. None };
+    ghost returned = { λ d. Some d.returned.value };
 
     ghost faults = { λ d. d.faults };
 
     /// Waits for a connection. One that can't be set up is dropped, and the next one is waited for. A closed door fails, and
-    /// the ends of a connection have failed at nothing yet.
+    /// nothing was asked of the ends of a connection yet.
     fn next(&mut self) -> Result<Option<(TcpIn<R>, TcpOut)>, IoFault>
         ensures over { Ends result false false }
-        ensures gave { Gives result None None }
+        ensures gave { Gives result (Some self.old.gave.value) (Some self.new.gave.value) }
+        ensures returned { Some self.new.returned.value ≡ Some self.old.returned.value }
         ensures counted { CountsFault result self.old.faults self.new.faults }
         ensures closed { door_listens self.old ≡ false → IsErr result }
         ensures stays { door_listens self.new ≡ door_listens self.old }
         ensures source { IfOk result (λ pair. IfSome pair (λ ends. ⟦<TcpIn<R> as Source>⟧.faults ends.0 ≡ 0)) }
+        ensures takes { IfOk result (λ pair. IfSome pair (λ ends. ⟦<TcpIn<R> as Source>⟧.takes ends.0 ≡ [])) }
         ensures sink { IfOk result (λ pair. IfSome pair (λ ends. ⟦<TcpOut as Sink>⟧.faults ends.1 ≡ 0)) }
+        ensures gives { IfOk result (λ pair. IfSome pair (λ ends. ⟦<TcpOut as Sink>⟧.gives ends.1 ≡ [])) }
     {
         if let Some(listener) = &self.listener {
-            if let Some(ends) = accept_from(self.rt, self.alloc, listener, self.limits) {
-                return Ok(Some(ends));
+            if let Some((source, sink)) = accept_from(self.rt, self.alloc, listener, self.limits) {
+                self.gave = one_pair(&self.gave, &source, &sink);
+                return Ok(Some((source, sink)));
             }
         }
         self.faults = count_after(self.faults);
@@ -131,9 +147,11 @@ impl<R: rt::Clock + Copy + Send> Door for TcpDoor<R> {
     }
 
     /// Ends the connection, so that its last reply is not lost where the peer has sent more than was read.
-    fn back(&mut self, source: TcpIn<R>, _sink: TcpOut)
-        ensures same { self.new ≡ self.old }
+    fn back(&mut self, source: TcpIn<R>, sink: TcpOut)
+        ensures returned { Some self.new.returned.value ≡ told_more (Some self.old.returned.value) (source, sink) }
+        ensures same { self.new ≡ record self.old { returned = self.new.returned } }
     {
+        self.returned = one_pair(&self.returned, &source, &sink);
         end(&self.rt, &source);
     }
 
@@ -150,7 +168,9 @@ fn accept_from<R: rt::Clock + Copy>(
     limits: TcpLimits,
 ) -> Option<(TcpIn<R>, TcpOut)>
     ensures source { IfSome result (λ ends. ⟦<TcpIn<R> as Source>⟧.faults ends.0 ≡ 0) }
+    ensures takes { IfSome result (λ ends. ⟦<TcpIn<R> as Source>⟧.takes ends.0 ≡ []) }
     ensures sink { IfSome result (λ ends. ⟦<TcpOut as Sink>⟧.faults ends.1 ≡ 0) }
+    ensures gives { IfSome result (λ ends. ⟦<TcpOut as Sink>⟧.gives ends.1 ≡ []) }
 {
     for _ in 0..u64::MAX {
         match listener.accept() {

@@ -1,6 +1,6 @@
 //! The two ends of a connection over TCP, which share one descriptor.
 
-ghost use Rattle.std.specs.Prelude.{◌≡◌, ◌≤◌, None, IfSome, IsErr};
+ghost use Rattle.std.specs.Prelude.{◌≡◌, ◌≤◌, [], None, IfSome, IsErr};
 ghost use Rattle.std.specs.Duration.{as_nanos};
 ghost use Rattle.std.specs.Io.{ReadsAtMost};
 ghost use Rattle.std.specs.Io.KnownBytes.{ReadConsumes};
@@ -79,7 +79,8 @@ impl Write for TcpWriter {
     }
 }
 
-/// Where the bytes of a connection over TCP come from. It tells nothing.
+/// Where the bytes of a connection over TCP come from. It tells the takes that were asked of it, and not what the peer still
+/// sends.
 #[derive(Drop)]
 pub struct TcpIn<R> {
     source: StdSource<TcpReader<R>>,
@@ -89,11 +90,13 @@ pub struct TcpIn<R> {
     is_over: bool,
 }
 
-/// Where the bytes of a connection over TCP go to. It tells nothing.
+/// Where the bytes of a connection over TCP go to. It tells the bytes of the gives that the system took.
 pub type TcpOut = StdSink<TcpWriter>;
 
 impl<R: rt::Clock + Drop> Source for TcpIn<R> {
     ghost left = { λ _. None };
+
+    ghost takes = { λ s. ⟦<StdSource<TcpReader<R>> as Source>⟧.takes s.source };
 
     ghost faults = { λ s. ⟦<StdSource<TcpReader<R>> as Source>⟧.faults s.source };
 
@@ -116,7 +119,7 @@ impl<R: rt::Clock + Drop> Source for TcpIn<R> {
     }
 }
 
-/// The ends of a connection, which failed at nothing yet, or None where it can't be set up.
+/// The ends of a connection, of which nothing was asked yet, or None where it can't be set up.
 pub(crate) fn set_up<R: rt::Clock + Copy>(
     rt: R,
     alloc: Global,
@@ -124,7 +127,9 @@ pub(crate) fn set_up<R: rt::Clock + Copy>(
     limits: TcpLimits,
 ) -> Option<(TcpIn<R>, TcpOut)>
     ensures source { IfSome result (λ pair. ⟦<TcpIn<R> as Source>⟧.faults pair.0 ≡ 0) }
+    ensures takes { IfSome result (λ pair. ⟦<TcpIn<R> as Source>⟧.takes pair.0 ≡ []) }
     ensures sink { IfSome result (λ pair. ⟦<TcpOut as Sink>⟧.faults pair.1 ≡ 0) }
+    ensures gives { IfSome result (λ pair. ⟦<TcpOut as Sink>⟧.gives pair.1 ≡ []) }
 {
     stream.set_nodelay(true).ok()?;
     stream.set_read_timeout(Some(limits.idle)).ok()?;

@@ -4,7 +4,7 @@ use Rattle.drive_memory.specs.Does.{SyncDoes}
 use Rattle.drive_memory.specs.Exact.{ChangesExactly}
 use Rattle.drive_memory.proofs.ExactLemmas.{counts_changes}
 use Rattle.drive_memory.proofs.FilesLemmas.{AnyLoose-same}
-use Rattle.drive_memory.proofs.drive.MemDriveDrive.sync.Goals as goal
+use Rattle.drive_memory.proofs.drive.MemDrive.ask_sync.Goals as goal
 
 pub returns-in_default-clause-files : goal.returns-in_default-clause-files
 returns-in_default-clause-files c = AnyLoose-same (files_of c.args.self.now) (files_of c.meet.new.self) c.args.loose.now (search rules)

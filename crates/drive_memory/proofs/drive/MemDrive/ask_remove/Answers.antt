@@ -3,7 +3,7 @@ use Rattle.drive_memory.specs.MemDrive.{files_of}
 use Rattle.drive_memory.specs.Does.{RemoveDoes}
 use Rattle.drive_memory.specs.Exact.{ChangesExactly}
 use Rattle.drive_memory.proofs.ExactLemmas.{counts_changes}
-use Rattle.drive_memory.proofs.drive.MemDriveDrive.remove.Goals as goal
+use Rattle.drive_memory.proofs.drive.MemDrive.ask_remove.Goals as goal
 
 -- what the call does and when it fails
 exact : (c : goal.After-settle) → ChangesExactly (λ done. RemoveDoes (files_of c.args.self.now) c.args.name.now done (files_of c.settle.new.self)) c.args.self.now c.settle.result c.settle.new.self
