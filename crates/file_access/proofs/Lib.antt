@@ -1,2 +1,4 @@
 pub mod EachLemmas
+pub mod ReadLemmas
+pub mod SightLemmas
 mod StepLemmas

@@ -1,2 +1,4 @@
 pub mod Reading
+pub mod Sights
+pub mod Trails
 pub mod Writing

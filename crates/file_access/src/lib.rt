@@ -14,11 +14,13 @@
 #![tactic(auto)]
 
 mod fault;
+mod laws;
 mod reading;
 mod steps;
 mod writing;
 
 pub use fault::FetchFault;
+pub use laws::sight_laws;
 pub use reading::{bytes_at, file_on, piece_into, piece_on, size_on};
 pub use steps::{append_on, discard_on, place, remove_on, sync_on};
 pub use writing::{write_file, write_loose};

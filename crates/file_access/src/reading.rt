@@ -1,7 +1,12 @@
 //! Reading a file of a drive, or a piece of one.
 
-ghost use Rattle.std.specs.Prelude.{◌≡◌, ◌≤◌, IsTrue, IfOk, IfErr, OnOk, length};
+ghost use Rattle.std.specs.Prelude.{◌≡◌, ◌≤◌, ℕ, IsTrue, IfOk, IfErr, OnOk, Result, length};
+ghost use Rattle.drive_base.specs.declared.fault.DriveFault.{DriveFault};
+ghost use Rattle.drive_base.specs.DriveModel.{DriveModel};
+ghost use Rattle.drive_base.specs.Trail.{Read, Size};
+ghost use Rattle.drive_base.specs.View.{OnlyRead, view};
 ghost use Rattle.file_access.specs.Reading.{HasLength, IsPieceAt, IsCutShort, IsRefusedBy, IsShort, IsTooLong, IsWhole, IsWhyNot, NeverDamaged, NoDamage, EndsBefore, FailedOnce, FetchFailedOnce, IdleWithout};
+ghost use Rattle.file_access.specs.Trails.{AnswerOf, FillAnswerOf, PieceCalls};
 
 use crate::fault::{FetchFault, told};
 use call_types::{FileKind, Why};
@@ -11,11 +16,15 @@ use std::alloc::Global;
 
 /// The length of a file, in bytes, by one call. `Lacks(kind)` where no such file is shown; `Failed`, with the counts
 /// before and after, where the call failed.
+#[tactic(auto, using(crate::proofs::ReadLemmas::read_by))]
 pub fn size_on<D: Drive>(drive: &mut D, kind: FileKind, name: &str) -> Result<u64, Why>
     ensures size { IfOk result (λ n. IsTrue (D.tells drive.old) → HasLength (D.files drive.old) name.now n) }
     ensures calm { OnOk result (D.count drive.new ≡ D.count drive.old) }
     ensures cause { IfErr result (λ why. IsWhyNot kind name.now NeverDamaged why (D.tells drive.old) (D.files drive.old) (D.count drive.old) (D.count drive.new)) }
     ensures once { IfErr result (λ why. FailedOnce NoDamage why (D.count drive.old) (D.count drive.new)) }
+    ensures called { (answer : Result ℕ DriveFault) × AnswerOf result answer
+        × DriveModel (Size name.now answer) (view D.Drive drive.old) (view D.Drive drive.new) }
+    ensures read { OnlyRead (view D.Drive drive.old) (view D.Drive drive.new) }
     ensures files { IsTrue (D.tells drive.old) → D.files drive.new ≡ D.files drive.old }
     ensures tells { D.tells drive.new ≡ D.tells drive.old }
     ensures count { D.count drive.old ≤ D.count drive.new }
@@ -27,6 +36,7 @@ pub fn size_on<D: Drive>(drive: &mut D, kind: FileKind, name: &str) -> Result<u6
 /// Fills a buffer with the bytes of a file from the place `at` on, by one call, without asking how long the file is.
 /// `Damaged(Short)` where the file ends before the buffer is full, with the place where the reading ended; else the causes
 /// of `size_on`. After an error the buffer has any bytes.
+#[tactic(auto, using(crate::proofs::ReadLemmas::read_by))]
 pub fn piece_into<D: Drive>(
     drive: &mut D,
     kind: FileKind,
@@ -38,6 +48,9 @@ pub fn piece_into<D: Drive>(
     ensures calm { OnOk result (D.count drive.new ≡ D.count drive.old) }
     ensures cause { IfErr result (λ why. IsWhyNot kind name.now (IsCutShort at (length into.old)) why (D.tells drive.old) (D.files drive.old) (D.count drive.old) (D.count drive.new)) }
     ensures once { IfErr result (λ why. FailedOnce IsShort why (D.count drive.old) (D.count drive.new)) }
+    ensures called { (answer : Result ℕ DriveFault) × FillAnswerOf at (length into.old) result answer
+        × DriveModel (Read name.now at into.old answer into.new) (view D.Drive drive.old) (view D.Drive drive.new) }
+    ensures read { OnlyRead (view D.Drive drive.old) (view D.Drive drive.new) }
     ensures files { IsTrue (D.tells drive.old) → D.files drive.new ≡ D.files drive.old }
     ensures tells { D.tells drive.new ≡ D.tells drive.old }
     ensures count { D.count drive.old ≤ D.count drive.new }
@@ -75,6 +88,8 @@ pub fn piece_on<D: Drive>(
     ensures cause { IfErr result (λ fault. IsRefusedBy kind name.now (IsCutShort at long) fault (D.tells drive.old) (D.files drive.old) (D.count drive.old) (D.count drive.new)) }
     ensures once { IfErr result (λ fault. FetchFailedOnce IsShort fault (D.count drive.old) (D.count drive.new)) }
     ensures idle { IdleWithout result drive.old drive.new }
+    ensures called { PieceCalls result name.now at long (view D.Drive drive.old) (view D.Drive drive.new) }
+    ensures read { OnlyRead (view D.Drive drive.old) (view D.Drive drive.new) }
     ensures files { IsTrue (D.tells drive.old) → D.files drive.new ≡ D.files drive.old }
     ensures tells { D.tells drive.new ≡ D.tells drive.old }
     ensures count { D.count drive.old ≤ D.count drive.new }
@@ -90,6 +105,7 @@ pub fn piece_on<D: Drive>(
 
 /// All bytes of a file, which has at most `most` bytes where it is lawful. `Damaged(Long)`, with the file's length, where
 /// it has more, and then no memory is taken; else the causes of `size_on`.
+#[tactic(auto, using(crate::proofs::ReadLemmas::read_twice))]
 pub fn file_on<D: Drive>(
     alloc: Global,
     drive: &mut D,
@@ -101,6 +117,7 @@ pub fn file_on<D: Drive>(
     ensures most { IfOk result (λ bytes. length bytes.items ≤ most) }
     ensures calm { OnOk result (D.count drive.new ≡ D.count drive.old) }
     ensures cause { IfErr result (λ fault. IsRefusedBy kind name.now (IsTooLong most) fault (D.tells drive.old) (D.files drive.old) (D.count drive.old) (D.count drive.new)) }
+    ensures read { OnlyRead (view D.Drive drive.old) (view D.Drive drive.new) }
     ensures files { IsTrue (D.tells drive.old) → D.files drive.new ≡ D.files drive.old }
     ensures tells { D.tells drive.new ≡ D.tells drive.old }
     ensures count { D.count drive.old ≤ D.count drive.new }
@@ -114,6 +131,7 @@ pub fn file_on<D: Drive>(
 
 /// `long` bytes of a file from the place `at` on. `Damaged(Short)` with the file's length where it ends before; else the
 /// causes of `size_on`.
+#[tactic(auto, using(crate::proofs::ReadLemmas::read_twice))]
 pub fn bytes_at<D: Drive>(
     alloc: Global,
     drive: &mut D,
@@ -126,6 +144,7 @@ pub fn bytes_at<D: Drive>(
     ensures piece { IfOk result (λ bytes. IsTrue (D.tells drive.old) → IsPieceAt (D.files drive.old) name.now at bytes.items) }
     ensures calm { OnOk result (D.count drive.new ≡ D.count drive.old) }
     ensures cause { IfErr result (λ fault. IsRefusedBy kind name.now (EndsBefore at long) fault (D.tells drive.old) (D.files drive.old) (D.count drive.old) (D.count drive.new)) }
+    ensures read { OnlyRead (view D.Drive drive.old) (view D.Drive drive.new) }
     ensures files { IsTrue (D.tells drive.old) → D.files drive.new ≡ D.files drive.old }
     ensures tells { D.tells drive.new ≡ D.tells drive.old }
     ensures count { D.count drive.old ≤ D.count drive.new }

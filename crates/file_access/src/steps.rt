@@ -1,8 +1,13 @@
 //! The steps of writing and removing a file: one call of the drive each, told with its cause.
 
-ghost use Rattle.std.specs.Prelude.{◌≡◌, ◌≤◌, IsTrue, OnOk, OnErr, length};
+ghost use Rattle.std.specs.Prelude.{◌≡◌, ◌≤◌, IsTrue, OnOk, OnErr, Result, length};
 ghost use Rattle.drive_base.specs.declared.drive.TheConstants.{LONGEST_NAME};
+ghost use Rattle.drive_base.specs.declared.fault.DriveFault.{DriveFault};
+ghost use Rattle.drive_base.specs.DriveModel.{DriveModel};
 ghost use Rattle.drive_base.specs.Leaves.{Placed};
+ghost use Rattle.drive_base.specs.Trail.{Append, Discard, Remove, Rename, Sync};
+ghost use Rattle.drive_base.specs.View.{view};
+ghost use Rattle.file_access.specs.Trails.{AnswerOf};
 ghost use Rattle.file_access.specs.Writing.{Appended, Discarded, HasLoose, HasShown, PlacedOrTouched, Removed, RemovedOrNot, StaysIfLacking, StepCause, Synced, Touches};
 
 use crate::fault::told;
@@ -20,6 +25,8 @@ pub fn append_on<D: Drive>(
     ensures ok { OnOk result (IsTrue (D.tells drive.old) → Appended loose.now bytes.now (D.files drive.old) (D.files drive.new)) }
     ensures err { OnErr result (IsTrue (D.tells drive.old) → Touches loose.now (D.files drive.old) (D.files drive.new)) }
     ensures cause { StepCause kind (Unit {0}) result (D.count drive.old) (D.count drive.new) }
+    ensures called { (answer : Result (Unit {0}) DriveFault) × AnswerOf result answer
+        × DriveModel (Append loose.now bytes.now answer) (view D.Drive drive.old) (view D.Drive drive.new) }
     ensures tells { D.tells drive.new ≡ D.tells drive.old }
     ensures count { D.count drive.old ≤ D.count drive.new }
 {
@@ -34,6 +41,8 @@ pub fn sync_on<D: Drive>(drive: &mut D, kind: FileKind, loose: &str) -> Result<(
     ensures err { OnErr result (IsTrue (D.tells drive.old) → Touches loose.now (D.files drive.old) (D.files drive.new)) }
     ensures lacks { IsTrue (D.tells drive.old) → StaysIfLacking result (D.files drive.old) (D.files drive.new) }
     ensures cause { StepCause kind (IsTrue (D.tells drive.old) × HasLoose (D.files drive.old) loose.now) result (D.count drive.old) (D.count drive.new) }
+    ensures called { (answer : Result (Unit {0}) DriveFault) × AnswerOf result answer
+        × DriveModel (Sync loose.now answer) (view D.Drive drive.old) (view D.Drive drive.new) }
     ensures tells { D.tells drive.new ≡ D.tells drive.old }
     ensures count { D.count drive.old ≤ D.count drive.new }
 {
@@ -49,6 +58,8 @@ pub fn place<D: Drive>(drive: &mut D, kind: FileKind, loose: &str, name: &str) -
     ensures err { OnErr result (IsTrue (D.tells drive.old) → PlacedOrTouched loose.now name.now (D.files drive.old) (D.files drive.new)) }
     ensures lacks { IsTrue (D.tells drive.old) → StaysIfLacking result (D.files drive.old) (D.files drive.new) }
     ensures cause { StepCause kind (IsTrue (D.tells drive.old) × HasLoose (D.files drive.old) loose.now) result (D.count drive.old) (D.count drive.new) }
+    ensures called { (answer : Result (Unit {0}) DriveFault) × AnswerOf result answer
+        × DriveModel (Rename loose.now name.now answer) (view D.Drive drive.old) (view D.Drive drive.new) }
     ensures tells { D.tells drive.new ≡ D.tells drive.old }
     ensures count { D.count drive.old ≤ D.count drive.new }
 {
@@ -63,6 +74,8 @@ pub fn discard_on<D: Drive>(drive: &mut D, kind: FileKind, loose: &str) -> Resul
     ensures err { OnErr result (IsTrue (D.tells drive.old) → Touches loose.now (D.files drive.old) (D.files drive.new)) }
     ensures lacks { IsTrue (D.tells drive.old) → StaysIfLacking result (D.files drive.old) (D.files drive.new) }
     ensures cause { StepCause kind (IsTrue (D.tells drive.old) × HasLoose (D.files drive.old) loose.now) result (D.count drive.old) (D.count drive.new) }
+    ensures called { (answer : Result (Unit {0}) DriveFault) × AnswerOf result answer
+        × DriveModel (Discard loose.now answer) (view D.Drive drive.old) (view D.Drive drive.new) }
     ensures tells { D.tells drive.new ≡ D.tells drive.old }
     ensures count { D.count drive.old ≤ D.count drive.new }
 {
@@ -77,6 +90,8 @@ pub fn remove_on<D: Drive>(drive: &mut D, kind: FileKind, name: &str) -> Result<
     ensures err { OnErr result (IsTrue (D.tells drive.old) → RemovedOrNot name.now (D.files drive.old) (D.files drive.new)) }
     ensures lacks { IsTrue (D.tells drive.old) → StaysIfLacking result (D.files drive.old) (D.files drive.new) }
     ensures cause { StepCause kind (IsTrue (D.tells drive.old) × HasShown (D.files drive.old) name.now) result (D.count drive.old) (D.count drive.new) }
+    ensures called { (answer : Result (Unit {0}) DriveFault) × AnswerOf result answer
+        × DriveModel (Remove name.now answer) (view D.Drive drive.old) (view D.Drive drive.new) }
     ensures tells { D.tells drive.new ≡ D.tells drive.old }
     ensures count { D.count drive.old ≤ D.count drive.new }
 {

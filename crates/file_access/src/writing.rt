@@ -2,6 +2,7 @@
 
 ghost use Rattle.std.specs.Prelude.{◌≡◌, ◌≤◌, IsTrue, None, OnOk, OnErr, length};
 ghost use Rattle.drive_base.specs.declared.drive.TheConstants.{LONGEST_NAME};
+ghost use Rattle.file_access.specs.Trails.{FileCalls, LooseCalls};
 ghost use Rattle.file_access.specs.Writing.{StepCause, Touches, WriteCause, WriteLeaves, Written};
 
 use crate::steps::{append_on, place, sync_on};
@@ -19,6 +20,7 @@ pub fn write_loose<D: Drive>(
     ensures ok { OnOk result (IsTrue (D.tells drive.old) → Written loose.now bytes.now (D.files drive.old) (D.files drive.new)) }
     ensures err { OnErr result (IsTrue (D.tells drive.old) → Touches loose.now (D.files drive.old) (D.files drive.new)) }
     ensures cause { StepCause kind (IsTrue (D.tells drive.old)) result (D.count drive.old) (D.count drive.new) }
+    ensures trail { LooseCalls result loose.now bytes.now (D.trail drive.old) (D.trail drive.new) }
     ensures tells { D.tells drive.new ≡ D.tells drive.old }
     ensures count { D.count drive.old ≤ D.count drive.new }
 {
@@ -39,6 +41,7 @@ pub fn write_file<D: Drive>(
     ensures leaves { IsTrue (D.tells drive.old) → (D.files drive.old).loose loose.now ≡ None
         → WriteLeaves result loose.now name.now bytes.now (D.files drive.old) (D.files drive.new) }
     ensures cause { WriteCause kind (IsTrue (D.tells drive.old)) result (D.count drive.old) (D.count drive.new) }
+    ensures trail { FileCalls result loose.now name.now bytes.now (D.trail drive.old) (D.trail drive.new) }
     ensures tells { D.tells drive.new ≡ D.tells drive.old }
     ensures count { D.count drive.old ≤ D.count drive.new }
 {

@@ -6,9 +6,10 @@ use Rattle.std.proofs.lemmas.List.{get_or-append-add, get_or_append_left, length
 use Rattle.std.proofs.lemmas.Option.{get_or_from_slice_get, slice_get-get_or, slice_get_within}
 use Rattle.call_types.specs.declared.why.Why.{Why}
 use Rattle.stamp_id.specs.declared.version.VersionId.{VersionId}
+use Rattle.drive_base.specs.Calls.{Seen, Showed, Tells}
 use Rattle.manifest_file.specs.declared.manifest.Manifest.{Manifest}
 use Rattle.manifest_file.specs.declared.manifest.ManifestPart.{ManifestPart}
-use Rattle.get_read.specs.Account.{Account, Call, Seen, Showed, Stands}
+use Rattle.get_read.specs.Account.{Account, Call, Stands}
 use Rattle.get_read.specs.Causes.{Wanted}
 use Rattle.get_read.specs.Given.{AreOfSpanIn, ClashIn, IsFoundIn, MetIn}
 use Rattle.get_read.specs.Letters.{GaveBlockIn, IsBlockIn, IsTableIn, NoBlockOf, NoManifestOf, ShowedAt}
@@ -16,20 +17,26 @@ use Rattle.get_read.specs.Letters.{GaveBlockIn, IsBlockIn, IsTableIn, NoBlockOf,
 -- so does a call
 pub stands_on : (calls more : Account) (k : ℕ) (seen : Seen) → Stands calls k seen → Stands (calls ++ more) k seen
 stands_on calls more k seen stands =
-    let call : Call = record { drive = k; seen = seen } in
-    let low = slice_get_within calls stands.0 call stands.1 in (
-      stands.0,
-      slice_get-get_or (calls ++ more) stands.0 call (omega (arith, low, length-append calls more))
-          ∙ ap Some (get_or_append_left calls more call stands.0 low ∙ get_or_from_slice_get calls stands.0 call call stands.1),
-    )
+    let call : Call = record { drive = k; made = stands.made } in
+    let at = stands.place in
+    let low = slice_get_within calls at call stands.is in
+    record {
+      place = at;
+      made = stands.made;
+      is = slice_get-get_or (calls ++ more) at call (omega (arith, low, length-append calls more))
+          ∙ ap Some (get_or_append_left calls more call at low ∙ get_or_from_slice_get calls at call call stands.is);
+      tells = stands.tells;
+    }
 
 -- and the last one
-pub stands_last : (calls : Account) (call : Call) → Stands (calls ++ call ∷ []) call.drive call.seen
-stands_last calls call = (
-  length calls,
-  slice_get-get_or (calls ++ call ∷ []) (length calls) call (omega (arith, length-append calls (call ∷ [])))
-      ∙ ap Some (get_or-append_seam calls call [] call),
-)
+pub stands_last : (calls : Account) (call : Call) (seen : Seen) → Tells call.made seen → Stands (calls ++ call ∷ []) call.drive seen
+stands_last calls call seen tells = record {
+  place = length calls;
+  made = call.made;
+  is = slice_get-get_or (calls ++ call ∷ []) (length calls) call (omega (arith, length-append calls (call ∷ [])))
+      ∙ ap Some (get_or-append_seam calls call [] call);
+  tells = tells;
+}
 
 -- what was met
 pub met_on : (calls more : Account) (bytes : List ℕ) → MetIn calls bytes → MetIn (calls ++ more) bytes
@@ -114,12 +121,16 @@ no_block_on d part i root out calls since more k why (inr (in_use, inr other)) =
 -- what stands in the last calls stands in all
 stands_late : (before since : Account) (k : ℕ) (seen : Seen) → Stands since k seen → Stands (before ++ since) k seen
 stands_late before since k seen stands =
-    let call : Call = record { drive = k; seen = seen } in
-    let low = slice_get_within since stands.0 call stands.1 in (
-      length before + stands.0,
-      slice_get-get_or (before ++ since) (length before + stands.0) call (omega (arith, low, length-append before since))
-          ∙ ap Some (get_or-append-add before since stands.0 call ∙ get_or_from_slice_get since stands.0 call call stands.1),
-    )
+    let call : Call = record { drive = k; made = stands.made } in
+    let at = stands.place in
+    let low = slice_get_within since at call stands.is in
+    record {
+      place = length before + at;
+      made = stands.made;
+      is = slice_get-get_or (before ++ since) (length before + at) call (omega (arith, low, length-append before since))
+          ∙ ap Some (get_or-append-add before since at call ∙ get_or_from_slice_get since at call call stands.is);
+      tells = stands.tells;
+    }
 
 -- a block that was given since the reader turned to its stripe was given
 pub gave_late : (d : ℕ) (part : ManifestPart) (i : ℕ) (root : List ℕ) (before since : Account) (k : ℕ) (block : List ℕ)

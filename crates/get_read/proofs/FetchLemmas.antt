@@ -17,13 +17,14 @@ use Rattle.seal_file.specs.declared.damage.Damage.TheVariants.{Short, Digest, Ki
 use Rattle.drive_base.specs.View.{DriveView}
 use Rattle.shard_file.specs.Checks.{Checks}
 use Rattle.drive_base.specs.Plan.{data_drives}
+use Rattle.drive_base.specs.Calls.{MadeCall, Seen, Showed, Tells}
 use Rattle.drive_base.specs.declared.plan.SetPlan.{SetPlan}
 use Rattle.manifest_file.specs.declared.manifest.ManifestPart.{ManifestPart}
 use Rattle.shard_file.specs.Shards.{block_place, table_place}
 use Rattle.shard_file.specs.Stripes.{piece, stripe_count, stripe_length, stripe_size, block_size}
 use Rattle.body_print.specs.Names.{shard_name}
 use Rattle.get_read.specs.declared.blocks.Blocks.{Blocks}
-use Rattle.get_read.specs.Account.{Account, Call, Seen, Showed, WasSeen}
+use Rattle.get_read.specs.Account.{Account, Call, WasSeen}
 use Rattle.get_read.specs.Calling.{WasSeenSo}
 use Rattle.get_read.specs.Advancing.{GivesRun, IsStripeBy, StripeAnswers}
 use Rattle.get_read.specs.Causes.{digest_in}
@@ -82,14 +83,14 @@ module _ (set : SetPlan) (part : ManifestPart) (i size : ℕ) where
   passed_so tried next why old new calls since passes k past before = inl (passes.out k past before)
 
   -- the next drive is left, with what its call tells
-  pub stripe_passed : (found : Blocks) (tried next : ℕ) (whys new : List Why) (calls since : Account) (why : Why) (seen : Seen)
-      → IsStripe set part i size found tried whys calls since → tried < set.drives → length whys ≡ set.drives
+  pub stripe_passed : (found : Blocks) (tried next : ℕ) (whys new : List Why) (calls since : Account) (why : Why) (seen : Seen) (made : MadeCall)
+      → Tells made seen → IsStripe set part i size found tried whys calls since → tried < set.drives → length whys ≡ set.drives
       → slice_index_or whys tried Good ≡ Good → is_good why ≡ false → PassesDrive set why tried next whys new
       → TellsNoTable (data_drives set.drives set.parity) part (slice_index_or part.roots tried []) why seen
       ⊎ TellsNoBytes (data_drives set.drives set.parity) part i why seen
-      → IsStripe set part i size found next new (calls ++ record { drive = tried; seen = seen } ∷ []) (since ++ record { drive = tried; seen = seen } ∷ [])
-  stripe_passed found tried next whys new calls since why seen is low counted was bad passes tells =
-      let call : Call = record { drive = tried; seen = seen } in
+      → IsStripe set part i size found next new (calls ++ record { drive = tried; made = made } ∷ []) (since ++ record { drive = tried; made = made } ∷ [])
+  stripe_passed found tried next whys new calls since why seen made seen_so is low counted was bad passes tells =
+      let call : Call = record { drive = tried; made = made } in
       let all = calls ++ call ∷ [] in
       let late = since ++ call ∷ [] in
       let d = data_drives set.drives set.parity in
@@ -107,7 +108,7 @@ module _ (set : SetPlan) (part : ManifestPart) (i size : ℕ) where
             | inl same ↦
                 inr (subst (λ (j : ℕ). NoBlockOf d part i (slice_index_or part.roots j []) set.out all late j (slice_index_or new j Good)) (sym same)
                 (subst (λ (w : Why). NoBlockOf d part i (slice_index_or part.roots tried []) set.out all late tried w) (sym passes.letter)
-                (inr (is.next_in_use low, inl (seen, stands_last since call, tells)))))
+                (inr (is.next_in_use low, inl (seen, stands_last since call seen seen_so, tells)))))
             | inr apart ↦ inr (passed_so tried next why whys new all late passes k (omega arith) before)
           ]
         ];
@@ -126,16 +127,16 @@ module _ (set : SetPlan) (part : ManifestPart) (i size : ℕ) where
       (subst (λ (b : List ℕ). IsBlockIn d part i (slice_index_or part.roots k []) calls since k stored b) (sym same_block) is))
 
   -- the block of the next drive is at hand
-  pub stripe_added : (found next_found : Blocks) (tried next : ℕ) (whys new : List Why) (calls since : Account) (stored block : List ℕ) (seen : Seen)
+  pub stripe_added : (found next_found : Blocks) (tried next : ℕ) (whys new : List Why) (calls since : Account) (stored block : List ℕ) (made : MadeCall)
       → IsStripe set part i size found tried whys calls since → AreAtHand size found whys → tried < set.drives
       → slice_index_or whys tried Good ≡ Good → PassesDrive set Good tried next whys new
       → next_found.rows.items ≡ found.rows.items ++ tried ∷ [] → next_found.stored.items ≡ found.stored.items ++ stored ∷ []
       → next_found.bytes.items ≡ found.bytes.items ++ block → length block ≡ size
-      → IsBlockIn (data_drives set.drives set.parity) part i (slice_index_or part.roots tried []) (calls ++ record { drive = tried; seen = seen } ∷ [])
-      (since ++ record { drive = tried; seen = seen } ∷ []) tried stored block
-      → IsStripe set part i size next_found next new (calls ++ record { drive = tried; seen = seen } ∷ []) (since ++ record { drive = tried; seen = seen } ∷ [])
-  stripe_added found next_found tried next whys new calls since stored block seen is hand low was passes rows_are stored_are bytes_are long gives =
-      let call : Call = record { drive = tried; seen = seen } in
+      → IsBlockIn (data_drives set.drives set.parity) part i (slice_index_or part.roots tried []) (calls ++ record { drive = tried; made = made } ∷ [])
+      (since ++ record { drive = tried; made = made } ∷ []) tried stored block
+      → IsStripe set part i size next_found next new (calls ++ record { drive = tried; made = made } ∷ []) (since ++ record { drive = tried; made = made } ∷ [])
+  stripe_added found next_found tried next whys new calls since stored block made is hand low was passes rows_are stored_are bytes_are long gives =
+      let call : Call = record { drive = tried; made = made } in
       let all = calls ++ call ∷ [] in
       let late = since ++ call ∷ [] in
       let d = data_drives set.drives set.parity in
@@ -256,10 +257,11 @@ module _ (set : SetPlan) (part : ManifestPart) (i size : ℕ) where
       }
 
 -- a table that a call shows now is one of the account
-pub table_now : (d : ℕ) (part : ManifestPart) (root : List ℕ) (calls : Account) (k : ℕ) (table : List ℕ) → length table ≡ 32 * stripe_count part.length
+pub table_now : (d : ℕ) (part : ManifestPart) (root : List ℕ) (calls : Account) (k : ℕ) (table : List ℕ) (made : MadeCall)
+    → Tells made (Showed (shard_name part.id) (table_place d part.length) table) → length table ≡ 32 * stripe_count part.length
     → IsBytes table → root ≡ sha256 table
-    → IsTableIn d part root (calls ++ record { drive = k; seen = Showed (shard_name part.id) (table_place d part.length) table } ∷ []) k table
-table_now d part root calls k table size bytes digest = record {
+    → IsTableIn d part root (calls ++ record { drive = k; made = made } ∷ []) k table
+table_now d part root calls k table made tells size bytes digest = record {
   size = size;
   bytes = bytes;
   digest = digest;
@@ -267,30 +269,32 @@ table_now d part root calls k table size bytes digest = record {
     table_place d part.length,
     0,
     table,
-    stands_last calls (record { drive = k; seen = Showed (shard_name part.id) (table_place d part.length) table }),
+    stands_last calls (record { drive = k; made = made }) _ tells,
     omega arith,
     sym (take_all (length table) table (omega arith)),
   );
 }
 
 -- the tables that are held, with one more
-pub tables_more : (d : ℕ) (part : ManifestPart) (old new : List (List ℕ)) (calls : Account) (k : ℕ) (table : List ℕ) (seen : Seen) → AreTablesOf d part old calls
-    → new ≡ slice_set old k table → k < length old
-    → IsTableIn d part (slice_index_or part.roots k []) (calls ++ record { drive = k; seen = seen } ∷ []) k table
-    → AreTablesOf d part new (calls ++ record { drive = k; seen = seen } ∷ [])
-tables_more d part old new calls k table seen held is low now = subst (λ (t : List (List ℕ)). AreTablesOf d part t (calls ++ record { drive = k; seen = seen } ∷ [])) (sym is)
-    (λ j inside. elim (cases_eq j k) [
+pub tables_more : (d : ℕ) (part : ManifestPart) (old new : List (List ℕ)) (calls : Account) (k : ℕ) (table : List ℕ) (made : MadeCall)
+    → AreTablesOf d part old calls → new ≡ slice_set old k table → k < length old
+    → IsTableIn d part (slice_index_or part.roots k []) (calls ++ record { drive = k; made = made } ∷ []) k table
+    → AreTablesOf d part new (calls ++ record { drive = k; made = made } ∷ [])
+tables_more d part old new calls k table made held is low now =
+    let call : Call = record { drive = k; made = made } in
+    let late = calls ++ call ∷ [] in
+    subst (λ (t : List (List ℕ)). AreTablesOf d part t late) (sym is) (λ j inside. elim (cases_eq j k) [
       | inl same ↦
-          subst (λ (m : ℕ). (slice_index_or (slice_set old k table) m [] ≡ []) ⊎ IsTableIn d part (slice_index_or part.roots m []) (calls ++ record { drive = k; seen = seen } ∷ []) m
+          subst (λ (m : ℕ). (slice_index_or (slice_set old k table) m [] ≡ []) ⊎ IsTableIn d part (slice_index_or part.roots m []) late m
           (slice_index_or (slice_set old k table) m [])) (sym same)
-          (inr (subst (λ (t : List ℕ). IsTableIn d part (slice_index_or part.roots k []) (calls ++ record { drive = k; seen = seen } ∷ []) k t)
+          (inr (subst (λ (t : List ℕ). IsTableIn d part (slice_index_or part.roots k []) late k t)
           (sym (get_or-set_same old k table [] low)) now))
       | inr apart ↦
           let other : slice_index_or (slice_set old k table) j [] ≡ slice_index_or old j [] = get_or-set_other old k j table [] apart in
-          subst (λ (t : List ℕ). (t ≡ []) ⊎ IsTableIn d part (slice_index_or part.roots j []) (calls ++ record { drive = k; seen = seen } ∷ []) j t) (sym other)
+          subst (λ (t : List ℕ). (t ≡ []) ⊎ IsTableIn d part (slice_index_or part.roots j []) late j t) (sym other)
           (elim (held j (omega (arith, inside, length-set old k table))) [
             | inl none ↦ inl none
-            | inr was ↦ inr (table_on d part _ calls (record { drive = k; seen = seen } ∷ []) j _ was)
+            | inr was ↦ inr (table_on d part _ calls (call ∷ []) j _ was)
           ])
     ])
 
@@ -303,19 +307,19 @@ tables_on d part tables calls more held = λ j inside. elim (held j inside) [
 ]
 
 -- a block that a call shows now, by a table that is held
-pub block_now : (d : ℕ) (part : ManifestPart) (i : ℕ) (root : List ℕ) (calls since : Account) (k : ℕ) (table stored block : List ℕ)
-    → IsTableIn d part root calls k table → length block ≡ block_size d (stripe_length part.length i) → IsBytes block → stored ≡ digest_in table i
-    → IsBlockIn d part i root (calls ++ record { drive = k; seen = Showed (shard_name part.id) (block_place d i) block } ∷ [])
-    (since ++ record { drive = k; seen = Showed (shard_name part.id) (block_place d i) block } ∷ []) k stored block
-block_now d part i root calls since k table stored block is_table size bytes is_stored =
-    let call : Call = record { drive = k; seen = Showed (shard_name part.id) (block_place d i) block } in
+pub block_now : (d : ℕ) (part : ManifestPart) (i : ℕ) (root : List ℕ) (calls since : Account) (k : ℕ) (table stored block : List ℕ) (made : MadeCall)
+    → Tells made (Showed (shard_name part.id) (block_place d i) block) → IsTableIn d part root calls k table
+    → length block ≡ block_size d (stripe_length part.length i) → IsBytes block → stored ≡ digest_in table i
+    → IsBlockIn d part i root (calls ++ record { drive = k; made = made } ∷ []) (since ++ record { drive = k; made = made } ∷ []) k stored block
+block_now d part i root calls since k table stored block made tells is_table size bytes is_stored =
+    let call : Call = record { drive = k; made = made } in
     record {
       table = table;
       is_table = table_on d part root calls (call ∷ []) k table is_table;
       size = size;
       bytes = bytes;
       stored = is_stored;
-      showed = (block_place d i, 0, block, stands_last since call, omega arith, sym (take_all (length block) block (omega arith)));
+      showed = (block_place d i, 0, block, stands_last since call _ tells, omega arith, sym (take_all (length block) block (omega arith)));
     }
 
 -- what is made of the blocks that are at hand

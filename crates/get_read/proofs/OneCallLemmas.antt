@@ -1,17 +1,24 @@
--- One call of one drive of a list.
+-- One call of one drive, and of one drive of a list.
 use Rattle.std.proofs.Common.{◌≡◌, ◌∙◌, ℕ, ◌<◌, List, [], ◌∷◌, length, slice_index_or, slice_set, ap, refl, subst, sym, inl, inr, arith}
 use Rattle.std.specs.Int.{IsBitSet}
+use Rattle.field_reader.specs.Spelling.{IsBytes}
 use Rattle.std.proofs.lemmas.Bool.{cases_eq}
 use Rattle.std.proofs.lemmas.List.{get_or-set_other, get_or-set_same, get_or_default, length-set}
-use Rattle.drive_base.proofs.ViewLemmas.{at_each_view, length-views, view_at-views}
+use Rattle.drive_base.proofs.ViewLemmas.{at_each_view, length-views, none_since, view_at-views}
+use Rattle.drive_base.specs.Calls.{Seen, Showed, WasMade}
 use Rattle.drive_base.specs.View.{AllOnlyRead, DriveView, OnlyRead, view, views, view_at}
 use Rattle.drive_base.specs.declared.drive.Drive.{Ghosts}
-use Rattle.get_read.specs.Account.{Seen, WasSeen}
+use Rattle.file_access.proofs.SightLemmas.{calls_tell_what_was_so}
+use Rattle.get_read.specs.Account.{WasSeen}
 use Rattle.get_read.specs.Readers.{AreCalls}
 
 -- what is only read is so, told otherwise
 untouched : (drive : DriveView) → OnlyRead drive drive
-untouched drive = record { goes_on = record { tells = refl; count = omega arith }; files = λ told. refl }
+untouched drive = record { goes_on = record { tells = refl; count = omega arith }; files = λ told. refl; trail = none_since drive.trail }
+
+-- what was shown is bytes
+pub shown_bytes : (name : List ℕ) (at : ℕ) (bytes : List ℕ) (old new : DriveView) → WasSeen (Showed name at bytes) old new → IsBytes bytes
+shown_bytes name at bytes old new seen = (calls_tell_what_was_so seen.made (Showed name at bytes) old new seen.was seen.tells).1
 
 -- an element is found again, whatever stands for one that is not there
 pub again : {D : Type 0} (drives : List D) (k : ℕ) (d : D) → k < length drives → slice_index_or drives k (slice_index_or drives k d) ≡ slice_index_or drives k d
@@ -20,8 +27,8 @@ again drives k d low = get_or_default drives k (slice_index_or drives k d) d low
 module _ {D : Type 0} (ghosts : Ghosts D) where
   -- the call is one of the drives' calls
   pub called_once : (out k : ℕ) (seen : Seen) (drives : List D) (was now : D) → k < length drives → (IsBitSet out k → ⊥)
-      → slice_index_or drives k was ≡ was → WasSeen seen (view ghosts was) (view ghosts now)
-      → AreCalls ghosts out (record { drive = k; seen = seen } ∷ []) drives (slice_set drives k now)
+      → slice_index_or drives k was ≡ was → (seen_so : WasSeen seen (view ghosts was) (view ghosts now))
+      → AreCalls ghosts out (record { drive = k; made = seen_so.made } ∷ []) drives (slice_set drives k now)
   called_once out k seen drives was now low in_use is seen_so =
       let before : view_at (views ghosts drives) k ≡ view ghosts was = view_at-views ghosts drives k was low ∙ ap (view ghosts) is in
       let after : view_at (views ghosts (slice_set drives k now)) k ≡ view ghosts now =
@@ -29,8 +36,9 @@ module _ {D : Type 0} (ghosts : Ghosts D) where
         record {
           within = omega (arith, length-views ghosts drives);
           in_use = in_use;
-          was = subst (λ (v : DriveView). WasSeen seen v (view_at (views ghosts (slice_set drives k now)) k)) (sym before)
-              (subst (λ (v : DriveView). WasSeen seen (view ghosts was) v) (sym after) seen_so);
+          was = subst (λ (v : DriveView). WasMade seen_so.made v (view_at (views ghosts (slice_set drives k now)) k)) (sym before)
+              (subst (λ (v : DriveView). WasMade seen_so.made (view ghosts was) v) (sym after) seen_so.was);
+          reading = seen_so.reading;
         },
         λ other d apart. get_or-set_other drives k other now d apart,
       )

@@ -6,13 +6,14 @@ use Rattle.std.proofs.lemmas.List.{get_or-set_same, length-set, set-get_or}
 use Rattle.stamp_id.specs.declared.version.VersionId.{VersionId}
 use Rattle.call_types.specs.declared.why.Why.{Why}
 use Rattle.call_types.specs.declared.why.Why.TheVariants.{Good}
+use Rattle.drive_base.specs.Calls.{MadeCall, Seen, Showed, Sized, Tells}
 use Rattle.drive_base.specs.declared.plan.SetPlan.{SetPlan}
 use Rattle.manifest_file.specs.Canonical.{IsCanonical}
 use Rattle.manifest_file.specs.Spelling.{file_of}
 use Rattle.manifest_file.specs.declared.manifest.TheConstants.{LONGEST_FILE}
 use Rattle.manifest_file.specs.declared.manifest.Manifest.{Manifest}
 use Rattle.body_print.specs.Names.{manifest_name}
-use Rattle.get_read.specs.Account.{Account, Call, Seen, Showed, Sized, Stands}
+use Rattle.get_read.specs.Account.{Account, Call, Stands}
 use Rattle.get_read.specs.Causes.{Serves, Wanted}
 use Rattle.get_read.specs.Given.{IsFoundIn}
 use Rattle.get_read.specs.Letters.{NoManifestOf, TellsNoManifest}
@@ -45,31 +46,32 @@ passes_good set place next old new low counted good over =
     passes_drive set Good place next old new low counted (subst (λ (w : List Why). PassesOver set (place + 1) next w new) (sym same) over)
 
 -- the length of the next drive's file is told
-pub search_sized : (asked : Asked) (tried : ℕ) (size : Option ℕ) (whys : List Why) (calls : Account) (n : ℕ) → IsSearch asked tried size whys calls
-    → n ≤ LONGEST_FILE
-    → IsSearch asked tried (Some n) whys (calls ++ record { drive = tried; seen = Sized (manifest_name asked.id) n } ∷ [])
-search_sized asked tried size whys calls n is few =
-    let call : Call = record { drive = tried; seen = Sized (manifest_name asked.id) n } in
+pub search_sized : (asked : Asked) (tried : ℕ) (size : Option ℕ) (whys : List Why) (calls : Account) (n : ℕ) (made : MadeCall)
+    → IsSearch asked tried size whys calls → n ≤ LONGEST_FILE → Tells made (Sized (manifest_name asked.id) n)
+    → IsSearch asked tried (Some n) whys (calls ++ record { drive = tried; made = made } ∷ [])
+search_sized asked tried size whys calls n made is few tells =
+    let call : Call = record { drive = tried; made = made } in
     record {
       tried_so = λ k low. no_manifest_on (wants asked) asked.id (set_of asked).out calls (call ∷ []) k _ (is.tried_so k low);
       next_in_use = is.next_in_use;
       sized = λ m some.
           let same : n ≡ m = cc in
-          (omega arith, subst (λ (l : ℕ). Stands (calls ++ call ∷ []) tried (Sized (manifest_name asked.id) l)) same (stands_last calls call));
+          (omega arith, subst (λ (l : ℕ). Stands (calls ++ call ∷ []) tried (Sized (manifest_name asked.id) l)) same (stands_last calls call _ tells));
     }
 
 -- the manifest is found
-pub search_found : (asked : Asked) (tried : ℕ) (size : Option ℕ) (whys : List Why) (calls : Account) (m : Manifest) → IsSearch asked tried size whys calls
-    → size ≡ Some (length (file_of m)) → IsCanonical m → Serves (wants asked) m
-    → IsFoundIn (wants asked) asked.id m (calls ++ record { drive = tried; seen = Showed (manifest_name asked.id) 0 (file_of m) } ∷ [])
-search_found asked tried size whys calls m is told canonical serves =
-    let call : Call = record { drive = tried; seen = Showed (manifest_name asked.id) 0 (file_of m) } in
+pub search_found : (asked : Asked) (tried : ℕ) (size : Option ℕ) (whys : List Why) (calls : Account) (m : Manifest) (made : MadeCall)
+    → IsSearch asked tried size whys calls → size ≡ Some (length (file_of m)) → IsCanonical m → Serves (wants asked) m
+    → Tells made (Showed (manifest_name asked.id) 0 (file_of m))
+    → IsFoundIn (wants asked) asked.id m (calls ++ record { drive = tried; made = made } ∷ [])
+search_found asked tried size whys calls m made is told canonical serves tells =
+    let call : Call = record { drive = tried; made = made } in
     record {
       canonical = canonical;
       serves = serves;
       drive = tried;
       sized = stands_on calls (call ∷ []) tried _ (is.sized (length (file_of m)) told).1;
-      showed = stands_last calls call;
+      showed = stands_last calls call _ tells;
     }
 
 -- what a call tells by what was told before, told otherwise
@@ -81,12 +83,12 @@ told_as wanted id Was Is why seen on (inr (inr (inl cut))) = inr (inr (inl (cut.
 told_as wanted id Was Is why seen on (inr (inr (inr other))) = inr (inr (inr (other.0, on (length other.0) other.1, other.2, other.3)))
 
 -- the next drive is left, with what its call tells
-pub search_passed : (asked : Asked) (tried next : ℕ) (size : Option ℕ) (whys new : List Why) (calls : Account) (why : Why) (seen : Seen)
-    → IsSearch asked tried size whys calls → tried < (set_of asked).drives → PassesDrive (set_of asked) why tried next whys new
+pub search_passed : (asked : Asked) (tried next : ℕ) (size : Option ℕ) (whys new : List Why) (calls : Account) (why : Why) (seen : Seen) (made : MadeCall)
+    → Tells made seen → IsSearch asked tried size whys calls → tried < (set_of asked).drives → PassesDrive (set_of asked) why tried next whys new
     → TellsNoManifest (wants asked) asked.id (λ n. size ≡ Some n) why seen
-    → IsSearch asked next None new (calls ++ record { drive = tried; seen = seen } ∷ [])
-search_passed asked tried next size whys new calls why seen is low passes tells =
-    let call : Call = record { drive = tried; seen = seen } in
+    → IsSearch asked next None new (calls ++ record { drive = tried; made = made } ∷ [])
+search_passed asked tried next size whys new calls why seen made seen_so is low passes tells =
+    let call : Call = record { drive = tried; made = made } in
     let after = calls ++ call ∷ [] in
     let out = (set_of asked).out in
     record {
@@ -102,7 +104,7 @@ search_passed asked tried next size whys new calls why seen is low passes tells 
                 is.next_in_use low,
                 (
                   seen,
-                  stands_last calls call,
+                  stands_last calls call seen seen_so,
                   told_as (wants asked) asked.id (λ n. size ≡ Some n) (λ n. Stands after tried (Sized (manifest_name asked.id) n)) why seen
                       (λ n told. stands_on calls (call ∷ []) tried _ (is.sized n told).1) tells,
                 ),

@@ -7,6 +7,7 @@ use Rattle.call_types.specs.Good.{is_good}
 use Rattle.call_types.specs.declared.why.Why.{Why}
 use Rattle.call_types.specs.declared.why.Why.TheVariants.{Good, Failed, Damaged, Behind, Lacks}
 use Rattle.seal_file.specs.declared.damage.Damage.TheVariants.{Long}
+use Rattle.drive_base.specs.Calls.{Seen, Showed, Sized}
 use Rattle.drive_base.specs.View.{DriveView, view}
 use Rattle.drive_base.specs.declared.drive.Drive.{Ghosts}
 use Rattle.file_access.specs.declared.fault.FetchFault.{FetchFault}
@@ -15,7 +16,7 @@ use Rattle.manifest_file.specs.declared.manifest.TheConstants.{LONGEST_FILE}
 use Rattle.manifest_file.specs.declared.manifest.Manifest.{Manifest}
 use Rattle.manifest_file.specs.Spelling.{file_of}
 use Rattle.body_print.specs.Names.{manifest_name}
-use Rattle.get_read.specs.Account.{Account, Seen, Showed, Sized, WasSeen}
+use Rattle.get_read.specs.Account.{Account, WasSeen}
 use Rattle.get_read.specs.Advancing.{LookCall, SearchSteps}
 use Rattle.get_read.specs.Calling.{IdleOrCalled}
 use Rattle.get_read.specs.Causes.{Wanted}
@@ -90,11 +91,11 @@ module _ {D : Type 0} (ghosts : Ghosts D) (old new : Search) where
       → LookCall old (Ok (Size n)) (view ghosts was) (view ghosts now)
       → SearchSteps ghosts old new (Ok None) drives (slice_set drives old.tried now)
   search_sizes n drives was now low is in_use asked tried size whys call = record {
-    calls = record { drive = old.tried; seen = Sized (manifest_name old.asked.id) n } ∷ [];
-    are = called_once ghosts (set_of old.asked).out old.tried _ drives was now low in_use is call.1;
+    calls = record { drive = old.tried; made = call.1.made } ∷ [];
+    are = called_once ghosts (set_of old.asked).out old.tried (Sized (manifest_name old.asked.id) n) drives was now low in_use is call.1;
     made = refl;
     asked = asked;
-    goes_on = λ account so. rw (asked, tried, size, whys) (search_sized old.asked old.tried old.size old.whys account n so call.0);
+    goes_on = λ account so. rw (asked, tried, size, whys) (search_sized old.asked old.tried old.size old.whys account n call.1.made so call.0 call.1.tells);
   }
 
   -- or the manifest
@@ -103,11 +104,11 @@ module _ {D : Type 0} (ghosts : Ghosts D) (old new : Search) where
       → LookCall old (Ok (File m)) (view ghosts was) (view ghosts now)
       → SearchSteps ghosts old new (Ok (Some m)) drives (slice_set drives old.tried now)
   search_finds m drives was now low is in_use asked call = record {
-    calls = record { drive = old.tried; seen = Showed (manifest_name old.asked.id) 0 (file_of m) } ∷ [];
-    are = called_once ghosts (set_of old.asked).out old.tried _ drives was now low in_use is call.3;
+    calls = record { drive = old.tried; made = call.3.made } ∷ [];
+    are = called_once ghosts (set_of old.asked).out old.tried (Showed (manifest_name old.asked.id) 0 (file_of m)) drives was now low in_use is call.3;
     made = refl;
     asked = asked;
-    goes_on = λ account so. rw asked (search_found old.asked old.tried old.size old.whys account m so call.0 call.1 call.2);
+    goes_on = λ account so. rw asked (search_found old.asked old.tried old.size old.whys account m call.3.made so call.0 call.1 call.2 call.3.tells);
   }
 
   -- there was not enough memory, before a call or after it
@@ -123,7 +124,7 @@ module _ {D : Type 0} (ghosts : Ghosts D) (old new : Search) where
     goes_on = λ account so. tt;
   }
   search_without drives was now low is in_use asked (inr seen) = record {
-    calls = record { drive = old.tried; seen = seen.0 } ∷ [];
+    calls = record { drive = old.tried; made = seen.1.made } ∷ [];
     are = called_once ghosts (set_of old.asked).out old.tried seen.0 drives was now low in_use is seen.1;
     made = omega arith;
     asked = asked;
@@ -138,11 +139,13 @@ module _ {D : Type 0} (ghosts : Ghosts D) (old new : Search) where
       → (calls : Account) × AreCalls ghosts (set_of old.asked).out calls drives (slice_set drives old.tried now) × (length calls ≡ 1)
       × ((account : Account) → IsSearchOf old account → IsSearchOf new (account ++ calls))
   search_left why drives was now low is in_use inside asked none call passes =
-      let seen = call.1.0 in (
-        record { drive = old.tried; seen = seen } ∷ [],
+      let seen = call.1.0 in
+      let made = call.1.1.made in (
+        record { drive = old.tried; made = made } ∷ [],
         called_once ghosts (set_of old.asked).out old.tried seen drives was now low in_use is call.1.1,
         refl,
-        λ account so. rw (asked, none) (search_passed old.asked old.tried new.tried old.size old.whys new.whys account why seen so inside passes call.1.2),
+        λ account so. rw (asked, none) (search_passed old.asked old.tried new.tried old.size old.whys new.whys account why seen made call.1.1.tells so
+            inside passes call.1.2),
       )
 
   -- others are left

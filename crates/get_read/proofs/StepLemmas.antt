@@ -5,6 +5,7 @@ use Rattle.std.specs.Global.{Global}
 use Rattle.std.proofs.lemmas.List.{length-map, map-set, set-get_or}
 use Rattle.call_types.specs.declared.why.Why.{Why}
 use Rattle.call_types.specs.declared.why.Why.TheVariants.{Good}
+use Rattle.drive_base.specs.Calls.{Seen, Showed, Tells}
 use Rattle.drive_base.specs.Plan.{data_drives}
 use Rattle.drive_base.specs.View.{view}
 use Rattle.drive_base.specs.declared.drive.Drive.{Ghosts}
@@ -15,7 +16,7 @@ use Rattle.shard_file.proofs.StripeLemmas.{stripes_reach}
 use Rattle.shard_file.specs.Shards.{block_place, table_place}
 use Rattle.shard_file.specs.Stripes.{block_size, stripe_count, stripe_length, stripe_size}
 use Rattle.body_print.specs.Names.{shard_name}
-use Rattle.get_read.specs.Account.{Account, Call, Seen, Showed}
+use Rattle.get_read.specs.Account.{Account, Call}
 use Rattle.get_read.specs.Advancing.{FetchAnswers, FetchCall, FetchSteps, MakesOne, StripeAnswers, TellsNeither, data_of, next_table, part_of}
 use Rattle.get_read.specs.Given.{IsFoundIn}
 use Rattle.get_read.specs.Judging.{JudgesStripe}
@@ -32,7 +33,7 @@ use Rattle.get_read.specs.declared.state.PartWork.{PartWork}
 use Rattle.get_read.specs.declared.state.StripeWork.{StripeWork}
 use Rattle.get_read.specs.declared.tables.Fetched.{Fetched}
 use Rattle.get_read.proofs.FetchLemmas.{block_now, judged_so, stripe_added, stripe_on, stripe_passed, table_now, tables_more, tables_on}
-use Rattle.get_read.proofs.OneCallLemmas.{called_once}
+use Rattle.get_read.proofs.OneCallLemmas.{called_once, shown_bytes}
 
 -- the calls of a step that is no turn stand behind all calls
 behind : (told : Told) (calls : Account) → all_calls told ++ calls ≡ all_calls (told_after false told calls)
@@ -80,7 +81,8 @@ module _ {D : Type 0} (ghosts : Ghosts D) (old new : FetchingRecord) where
       let k = old.work.tried in
       let d = data_of old in
       let seen : Seen = Showed (shard_name part.id) (table_place d part.length) table.items in
-      let call_is : Call = record { drive = k; seen = seen } in
+      let made = shows.was.made in
+      let call_is : Call = record { drive = k; made = made } in
       record {
         calls = call_is ∷ [];
         are = called_once ghosts (set_of old.asked).out k seen drives was now low (old.next_in_use inside) is shows.was;
@@ -94,11 +96,12 @@ module _ {D : Type 0} (ghosts : Ghosts D) (old new : FetchingRecord) where
             let calls = all_calls told in
             let table_is : IsTableIn d p (slice_index_or p.roots k []) (calls ++ call_is ∷ []) k table.items =
             subst (λ (q : ManifestPart). IsTableIn d q (slice_index_or q.roots k []) (calls ++ call_is ∷ []) k table.items) same
-            (table_now d part (slice_index_or part.roots k []) calls k table.items shows.size shows.was.1 shows.digest) in
+            (table_now d part (slice_index_or part.roots k []) calls k table.items made shows.was.tells shows.size
+            (shown_bytes (shard_name part.id) (table_place d part.length) table.items (view ghosts was) (view ghosts now) shows.was) shows.digest) in
             let bytes : all_bytes new.part.tables.items ≡ slice_set (all_bytes old.part.tables.items) k table.items =
             ap (λ (t : List (Vec ℕ Global)). all_bytes t) tables ∙ map-set (λ (file : Vec ℕ Global). file.items) old.part.tables.items k table in
             let held : AreTablesOf d p (all_bytes new.part.tables.items) (calls ++ call_is ∷ []) =
-            tables_more d p (all_bytes old.part.tables.items) (all_bytes new.part.tables.items) calls k table.items seen whole.held bytes
+            tables_more d p (all_bytes old.part.tables.items) (all_bytes new.part.tables.items) calls k table.items made whole.held bytes
             (omega (arith, inside, old.tables, length-map old.part.tables.items (λ (file : Vec ℕ Global). file.items))) table_is in
             let stripe = stripe_on (set_of old.asked) p old.work.stripe old.work.size old.work.found k old.work.whys calls told.since (call_is ∷ []) so.stripe in
             fetch_answers old new (Ok None) told (call_is ∷ []) p
@@ -186,7 +189,8 @@ module _ {D : Type 0} (ghosts : Ghosts D) (old new : FetchingRecord) where
       let tells = call.1 d0 in
       let k = old.work.tried in
       let seen = tells.0 in
-      let call_is : Call = record { drive = k; seen = seen } in
+      let made = tells.1.made in
+      let call_is : Call = record { drive = k; made = made } in
       record {
         calls = call_is ∷ [];
         are = called_once ghosts (set_of old.asked).out k seen drives was now low (old.next_in_use inside) is tells.1;
@@ -199,7 +203,7 @@ module _ {D : Type 0} (ghosts : Ghosts D) (old new : FetchingRecord) where
             let set = set_of old.asked in
             let why_so = subst (λ (q : ManifestPart). TellsNeither old q why seen) (whole.part_is d0) tells.2 in
             let passed = stripe_passed set p old.work.stripe old.work.size old.work.found k mid.tried old.work.whys mid.whys (all_calls told) told.since why seen
-            so.stripe inside old.letters (old.work.untried k (omega arith)) call.0 passes why_so in
+            made tells.1.tells so.stripe inside old.letters (old.work.untried k (omega arith)) call.0 passes why_so in
             fetch_judged mid result told (call_is ∷ []) stays stripe size (passes.counted ∙ old.letters) so
             (rw (stripe, size, found) passed) judges tried_now stripe_now size_now;
       }
@@ -222,7 +226,8 @@ module _ {D : Type 0} (ghosts : Ghosts D) (old new : FetchingRecord) where
       let k = old.work.tried in
       let d = data_of old in
       let seen : Seen = Showed (shard_name part.id) (block_place d old.work.stripe) fetched.block.items in
-      let call_is : Call = record { drive = k; seen = seen } in
+      let made = fetches.was.made in
+      let call_is : Call = record { drive = k; made = made } in
       record {
         calls = call_is ∷ [];
         are = called_once ghosts (set_of old.asked).out k seen drives was now low (old.next_in_use inside) is fetches.was;
@@ -244,12 +249,11 @@ module _ {D : Type 0} (ghosts : Ghosts D) (old new : FetchingRecord) where
             let block_size_is : length fetched.block.items ≡ block_size d (stripe_length p.length old.work.stripe) =
             fetches.size ∙ old.size ∙ ap (λ (n : ℕ). block_size d (stripe_length n old.work.stripe)) (sym long) in
             let block : IsBlockIn d p old.work.stripe (slice_index_or p.roots k []) (calls ++ call_is ∷ []) (told.since ++ call_is ∷ []) k fetched.stored fetched.block.items =
-            subst (λ (q : ManifestPart). IsBlockIn d p old.work.stripe (slice_index_or p.roots k [])
-            (calls ++ record { drive = k; seen = Showed (shard_name q.id) (block_place d old.work.stripe) fetched.block.items } ∷ [])
-            (told.since ++ record { drive = k; seen = Showed (shard_name q.id) (block_place d old.work.stripe) fetched.block.items } ∷ []) k fetched.stored fetched.block.items)
-            (sym same)
-            (block_now d p old.work.stripe (slice_index_or p.roots k []) calls told.since k (next_table old) fetched.stored fetched.block.items table block_size_is fetches.was.1 fetches.stored) in
-            let added = stripe_added set p old.work.stripe old.work.size old.work.found mid.found k mid.tried old.work.whys mid.whys calls told.since fetched.stored fetched.block.items seen
+            block_now d p old.work.stripe (slice_index_or p.roots k []) calls told.since k (next_table old) fetched.stored fetched.block.items made
+            (subst (λ (q : ManifestPart). Tells made (Showed (shard_name q.id) (block_place d old.work.stripe) fetched.block.items)) same fetches.was.tells)
+            table block_size_is
+            (shown_bytes (shard_name part.id) (block_place d old.work.stripe) fetched.block.items (view ghosts was) (view ghosts now) fetches.was) fetches.stored in
+            let added = stripe_added set p old.work.stripe old.work.size old.work.found mid.found k mid.tried old.work.whys mid.whys calls told.since fetched.stored fetched.block.items made
             so.stripe old.work.at_hand inside (old.work.untried k (omega arith)) passes rows stored bytes fetches.size block in
             fetch_judged mid result told (call_is ∷ []) stays stripe size (passes.counted ∙ old.letters) so (rw (stripe, size) added) judges tried_now stripe_now size_now;
       }
@@ -283,7 +287,7 @@ module _ {D : Type 0} (ghosts : Ghosts D) (old new : FetchingRecord) where
       let fetches = call d0 in
       let k = old.work.tried in
       let seen : Seen = Showed (shard_name part.id) (block_place (data_of old) old.work.stripe) fetched.block.items in
-      let call_is : Call = record { drive = k; seen = seen } in
+      let call_is : Call = record { drive = k; made = fetches.was.made } in
       record {
         calls = call_is ∷ [];
         are = called_once ghosts (set_of old.asked).out k seen drives was now low (old.next_in_use inside) is fetches.was;

@@ -9,6 +9,7 @@ use Rattle.std.proofs.lemmas.List.{get_or_append_left, length-append, same_lists
 use Rattle.std.proofs.lemmas.List.Elements.{All-weaker}
 use Rattle.field_reader.proofs.Parts.{IsBytes-drop, IsBytes-take}
 use Rattle.field_reader.specs.Spelling.{IsBytes}
+use Rattle.drive_base.specs.Calls.{MadeCall, Showed, Tells}
 use Rattle.drive_base.specs.Plan.{data_drives}
 use Rattle.drive_base.specs.declared.plan.SetPlan.{SetPlan}
 use Rattle.manifest_file.specs.declared.manifest.ManifestPart.{ManifestPart}
@@ -17,7 +18,7 @@ use Rattle.shard_file.specs.Shards.{block_place}
 use Rattle.shard_file.specs.Stripes.{block_size, piece, pieces, stripe_length, stripe_size}
 use Rattle.body_print.proofs.ClashLemmas.{each_or}
 use Rattle.body_print.specs.Names.{shard_name}
-use Rattle.get_read.specs.Account.{Account, Call, Showed}
+use Rattle.get_read.specs.Account.{Account, Call}
 use Rattle.get_read.specs.Advancing.{GivesRun, IsRunBy, IsStripeBy, PartClashIn, StripeAnswers}
 use Rattle.get_read.specs.Causes.{digest_in}
 use Rattle.get_read.specs.Letters.{IsBlockIn, IsTableIn}
@@ -42,12 +43,13 @@ as_told d i part calls k k_now stored stored_now block block_now same_drive same
     (subst (λ (b : List ℕ). IsBlockIn d part i (slice_index_or part.roots k []) calls calls k stored b) (sym same_block) is))
 
 -- block s of blocks that a call shows now, by a table that is held
-run_now : (d first count size s : ℕ) (part : ManifestPart) (root : List ℕ) (calls : Account) (k : ℕ) (table run : List ℕ) → IsTableIn d part root calls k table
+run_now : (d first count size s : ℕ) (part : ManifestPart) (root : List ℕ) (calls : Account) (k : ℕ) (table run : List ℕ) (made : MadeCall)
+    → Tells made (Showed (shard_name part.id) (block_place d first) run) → IsTableIn d part root calls k table
     → s < count → stripe_size * (first + count) ≤ part.length → size ≡ block_size d stripe_size → length run ≡ count * size → IsBytes run
-    → IsBlockIn d part (first + s) root (calls ++ record { drive = k; seen = Showed (shard_name part.id) (block_place d first) run } ∷ [])
-    (calls ++ record { drive = k; seen = Showed (shard_name part.id) (block_place d first) run } ∷ []) k (digest_in table (first + s)) (piece size run s)
-run_now d first count size s part root calls k table run is_table low within size_is long bytes =
-    let call : Call = record { drive = k; seen = Showed (shard_name part.id) (block_place d first) run } in
+    → IsBlockIn d part (first + s) root (calls ++ record { drive = k; made = made } ∷ []) (calls ++ record { drive = k; made = made } ∷ []) k
+    (digest_in table (first + s)) (piece size run s)
+run_now d first count size s part root calls k table run made tells is_table low within size_is long bytes =
+    let call : Call = record { drive = k; made = made } in
     let full : length (piece size run s) ≡ size = piece_full size count s run long low in
     let whole : stripe_length part.length (first + s) ≡ stripe_size = omega (arith, within, low) in
     let place : block_place d (first + s) ≡ block_place d first + size * s =
@@ -59,22 +61,23 @@ run_now d first count size s part root calls k table run is_table low within siz
       size = full ∙ size_is ∙ ap (block_size d) (sym whole);
       bytes = IsBytes-take size (drop (size * s) run) (IsBytes-drop (size * s) run bytes);
       stored = refl;
-      showed = (block_place d first, size * s, run, stands_last calls call, place, ap (λ (n : ℕ). take n (drop (size * s) run)) (sym full));
+      showed = (block_place d first, size * s, run, stands_last calls call _ tells, place, ap (λ (n : ℕ). take n (drop (size * s) run)) (sym full));
     }
 
 -- the rows with one more
-pub runs_added : (set : SetPlan) (part : ManifestPart) (old new : Window) (table run : List ℕ) (calls : Account)
+pub runs_added : (set : SetPlan) (part : ManifestPart) (old new : Window) (table run : List ℕ) (calls : Account) (made : MadeCall)
+    → Tells made (Showed (shard_name part.id) (block_place (data_drives set.drives set.parity) old.first) run)
     → TookRun old new run (digests_in table old.first old.count) → AreRuns set part old calls
     → IsTableIn (data_drives set.drives set.parity) part (slice_index_or part.roots old.tried []) calls old.tried table
     → stripe_size * (old.first + old.count) ≤ part.length → old.size ≡ block_size (data_drives set.drives set.parity) stripe_size
     → length run ≡ old.count * old.size → IsBytes run
-    → AreRuns set part new (calls ++ record { drive = old.tried; seen = Showed (shard_name part.id) (block_place (data_drives set.drives set.parity) old.first) run } ∷ [])
-runs_added set part old new table run calls took runs is_table within size_is long bytes = λ j s low inside.
+    → AreRuns set part new (calls ++ record { drive = old.tried; made = made } ∷ [])
+runs_added set part old new table run calls made tells took runs is_table within size_is long bytes = λ j s low inside.
     let d = data_drives set.drives set.parity in
     let rows = old.rows.items in
     let n = length rows in
     let count = old.count in
-    let call : Call = record { drive = old.tried; seen = Showed (shard_name part.id) (block_place d old.first) run } in
+    let call : Call = record { drive = old.tried; made = made } in
     let late = calls ++ call ∷ [] in
     let at : s < count = omega (arith, inside, took.same.count) in
     let counted : length new.rows.items ≡ n + 1 = ap (length {A = ℕ}) took.rows ∙ length-append rows (old.tried ∷ []) in
@@ -97,7 +100,8 @@ runs_added set part old new table run calls took runs is_table within size_is lo
           (ap (piece 32 new.stored.items) there ∙ piece_of_more 32 (n * count) s old.stored.items (digests_in table old.first count) new.stored.items old.hashes took.stored
           ∙ digest_among table old.first count s at)
           (ap (piece old.size new.bytes.items) there ∙ piece_of_more old.size (n * count) s old.bytes.items run new.bytes.items old.long took.bytes)
-          (run_now d old.first count old.size s part (slice_index_or part.roots old.tried []) calls old.tried table run is_table at within size_is long bytes)
+          (run_now d old.first count old.size s part (slice_index_or part.roots old.tried []) calls old.tried table run made tells
+          is_table at within size_is long bytes)
     ] in
     rw (took.same.first, took.same.count, took.same.size) is
 

@@ -3,13 +3,14 @@ use Rattle.std.proofs.Common.{◌≡◌, ◌∙◌, ℕ, ◌*◌, ◌<◌, List,
 use Rattle.std.specs.Prelude.{Err, None, Ok, Option, Result, Some, Vec, false}
 use Rattle.std.specs.Global.{Global}
 use Rattle.std.proofs.lemmas.List.{length-map, map-set, set-get_or}
+use Rattle.drive_base.specs.Calls.{Seen, Showed, Tells}
 use Rattle.drive_base.specs.View.{view}
 use Rattle.drive_base.specs.declared.drive.Drive.{Ghosts}
 use Rattle.manifest_file.specs.declared.manifest.Manifest.{Manifest}
 use Rattle.manifest_file.specs.declared.manifest.ManifestPart.{ManifestPart}
 use Rattle.shard_file.specs.Shards.{block_place, table_place}
 use Rattle.body_print.specs.Names.{shard_name}
-use Rattle.get_read.specs.Account.{Account, Call, Seen, Showed, WasSeen}
+use Rattle.get_read.specs.Account.{Account, Call, WasSeen}
 use Rattle.get_read.specs.Advancing.{FetchSteps, MakesOne, StripeAnswers, data_of, part_of}
 use Rattle.get_read.specs.Going.{StaysBesides, WindowSteps}
 use Rattle.get_read.specs.Held.{all_bytes}
@@ -25,7 +26,7 @@ use Rattle.get_read.specs.declared.state.StripeWork.{StripeWork}
 use Rattle.get_read.specs.declared.window.Found.TheVariants.{Table}
 use Rattle.get_read.specs.declared.window.Window.{Window}
 use Rattle.get_read.proofs.FetchLemmas.{stripe_on, table_now, tables_more, tables_on}
-use Rattle.get_read.proofs.OneCallLemmas.{called_once}
+use Rattle.get_read.proofs.OneCallLemmas.{called_once, shown_bytes}
 use Rattle.get_read.proofs.ReaderLemmas.{no_turn}
 use Rattle.get_read.proofs.StepLemmas.{any_part}
 use Rattle.get_read.proofs.WindowRunLemmas.{passed_ahead, runs_added, runs_on, took_ahead, took_answers}
@@ -65,7 +66,7 @@ module _ {D : Type 0} (ghosts : Ghosts D) (old : FetchingRecord) (w : Window) (n
       → ((seen : Seen) × WasSeen seen (view ghosts was) (view ghosts now))
       → WindowSteps {Z = Global} ghosts old w new (Ok None) drives (slice_set drives w.tried now)
   window_passed drives was now counted is fits stays passes call =
-      let call_is : Call = record { drive = w.tried; seen = call.0 } in
+      let call_is : Call = record { drive = w.tried; made = call.1.made } in
       record {
         calls = call_is ∷ [];
         are = called_once ghosts (set_of old.asked).out w.tried call.0 drives was now (omega (arith, counted, fits.tried)) fits.in_use is call.1;
@@ -93,10 +94,12 @@ module _ {D : Type 0} (ghosts : Ghosts D) (old : FetchingRecord) (w : Window) (n
       let d0 = any_part old.manifest.parts old.part.place old.in_manifest in
       let part = part_of old d0 in
       let seen : Seen = Showed (shard_name part.id) (block_place (data_of old) w.first) run in
-      let call_is : Call = record { drive = w.tried; seen = seen } in
+      let shows = (call d0).2 in
+      let made = shows.made in
+      let call_is : Call = record { drive = w.tried; made = made } in
       record {
         calls = call_is ∷ [];
-        are = called_once ghosts (set_of old.asked).out w.tried seen drives was now (omega (arith, counted, fits.tried)) fits.in_use is (call d0).2;
+        are = called_once ghosts (set_of old.asked).out w.tried seen drives was now (omega (arith, counted, fits.tried)) fits.in_use is shows;
         made = one_made result call_is;
         asked = stays.asked;
         at = stays.at;
@@ -115,8 +118,10 @@ module _ {D : Type 0} (ghosts : Ghosts D) (old : FetchingRecord) (w : Window) (n
             ] in
             let added : (next : Window) → TookRun w next run (digests_in table w.first w.count) → AreRuns set p next (all_calls (told_after false told (call_is ∷ []))) =
             λ next took. subst (AreRuns set p next) on
-            (subst (λ (q : ManifestPart). AreRuns set p next (calls ++ record { drive = w.tried; seen = Showed (shard_name q.id) (block_place (data_of old) w.first) run } ∷ [])) (sym same)
-            (runs_added set p w next table run calls took runs is_table (omega (arith, fits.within, long)) fits.size (call d0).1 (call d0).2.1)) in
+            (runs_added set p w next table run calls made
+            (subst (λ (q : ManifestPart). Tells made (Showed (shard_name q.id) (block_place (data_of old) w.first) run)) same shows.tells)
+            took runs is_table (omega (arith, fits.within, long)) fits.size (call d0).1
+            (shown_bytes (shard_name part.id) (block_place (data_of old) w.first) run (view ghosts was) (view ghosts now) shows)) in
             record {
               is_part = stays_part told (call_is ∷ []) so stays;
               stripe = subst (λ (a : Asked). StripeAnswers (set_of a) p result new.work (told_after false told (call_is ∷ []))) (sym stays.asked) (took_answers set p w run (digests_in table w.first w.count) result new.ahead new.work (told_after false told (call_is ∷ [])) takes added
@@ -140,10 +145,12 @@ module _ {D : Type 0} (ghosts : Ghosts D) (old : FetchingRecord) (w : Window) (n
       let k = w.tried in
       let d = data_of old in
       let seen : Seen = Showed (shard_name part.id) (table_place d part.length) table.items in
-      let call_is : Call = record { drive = k; seen = seen } in
+      let shows = (call d0).3 in
+      let made = shows.made in
+      let call_is : Call = record { drive = k; made = made } in
       record {
         calls = call_is ∷ [];
-        are = called_once ghosts (set_of old.asked).out k seen drives was now (omega (arith, counted, fits.tried)) fits.in_use is (call d0).3;
+        are = called_once ghosts (set_of old.asked).out k seen drives was now (omega (arith, counted, fits.tried)) fits.in_use is shows;
         made = refl;
         asked = asked;
         at = at;
@@ -155,11 +162,12 @@ module _ {D : Type 0} (ghosts : Ghosts D) (old : FetchingRecord) (w : Window) (n
             let on = sym (no_turn told (call_is ∷ [])) in
             let table_is : IsTableIn d p (slice_index_or p.roots k []) (calls ++ call_is ∷ []) k table.items =
             subst (λ (q : ManifestPart). IsTableIn d q (slice_index_or q.roots k []) (calls ++ call_is ∷ []) k table.items) same
-            (table_now d part (slice_index_or part.roots k []) calls k table.items (call d0).1 (call d0).3.1 (call d0).2) in
+            (table_now d part (slice_index_or part.roots k []) calls k table.items made shows.tells (call d0).1
+            (shown_bytes (shard_name part.id) (table_place d part.length) table.items (view ghosts was) (view ghosts now) shows) (call d0).2) in
             let bytes : all_bytes new.part.tables.items ≡ slice_set (all_bytes old.part.tables.items) k table.items =
             ap (λ (t : List (Vec ℕ Global)). all_bytes t) tables ∙ map-set (λ (file : Vec ℕ Global). file.items) old.part.tables.items k table in
             let held : AreTablesOf d p (all_bytes new.part.tables.items) (calls ++ call_is ∷ []) =
-            tables_more d p (all_bytes old.part.tables.items) (all_bytes new.part.tables.items) calls k table.items seen whole.held bytes
+            tables_more d p (all_bytes old.part.tables.items) (all_bytes new.part.tables.items) calls k table.items made whole.held bytes
             (omega (arith, fits.tried, old.tables, length-map old.part.tables.items (λ (file : Vec ℕ Global). file.items))) table_is in
             record {
               is_part = record {

@@ -3,6 +3,7 @@ use Rattle.std.specs.Prelude.{◌≡◌, ◌⊎◌, ◌<◌, ◌≤◌, ◌-◌,
 use Rattle.sha2.specs.Sha256.{sha256}
 use Rattle.call_types.specs.Good.{is_good}
 use Rattle.call_types.specs.declared.why.Why.{Why}
+use Rattle.drive_base.specs.Calls.{Seen, Showed, Sized}
 use Rattle.drive_base.specs.Plan.{data_drives}
 use Rattle.drive_base.specs.View.{DriveView}
 use Rattle.drive_base.specs.declared.drive.Drive.{Ghosts}
@@ -19,7 +20,7 @@ use Rattle.shard_file.specs.Shards.{block_place, table_place}
 use Rattle.body_print.specs.Clashes.{IsClash, IsTableOrBlock}
 use Rattle.body_print.specs.Names.{manifest_name, shard_name}
 use Rattle.body_print.specs.Shards.{HasRoots}
-use Rattle.get_read.specs.Account.{Account, Seen, Showed, Sized, WasSeen}
+use Rattle.get_read.specs.Account.{Account, WasSeen}
 use Rattle.get_read.specs.Calling.{WasSeenSo}
 use Rattle.get_read.specs.Causes.{Serves, digest_in}
 use Rattle.get_read.specs.Given.{IsFoundIn, MetIn}

@@ -4,6 +4,7 @@ use Rattle.sha2.specs.Sha256.{sha256}
 use Rattle.call_types.specs.Good.{is_good}
 use Rattle.call_types.specs.declared.why.FileKind.{FileKind}
 use Rattle.call_types.specs.declared.why.Why.{Why}
+use Rattle.drive_base.specs.Calls.{Seen, Showed, Sized}
 use Rattle.drive_base.specs.View.{DriveView, view}
 use Rattle.drive_base.specs.declared.drive.Drive.{Ghosts}
 use Rattle.file_access.specs.declared.fault.FetchFault.{FetchFault}
@@ -12,7 +13,7 @@ use Rattle.manifest_file.specs.declared.manifest.ManifestPart.{ManifestPart}
 use Rattle.shard_file.specs.Shards.{block_place, table_place}
 use Rattle.shard_file.specs.Stripes.{block_size, stripe_count, stripe_length}
 use Rattle.body_print.specs.Names.{shard_name}
-use Rattle.get_read.specs.Account.{Seen, Showed, Sized, WasSeen}
+use Rattle.get_read.specs.Account.{WasSeen}
 use Rattle.get_read.specs.Causes.{digest_in}
 use Rattle.get_read.specs.Letters.{TellsNoBytes, TellsNoPiece, TellsNoSize, TellsNoTable}
 use Rattle.get_read.specs.declared.tables.Fetched.{Fetched}

@@ -6,7 +6,6 @@ use Rattle.field_reader.specs.Format.{fault_at}
 use Rattle.seal_file.specs.Sealing.{sealed, IsDamage}
 use Rattle.seal_file.specs.declared.damage.Damage.{Damage}
 use Rattle.seal_file.specs.declared.damage.Damage.TheVariants.{Digest, Spelling}
-use Rattle.call_types.specs.declared.why.Why.{Why}
 use Rattle.manifest_file.specs.Canonical.{IsCanonical}
 use Rattle.manifest_file.specs.Layout.{manifest}
 use Rattle.manifest_file.specs.Print.{text_under}

@@ -1,6 +1,7 @@
 -- The bytes that a reader gave, and what they are by its account.
 use Rattle.std.specs.Prelude.{◌≡◌, ◌⊎◌, ℕ, List, length, take, drop}
 use Rattle.stamp_id.specs.declared.version.VersionId.{VersionId}
+use Rattle.drive_base.specs.Calls.{Showed, Sized}
 use Rattle.manifest_file.specs.Canonical.{IsCanonical}
 use Rattle.manifest_file.specs.Print.{text_under}
 use Rattle.manifest_file.specs.Spelling.{file_of}
@@ -8,7 +9,7 @@ use Rattle.manifest_file.specs.declared.manifest.Manifest.{Manifest}
 use Rattle.body_print.specs.Clashes.{ClashesWith}
 use Rattle.body_print.specs.Names.{manifest_name}
 use Rattle.body_print.specs.Prints.{HasPrint}
-use Rattle.get_read.specs.Account.{Account, IsPieceOf, Stands, Showed, Sized}
+use Rattle.get_read.specs.Account.{Account, IsPieceOf, Stands}
 use Rattle.get_read.specs.Causes.{Serves, Wanted}
 
 -- bytes were met: they are a piece of what a call showed, or the text under the print of a manifest that a call showed

@@ -9,19 +9,20 @@ use Rattle.call_types.specs.declared.why.FileKind.{FileKind}
 use Rattle.call_types.specs.declared.why.FileKind.TheVariants.{Format, Manifest, Shard}
 use Rattle.call_types.specs.declared.why.Why.{Why}
 use Rattle.call_types.specs.declared.why.Why.TheVariants.{Good, Failed, Damaged, Behind, Lacks}
+use Rattle.drive_base.specs.Calls.{CutShort, Faulted, Missing, Seen, Showed, Sized}
 use Rattle.manifest_file.specs.declared.manifest.TheConstants.{LONGEST_FILE}
 use Rattle.manifest_file.specs.declared.manifest.ManifestPart.{ManifestPart}
 use Rattle.shard_file.specs.Shards.{block_place, table_place}
 use Rattle.shard_file.specs.Stripes.{block_size, stripe_count, stripe_length}
 use Rattle.body_print.specs.Names.{shard_name, manifest_name}
-use Rattle.get_read.specs.Account.{Account, Seen, Stands, Sized, Showed, CutShort, Missing, Faulted}
+use Rattle.get_read.specs.Account.{Account, Stands}
 use Rattle.get_read.specs.Causes.{Wanted, digest_in}
 use Rattle.get_read.specs.Manifests.{IsDamagedSo}
 
 -- what a call for the length of a file of a kind and a name gave tells why there is none
 abbrev pub TellsNoSize : FileKind → List ℕ → Why → Seen → Type 0
 TellsNoSize kind name Good seen = ⊥
-TellsNoSize kind name (Failed before after) seen = seen ≡ Faulted before after
+TellsNoSize kind name (Failed before after) seen = seen ≡ Faulted name before after
 TellsNoSize kind name (Damaged _) seen = ⊥
 TellsNoSize kind name (Behind _) seen = ⊥
 TellsNoSize kind name (Lacks lacked) seen = (lacked ≡ kind) × (seen ≡ Missing name)
@@ -29,7 +30,7 @@ TellsNoSize kind name (Lacks lacked) seen = (lacked ≡ kind) × (seen ≡ Missi
 -- what a call for so many bytes of it from a place on gave tells why they didn't come
 abbrev pub TellsNoPiece : FileKind → List ℕ → ℕ → ℕ → Why → Seen → Type 0
 TellsNoPiece kind name at long Good seen = ⊥
-TellsNoPiece kind name at long (Failed before after) seen = seen ≡ Faulted before after
+TellsNoPiece kind name at long (Failed before after) seen = seen ≡ Faulted name before after
 TellsNoPiece kind name at long (Damaged (Short place)) seen = seen ≡ CutShort name at long place
 TellsNoPiece kind name at long (Damaged (Digest _ _)) seen = ⊥
 TellsNoPiece kind name at long (Damaged (Kind _)) seen = ⊥

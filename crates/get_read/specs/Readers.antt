@@ -6,6 +6,7 @@ use Rattle.call_types.specs.declared.names.Span.{Span}
 use Rattle.call_types.specs.Good.{good_count}
 use Rattle.call_types.specs.declared.why.Why.{Why}
 use Rattle.call_types.specs.declared.why.Why.TheVariants.{Good}
+use Rattle.drive_base.specs.Calls.{Sized}
 use Rattle.drive_base.specs.Plan.{data_drives}
 use Rattle.drive_base.specs.View.{views}
 use Rattle.drive_base.specs.declared.drive.Drive.{Ghosts}
@@ -14,7 +15,7 @@ use Rattle.manifest_file.specs.declared.manifest.TheConstants.{LONGEST_FILE}
 use Rattle.manifest_file.specs.declared.manifest.Manifest.{Manifest}
 use Rattle.manifest_file.specs.declared.manifest.ManifestPart.{ManifestPart}
 use Rattle.body_print.specs.Names.{manifest_name}
-use Rattle.get_read.specs.Account.{Account, AreInUse, OthersStay, Sized, Stands, WasCalled}
+use Rattle.get_read.specs.Account.{Account, AreInUse, OthersStay, Stands, WasCalled}
 use Rattle.get_read.specs.Causes.{Wanted}
 use Rattle.get_read.specs.Given.{AreOfSpanIn, IsFoundIn}
 use Rattle.get_read.specs.Held.{all_bytes}

@@ -1,7 +1,8 @@
 -- Windows: whole stripes of a part whose blocks are read together, and verified together.
-use Rattle.std.specs.Prelude.{◌≡◌, ◌≢◌, ◌⊎◌, ◌<◌, ◌≤◌, ◌+◌, ◌*◌, ℕ, false, List, [], ◌∷◌, ◌++◌, Option, Some, None, Vec, Result, Ok, Err, length, take, drop, slice_index, slice_index_or}
+use Rattle.std.specs.Prelude.{◌≡◌, ◌<◌, ◌≤◌, ◌+◌, ◌*◌, ℕ, List, [], ◌∷◌, ◌++◌, Option, Some, None, Vec, Result, Ok, Err, length, take, drop, slice_index, slice_index_or}
 use Rattle.std.specs.Int.{IsBitSet}
 use Rattle.sha2.specs.Sha256.{sha256}
+use Rattle.drive_base.specs.Calls.{Seen, Showed}
 use Rattle.drive_base.specs.Plan.{data_drives}
 use Rattle.drive_base.specs.View.{DriveView}
 use Rattle.drive_base.specs.declared.plan.SetPlan.{SetPlan}
@@ -12,7 +13,7 @@ use Rattle.shard_file.specs.Shards.{block_place, table_place}
 use Rattle.shard_file.specs.Stripes.{block_size, piece, stripe_count, stripe_size}
 use Rattle.body_print.specs.Names.{shard_name}
 use Rattle.body_print.specs.Shards.{AreStripeBlocks}
-use Rattle.get_read.specs.Account.{Account, Seen, Showed, WasSeen}
+use Rattle.get_read.specs.Account.{Account, WasSeen}
 use Rattle.get_read.specs.Letters.{IsBlockIn}
 use Rattle.get_read.specs.declared.faults.BodyFault.{BodyFault}
 use Rattle.get_read.specs.declared.faults.BodyFault.TheVariants.{InvalidRange, ShardQuorum, NoMemory}

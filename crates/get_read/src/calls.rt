@@ -12,7 +12,7 @@ ghost use Rattle.get_read.specs.Calling.{BlockCall, PieceCall, SizeCall, TableCa
 use crate::tables::{Fetched, byte_law, digest_of};
 use call_types::{FileKind, Why};
 use drive_base::{Drive, SetPlan};
-use file_access::{FetchFault, piece_on, size_on};
+use file_access::{FetchFault, piece_into, size_on};
 use manifest_file::ManifestPart;
 use shard_file::{STRIPE, check_block, layout};
 use std::alloc::Global;
@@ -38,9 +38,15 @@ pub fn call_piece<D: Drive>(
     ensures idle { IdleWithout result drive.old drive.new }
     ensures read { OnlyRead (view D.Drive drive.old) (view D.Drive drive.new) }
 {
-    let bytes = piece_on(alloc, drive, kind, name, at, long)?;
+    let Ok(mut bytes) = vec![in alloc; 0; long as usize] else {
+        return Err(FetchFault::NoMemory);
+    };
+    let answer = piece_into(drive, kind, name, at, bytes.as_mut_slice());
     byte_law(bytes.as_slice());
-    Ok(bytes)
+    match answer {
+        Ok(()) => Ok(bytes),
+        Err(why) => Err(FetchFault::Because(why)),
+    }
 }
 
 /// The digest table of the shard of a part on the drive of this index, if it has the root.

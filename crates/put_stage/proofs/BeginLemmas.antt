@@ -15,6 +15,7 @@ use Rattle.stamp_id.specs.declared.version.VersionId.{VersionId}
 use Rattle.shard_file.specs.Shards.{table_of}
 use Rattle.body_print.specs.Shards.{AreShards}
 use Rattle.put_stage.specs.Beginning.{BeginsBody, BeginsManifest, HasFirstLetters, IsFirstLoad}
+use Rattle.put_stage.specs.Called.{CalledBefore}
 use Rattle.put_stage.specs.Cells.{DataCells}
 use Rattle.put_stage.specs.Coding.{all_bytes, block_at}
 use Rattle.put_stage.specs.Dues.{is_early}
@@ -122,6 +123,15 @@ begins_body set id name size stated load stage is same dues letters = record {
   load = subst (IsFirstLoad set id name size stated) (sym same) is;
   letters = letters;
   fresh = λ k first low none. begins_at stage Table (Some []) k first letters dues low (λ unsettled. refl) (λ next manifest. (None, no_file first none, refl));
+  uncalled = λ k low.
+      let place : k < 16 = omega (arith, low, stage.load.set.few_drives) in
+      let is_due : due_at stage k ≡ Table = ap (λ (all : List Due). slice_index_or all k Nothing) dues ∙ get_or-replicate 16 k Table Nothing place in
+      record {
+        early = λ unsettled. ap is_early is_due;
+        before = λ serves.
+            subst (λ (d : Due). CalledBefore d stage.load.names.id (block_at k stage.load.window) stage.load.made.manifest.items [] []) (sym is_due)
+            (record { pieces = []; joined = refl; are = refl });
+      };
 }
 
 -- a manifest alone is no open load

@@ -1,8 +1,8 @@
 -- What a fill leaves: further stripes, and their blocks to be appended.
-use Rattle.std.proofs.Common.{◌≡◌, ◌≢◌, ◌∙◌, ℕ, ◌+◌, ◌*◌, ◌<◌, ◌≤◌, true, false, List, [], ◌++◌, length, map, take, drop, slice_index_or, slice_set, below_more, Option, Some, None, ap, refl, subst, sym, inl, inr, arith, append_assoc}
+use Rattle.std.proofs.Common.{◌≡◌, ◌≢◌, ◌∙◌, ℕ, ◌+◌, ◌*◌, ◌<◌, ◌≤◌, true, false, List, [], ◌∷◌, ◌++◌, length, map, take, drop, slice_index_or, slice_set, below_more, Option, Some, None, ap, refl, subst, sym, inl, inr, arith, append_assoc, append-nil}
 use Rattle.std.specs.Prelude.{◌⊎◌, ◌%◌, ◌==◌, if◌then◌else◌, Bool, Vec}
 use Rattle.std.specs.List.{concat}
-use Rattle.std.specs.Io.KnownBytes.{prepend_known}
+use Rattle.std.specs.Io.KnownBytes.{append_known, prepend_known}
 use Rattle.std.proofs.lemmas.List.{get_or-map, get_or-set_other, get_or-set_same, length-append, length-map, map-set}
 use Rattle.std.proofs.lemmas.List.Folds.{concat-append}
 use Rattle.md5.specs.Md5.{Holds}
@@ -21,6 +21,9 @@ use Rattle.put_stage.specs.Coding.{all_bytes, block_at}
 use Rattle.put_stage.specs.Dues.{is_block, is_early}
 use Rattle.put_stage.specs.Filling.{AreDueAfter}
 use Rattle.put_stage.specs.Stepping.{MayFill}
+use Rattle.stamp_id.specs.declared.version.VersionId.{VersionId}
+use Rattle.put_stage.specs.Called.{AppendsShard, CalledBefore, CallsGoOn}
+use Rattle.put_stage.proofs.SoFarLemmas.{early_table, more_due}
 use Rattle.put_stage.specs.Taking.{Filled, GaveUpTo, HasTaken, IsMadeOf, IsSameTask, TookWindow, WorkGoesOn}
 use Rattle.put_stage.specs.Windows.{AreWholeStripes, IsNextLength, IsWindow, window_size, window_stripes, with_shards}
 use Rattle.put_stage.specs.Working.{Blocks, HasBy, HasFailedAt, IsBefore, due_at, why_at}
@@ -35,10 +38,28 @@ pub prepend-nothing : (left : Option (List ℕ)) → left ≡ prepend_known [] l
 prepend-nothing None = refl
 prepend-nothing (Some rest) = refl
 
+pub append-nothing : (taken : Option (List ℕ)) → taken ≡ append_known taken []
+append-nothing None = refl
+append-nothing (Some front) = ap (λ (bytes : List ℕ). Some bytes) (sym (append-nil front))
+
 -- what was given in two takes
 pub prepend-joined : (old mid new : Option (List ℕ)) (xs ys : List ℕ) → old ≡ prepend_known xs mid → mid ≡ prepend_known ys new → old ≡ prepend_known (xs ++ ys) new
 prepend-joined old mid None xs ys first second = first ∙ ap (prepend_known xs) second
 prepend-joined old mid (Some rest) xs ys first second = first ∙ ap (prepend_known xs) second ∙ ap (λ (bytes : List ℕ). Some bytes) (sym (append_assoc xs ys rest))
+
+pub append-joined : (old mid new : Option (List ℕ)) (xs ys : List ℕ) → mid ≡ append_known old xs → new ≡ append_known mid ys → new ≡ append_known old (xs ++ ys)
+append-joined None mid new xs ys first second = second ∙ ap (λ (known : Option (List ℕ)). append_known known ys) first
+append-joined (Some front) mid new xs ys first second =
+    second ∙ ap (λ (known : Option (List ℕ)). append_known known ys) first ∙ ap (λ (bytes : List ℕ). Some bytes) (append_assoc front xs ys)
+
+-- where two lists of bytes are none together, each is none
+front-none : (xs ys : List ℕ) → xs ++ ys ≡ [] → xs ≡ []
+front-none [] ys none = refl
+front-none (x ∷ xs) ys none = cc
+
+back-none : (xs ys : List ℕ) → xs ++ ys ≡ [] → ys ≡ []
+back-none [] ys none = none
+back-none (x ∷ xs) ys none = cc
 
 -- two gifts of a feed are one
 pub gave_both : (xs ys : List ℕ) (old mid new : FeedView) → Gave xs old mid → Gave ys mid new → Gave (xs ++ ys) old new
@@ -46,6 +67,8 @@ gave_both xs ys old mid new first second = record {
   stated = second.stated ∙ first.stated;
   given = omega (arith, first.given, second.given, length-append xs ys);
   left = prepend-joined old.left mid.left new.left xs ys first.left second.left;
+  taken = append-joined old.taken mid.taken new.taken xs ys first.taken second.taken;
+  ended = λ none was. second.ended (back-none xs ys none) (first.ended (front-none xs ys none) was);
 }
 
 -- what was given, and at most so many bytes more
@@ -210,6 +233,33 @@ work_goes_on old new shards more may letters counted adjoin dues k first cells l
           blocks after first cells early (may.appended k low) (dues.serving k inside) (dues.others k inside) joined at.has);
     }
 
+-- so do the calls so far
+calls_go_on : (old new : Stage) (shards more : List (List (List ℕ))) → MayFill old → new.whys ≡ old.whys → new.load.names.id ≡ old.load.names.id
+    → length shards ≡ old.load.set.drives
+    → ((k : ℕ) → k < old.load.set.drives → concat (slice_index_or more k []) ≡ block_at k new.load.window)
+    → AreDueAfter old.whys old.dues new.dues → CallsGoOn old new shards (with_shards shards more)
+calls_go_on old new shards more may letters id counted adjoin dues k calls low so =
+    let inside : k < length old.whys = omega (arith, old.letters, low) in
+    let block : List ℕ = block_at k new.load.window in
+    let blocks : List (List ℕ) = slice_index_or shards k [] in
+    let after : List (List ℕ) = slice_index_or (with_shards shards more) k [] in
+    let why : why_at new k ≡ why_at old k = ap (λ (all : List Why). slice_index_or all k Good) letters in
+    let early : is_early (due_at old k) ≡ true = so.early (inl may.some) in
+    let joined : concat after ≡ concat blocks ++ block =
+    ap concat (shard_with shards more k [] (omega (arith, counted, low))) ∙ concat-append blocks (slice_index_or more k [])
+    ∙ ap (λ (last : List ℕ). concat blocks ++ last) (adjoin k low) in
+    record {
+      early = λ unsettled. filled_early (is_good (why_at old k)) (due_at old k) (due_at new k) early (dues.serving k inside) (dues.others k inside);
+      before = λ serves.
+          let served : is_good (why_at old k) ≡ true = ap is_good (sym why) ∙ serves in
+          let is_table : due_at old k ≡ Table = early_table (due_at old k) early (may.appended k low served) in
+          subst (λ (d : Due). CalledBefore d new.load.names.id block new.load.made.manifest.items after calls) (sym (dues.serving k inside served))
+          (subst (λ (y : VersionId). AppendsShard y block (concat after) calls) (sym id)
+          (more_due old.load.names.id block blocks after calls joined
+          (subst (λ (d : Due). CalledBefore d old.load.names.id (block_at k old.load.window) old.load.made.manifest.items blocks calls) is_table
+          (so.before served))));
+    }
+
 -- a stage took a window
 pub filled : (old new : Stage) (bytes : List ℕ) → MayFill old → TookWindow old.load new.load bytes → new.whys ≡ old.whys
     → AreDueAfter old.whys old.dues new.dues → Filled old new bytes
@@ -219,8 +269,12 @@ filled old new bytes may took letters dues = record {
   some = took.some;
   few = took.few;
   whys = letters;
-  taken = λ body shards taken.
-      (with_shards shards took.more, took.taken body shards taken, work_goes_on old new shards took.more may letters taken.are.count took.adjoin dues);
+  taken = λ body shards taken. (
+    with_shards shards took.more,
+    took.taken body shards taken,
+    work_goes_on old new shards took.more may letters taken.are.count took.adjoin dues,
+    calls_go_on old new shards took.more may letters took.task.id taken.are.count took.adjoin dues,
+  );
 }
 
 -- the bytes that are taken are no more than four stripes

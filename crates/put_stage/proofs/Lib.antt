@@ -1,5 +1,6 @@
 pub mod BeginLemmas
 pub mod CallLemmas
+pub mod CalledLemmas
 pub mod CodingLemmas
 pub mod FillLemmas
 pub mod FinishLemmas
@@ -9,6 +10,7 @@ pub mod LeftLemmas
 pub mod ManifestLemmas
 pub mod NameLemmas
 pub mod RunLemmas
+pub mod SoFarLemmas
 pub mod SparesLemmas
 pub mod StepLemmas
 pub mod WindowLemmas

@@ -7,7 +7,9 @@ use Rattle.std.proofs.lemmas.List.{get_or_default, get_or-set_other, get_or-set_
 use Rattle.call_types.specs.Good.{is_good}
 use Rattle.call_types.specs.declared.why.Why.{Why}
 use Rattle.call_types.specs.declared.why.Why.TheVariants.{Good, Failed, Damaged, Behind, Lacks}
-use Rattle.drive_base.specs.Files.{Files}
+use Rattle.drive_base.specs.declared.drive.Drive.{Ghosts}
+use Rattle.drive_base.specs.View.{view}
+use Rattle.put_stage.specs.Calls.{CallsDue}
 use Rattle.put_stage.specs.Cells.{DataCells, Spares, data_of}
 use Rattle.put_stage.specs.Coding.{block_at}
 use Rattle.put_stage.specs.Dues.{after, is_block, is_early, is_nothing}
@@ -27,7 +29,7 @@ only_good (Behind ballot) is = absurd cc
 only_good (Lacks kind) is = absurd cc
 
 -- no other call is that of a block
-only_block : (due : Due) → is_block due ≡ true → due ≡ Block
+pub only_block : (due : Due) → is_block due ≡ true → due ≡ Block
 only_block Block is = refl
 only_block Table is = absurd cc
 only_block SyncShard is = absurd cc
@@ -46,13 +48,20 @@ bad_letter (Behind ballot) due told cells before now letter = refl
 bad_letter (Lacks kind) due told cells before now letter = refl
 
 -- where nothing may be put in place yet, the call that is due is that of a block
-open_block : (stage : Stage) (k : ℕ) → IsDue stage k → IsOpen stage.load → due_at stage k ≡ Block
+pub open_block : (stage : Stage) (k : ℕ) → IsDue stage k → IsOpen stage.load → due_at stage k ≡ Block
 open_block stage k due unsettled = elim due.call [
   | inl block ↦ only_block (due_at stage k) block
   | inr later ↦ elim unsettled [
     | inl some ↦ absurd (omega (arith, some, later.0))
     | inr other ↦ absurd (due.agrees other)
   ]
+]
+
+-- a drive that waits for a call has one left
+is_call : (stage : Stage) (k : ℕ) → IsDue stage k → is_nothing (due_at stage k) ≡ false
+is_call stage k due = elim due.call [
+  | inl block ↦ ap is_nothing (only_block (due_at stage k) block)
+  | inr later ↦ later.1
 ]
 
 -- the drive of the call
@@ -138,72 +147,88 @@ still_lack stage index why k bad low out = elim (cases_eq k index) [
 ]
 
 -- the drive of a call in the list of drives, before the call and after it
-module _ {D : Type 0} (tells : D → Bool) (files : D → Files) (count : D → ℕ) (k : ℕ) (old new : Stage) (before : List D) (default now : D)
+module _ {D : Type 0} (ghosts : Ghosts D) (k : ℕ) (old new : Stage) (before : List D) (default now : D)
     (answer : Result (Unit {0}) Why) (due : Due) where
   -- one call was made
-  pub stepped : length before ≡ old.load.set.drives → due_at old k ≡ due → IsDue old k → IsFirst old k → IsAfter answer k old new
-      → LetterOf answer due (tells (slice_index_or before k default)) (data_of old.load.names.id (files (slice_index_or before k default)))
-      (count (slice_index_or before k default)) (count now)
-      → (IsTrue (tells (slice_index_or before k default)) → Spares old.load.names.id (files (slice_index_or before k default)) (files now))
-      → Stepped tells files count k old new before (slice_set before k now)
-  stepped long due_is is_due order stage letter spares =
+  pub stepped : length old.dues ≡ 16 → length before ≡ old.load.set.drives → due_at old k ≡ due → IsDue old k → IsFirst old k → IsAfter answer k old new
+      → LetterOf answer due (ghosts.tells (slice_index_or before k default)) (data_of old.load.names.id (ghosts.files (slice_index_or before k default)))
+      (ghosts.count (slice_index_or before k default)) (ghosts.count now)
+      → (IsTrue (ghosts.tells (slice_index_or before k default))
+      → Spares old.load.names.id (ghosts.files (slice_index_or before k default)) (ghosts.files now))
+      → (is_nothing due ≡ false → CallsDue old.load k due answer (view ghosts (slice_index_or before k default)) (view ghosts now))
+      → Stepped ghosts k old new before (slice_set before k now)
+  stepped places long due_is is_due order stage letter spares called =
       let id = old.load.names.id in
       let low : k < length before = omega (arith, is_due.within) in
       record {
         due = is_due;
         order = order;
+        placed = omega (arith, places, is_due.within, old.load.set.few_drives);
         in_use = due_in_use old k is_due;
         answer = answer;
         stage = stage;
         letter = λ d.
             let had : slice_index_or before k d ≡ slice_index_or before k default = get_or_default before k d default low in
-            subst (λ (e : Due). LetterOf answer e (tells (slice_index_or before k d)) (data_of id (files (slice_index_or before k d)))
-            (count (slice_index_or before k d)) (count (slice_index_or (slice_set before k now) k d))) (sym due_is)
-            (subst (λ (x : D). LetterOf answer due (tells x) (data_of id (files x)) (count x) (count (slice_index_or (slice_set before k now) k d))) (sym had)
-            (subst (λ (y : D). LetterOf answer due (tells (slice_index_or before k default)) (data_of id (files (slice_index_or before k default)))
-            (count (slice_index_or before k default)) (count y)) (sym (get_or-set_same before k now d low)) letter));
+            subst (λ (e : Due). LetterOf answer e (ghosts.tells (slice_index_or before k d)) (data_of id (ghosts.files (slice_index_or before k d)))
+            (ghosts.count (slice_index_or before k d)) (ghosts.count (slice_index_or (slice_set before k now) k d))) (sym due_is)
+            (subst (λ (x : D). LetterOf answer due (ghosts.tells x) (data_of id (ghosts.files x)) (ghosts.count x)
+            (ghosts.count (slice_index_or (slice_set before k now) k d))) (sym had)
+            (subst (λ (y : D). LetterOf answer due (ghosts.tells (slice_index_or before k default))
+            (data_of id (ghosts.files (slice_index_or before k default))) (ghosts.count (slice_index_or before k default)) (ghosts.count y))
+            (sym (get_or-set_same before k now d low)) letter));
         spares = λ d.
-            subst (λ (x : D). IsTrue (tells x) → Spares id (files x) (files (slice_index_or (slice_set before k now) k d)))
+            subst (λ (x : D). IsTrue (ghosts.tells x) → Spares id (ghosts.files x) (ghosts.files (slice_index_or (slice_set before k now) k d)))
             (sym (get_or_default before k d default low))
-            (subst (λ (y : D). IsTrue (tells (slice_index_or before k default)) → Spares id (files (slice_index_or before k default)) (files y))
+            (subst (λ (y : D). IsTrue (ghosts.tells (slice_index_or before k default))
+            → Spares id (ghosts.files (slice_index_or before k default)) (ghosts.files y))
             (sym (get_or-set_same before k now d low)) spares);
+        called = λ d.
+            let one : is_nothing due ≡ false = subst (λ (e : Due). is_nothing e ≡ false) due_is (is_call old k is_due) in
+            subst (λ (e : Due). CallsDue old.load k e answer (view ghosts (slice_index_or before k d))
+            (view ghosts (slice_index_or (slice_set before k now) k d))) (sym due_is)
+            (subst (λ (x : D). CallsDue old.load k due answer (view ghosts x) (view ghosts (slice_index_or (slice_set before k now) k d)))
+            (sym (get_or_default before k d default low))
+            (subst (λ (y : D). CallsDue old.load k due answer (view ghosts (slice_index_or before k default)) (view ghosts y))
+            (sym (get_or-set_same before k now d low)) (called one)));
         others = λ other d apart. get_or-set_other before k other now d apart;
       }
 
   -- it keeps what each drive has that tells
   pub step_works : length old.dues ≡ 16 → length before ≡ old.load.set.drives → due_at old k ≡ due → IsDue old k → IsAfter answer k old new
       → new.load ≡ old.load
-      → ((blocks : Blocks) (first : DataCells) → IsOfDrive old.load k blocks → IsTrue (tells (slice_index_or before k default))
-      → IsBefore due (block_at k old.load.window) old.load.made.manifest.items blocks first (data_of old.load.names.id (files (slice_index_or before k default)))
-      → HasAfter answer old.load.alone due (block_at k old.load.window) old.load.made.manifest.items blocks first (data_of old.load.names.id (files now)))
-      → StepWorks tells files old new before (slice_set before k now)
+      → ((blocks : Blocks) (first : DataCells) → IsOfDrive old.load k blocks → IsTrue (ghosts.tells (slice_index_or before k default))
+      → IsBefore due (block_at k old.load.window) old.load.made.manifest.items blocks first
+      (data_of old.load.names.id (ghosts.files (slice_index_or before k default)))
+      → HasAfter answer old.load.alone due (block_at k old.load.window) old.load.made.manifest.items blocks first
+      (data_of old.load.names.id (ghosts.files now)))
+      → StepWorks ghosts old new before (slice_set before k now)
   step_works places long due_is is_due stage load works = λ place d blocks first low of_drive told at.
       let id = old.load.names.id in
       let next = block_at k old.load.window in
       let manifest = old.load.made.manifest.items in
       let inside : k < length before = omega (arith, is_due.within) in
-      let Claim : ℕ → Type 0 = λ j. IsOfDrive old.load j blocks → IsTrue (tells (slice_index_or before j d))
-      → AtWork old blocks j first (data_of id (files (slice_index_or before j d)))
-      → AtWork new blocks j first (data_of id (files (slice_index_or (slice_set before k now) j d))) in
+      let Claim : ℕ → Type 0 = λ j. IsOfDrive old.load j blocks → IsTrue (ghosts.tells (slice_index_or before j d))
+      → AtWork old blocks j first (data_of id (ghosts.files (slice_index_or before j d)))
+      → AtWork new blocks j first (data_of id (ghosts.files (slice_index_or (slice_set before k now) j d))) in
       elim (cases_eq place k) [
         | inl same ↦
             let here : Claim k = λ of_k told_k at_k.
             let had : slice_index_or before k d ≡ slice_index_or before k default = get_or_default before k d default inside in
             let good : why_at old k ≡ Good = only_good (why_at old k) is_due.serves in
-            let told_drive : IsTrue (tells (slice_index_or before k default)) = subst (λ (x : D). IsTrue (tells x)) had told_k in
-            let good_here : HasBy Good (due_at old k) next manifest blocks first (data_of id (files (slice_index_or before k d))) =
-            subst (λ (w : Why). HasBy w (due_at old k) next manifest blocks first (data_of id (files (slice_index_or before k d)))) good at_k.has in
-            let due_here : IsBefore due next manifest blocks first (data_of id (files (slice_index_or before k d))) =
-            subst (λ (e : Due). HasBy Good e next manifest blocks first (data_of id (files (slice_index_or before k d)))) due_is good_here in
-            let was : IsBefore due next manifest blocks first (data_of id (files (slice_index_or before k default))) =
-            subst (λ (x : D). IsBefore due next manifest blocks first (data_of id (files x))) had due_here in
-            let has : HasAfter answer old.load.alone (due_at old k) next manifest blocks first (data_of id (files now)) =
-            subst (λ (e : Due). HasAfter answer old.load.alone e next manifest blocks first (data_of id (files now))) (sym due_is)
+            let told_drive : IsTrue (ghosts.tells (slice_index_or before k default)) = subst (λ (x : D). IsTrue (ghosts.tells x)) had told_k in
+            let good_here : HasBy Good (due_at old k) next manifest blocks first (data_of id (ghosts.files (slice_index_or before k d))) =
+            subst (λ (w : Why). HasBy w (due_at old k) next manifest blocks first (data_of id (ghosts.files (slice_index_or before k d)))) good at_k.has in
+            let due_here : IsBefore due next manifest blocks first (data_of id (ghosts.files (slice_index_or before k d))) =
+            subst (λ (e : Due). HasBy Good e next manifest blocks first (data_of id (ghosts.files (slice_index_or before k d)))) due_is good_here in
+            let was : IsBefore due next manifest blocks first (data_of id (ghosts.files (slice_index_or before k default))) =
+            subst (λ (x : D). IsBefore due next manifest blocks first (data_of id (ghosts.files x))) had due_here in
+            let has : HasAfter answer old.load.alone (due_at old k) next manifest blocks first (data_of id (ghosts.files now)) =
+            subst (λ (e : Due). HasAfter answer old.load.alone e next manifest blocks first (data_of id (ghosts.files now))) (sym due_is)
             (works blocks first of_k told_drive was) in
-            subst (λ (y : D). AtWork new blocks k first (data_of id (files y))) (sym (get_or-set_same before k now d inside))
-            (works_on answer k old new blocks first (data_of id (files now)) places is_due stage load has) in
+            subst (λ (y : D). AtWork new blocks k first (data_of id (ghosts.files y))) (sym (get_or-set_same before k now d inside))
+            (works_on answer k old new blocks first (data_of id (ghosts.files now)) places is_due stage load has) in
             subst Claim (sym same) here of_drive told at
         | inr apart ↦
-            subst (λ (x : D). AtWork new blocks place first (data_of id (files x))) (sym (get_or-set_other before k place now d apart))
-            (works_on_others answer k place old new blocks first (data_of id (files (slice_index_or before place d))) apart stage load at)
+            subst (λ (x : D). AtWork new blocks place first (data_of id (ghosts.files x))) (sym (get_or-set_other before k place now d apart))
+            (works_on_others answer k place old new blocks first (data_of id (ghosts.files (slice_index_or before place d))) apart stage load at)
       ]

@@ -6,6 +6,7 @@ use Rattle.call_types.specs.declared.why.Why.TheVariants.{Good, Lacks}
 use Rattle.stamp_id.specs.declared.version.VersionId.{VersionId}
 use Rattle.drive_base.specs.declared.plan.SetPlan.{SetPlan}
 use Rattle.manifest_file.specs.declared.manifest.Manifest.{Manifest}
+use Rattle.put_stage.specs.Called.{NoneIsCalled}
 use Rattle.put_stage.specs.Cells.{DataCells}
 use Rattle.put_stage.specs.Finishing.{IsOfManifest}
 use Rattle.put_stage.specs.Taking.{HasTaken}
@@ -36,6 +37,7 @@ pub record BeginsBody (set : SetPlan) (id : VersionId) (name : List ℕ) (length
   pub load : IsFirstLoad set id name length stated stage.load
   pub letters : HasFirstLetters stage
   pub fresh : IsFresh stage (Some [])
+  pub uncalled : NoneIsCalled stage
 
 -- a stage of a manifest alone begins
 pub record BeginsManifest (set : SetPlan) (id : VersionId) (manifest : Manifest) (etag : List ℕ) (stage : Stage) : Type 0 where

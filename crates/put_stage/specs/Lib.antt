@@ -1,4 +1,6 @@
 pub mod Beginning
+pub mod Called
+pub mod Calls
 pub mod Cells
 pub mod Coding
 pub mod Dues
@@ -10,6 +12,7 @@ pub mod Left
 pub mod Manifests
 pub mod Outcomes
 pub mod Parity
+pub mod Placed
 pub mod Stepping
 pub mod Taking
 pub mod Windows

@@ -1,5 +1,5 @@
 -- The bytes of all parts of a body, and its print.
-use Rattle.std.specs.Prelude.{ℕ, List, [], map, sum_by}
+use Rattle.std.specs.Prelude.{ℕ, List, map, sum_by}
 use Rattle.manifest_file.specs.Print.{cut_of, print_of_parts}
 use Rattle.manifest_file.specs.declared.manifest.Manifest.{Manifest}
 use Rattle.manifest_file.specs.declared.manifest.ManifestPart.{ManifestPart}

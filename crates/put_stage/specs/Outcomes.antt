@@ -1,5 +1,5 @@
 -- What a stage of a body answers.
-use Rattle.std.specs.Prelude.{◌≡◌, ◌≢◌, ◌↔◌, ◌<◌, ◌≤◌, ◌^◌, ℕ, List, [], ◌∷◌, length, Option, Some, Result, Ok, Err, slice_index_or}
+use Rattle.std.specs.Prelude.{◌≡◌, ◌≢◌, ◌↔◌, ◌<◌, ◌≤◌, ◌^◌, ℕ, List, [], ◌∷◌, Option, Some, Result, Ok, Err, slice_index_or}
 use Rattle.std.specs.Int.{IsBitSet}
 use Rattle.md5.specs.Md5.{md5}
 use Rattle.stamp_id.specs.declared.version.VersionId.{VersionId}

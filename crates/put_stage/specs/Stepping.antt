@@ -1,5 +1,5 @@
 -- What comes next for a stage, and what one step does.
-use Rattle.std.specs.Prelude.{◌≡◌, ◌≢◌, ◌⊎◌, ◌<◌, ℕ, Bool, true, false, IsTrue, List, slice_index_or, slice_set, None, Result, Ok, Err}
+use Rattle.std.specs.Prelude.{◌≡◌, ◌≢◌, ◌⊎◌, ◌<◌, ℕ, Bool, true, false, IsTrue, List, length, slice_index_or, slice_set, None, Result, Ok, Err}
 use Rattle.std.specs.Int.{IsBitSet}
 use Rattle.call_types.specs.Good.{is_good}
 use Rattle.call_types.specs.declared.why.FileKind.{FileKind}
@@ -7,7 +7,9 @@ use Rattle.call_types.specs.declared.why.FileKind.TheVariants.{Manifest as Manif
 use Rattle.call_types.specs.declared.why.Why.{Why}
 use Rattle.call_types.specs.declared.why.Why.TheVariants.{Good, Failed, Damaged, Behind, Lacks}
 use Rattle.fault_base.specs.Counts.{Rose}
-use Rattle.drive_base.specs.Files.{Files}
+use Rattle.drive_base.specs.declared.drive.Drive.{Ghosts}
+use Rattle.drive_base.specs.View.{view}
+use Rattle.put_stage.specs.Calls.{CallsDue}
 use Rattle.put_stage.specs.Cells.{DataCells, Spares, data_of}
 use Rattle.put_stage.specs.Dues.{after, is_block, is_nothing}
 use Rattle.put_stage.specs.Working.{AtWork, Blocks, Disagrees, HasBy, IsOfDrive, due_at, why_at}
@@ -88,18 +90,21 @@ abbrev pub HasAfter : Result (Unit {0}) Why → Bool → Due → List ℕ → Li
 HasAfter (Ok _) alone due next manifest blocks before cells = HasBy Good (after alone due) next manifest blocks before cells
 HasAfter (Err why) alone due next manifest blocks before cells = HasBy why due next manifest blocks before cells
 
-module _ {D : Type 0} (tells : D → Bool) (files : D → Files) (count : D → ℕ) where
+module _ {D : Type 0} (ghosts : Ghosts D) where
   -- the first call that is due, on drive k, which is not out, and none on another
   pub record Stepped (k : ℕ) (old new : Stage) (before after : List D) : Type 0 where
     pub due : IsDue old k
     pub order : IsFirst old k
+    pub placed : k < length old.dues
     pub in_use : IsBitSet old.load.set.out k → ⊥
     pub answer : Result (Unit {0}) Why
     pub stage : IsAfter answer k old new
-    pub letter : (d : D) → LetterOf answer (due_at old k) (tells (slice_index_or before k d)) (data_of old.load.names.id (files (slice_index_or before k d)))
-        (count (slice_index_or before k d)) (count (slice_index_or after k d))
-    pub spares : (d : D) → IsTrue (tells (slice_index_or before k d))
-        → Spares old.load.names.id (files (slice_index_or before k d)) (files (slice_index_or after k d))
+    pub letter : (d : D) → LetterOf answer (due_at old k) (ghosts.tells (slice_index_or before k d))
+        (data_of old.load.names.id (ghosts.files (slice_index_or before k d)))
+        (ghosts.count (slice_index_or before k d)) (ghosts.count (slice_index_or after k d))
+    pub spares : (d : D) → IsTrue (ghosts.tells (slice_index_or before k d))
+        → Spares old.load.names.id (ghosts.files (slice_index_or before k d)) (ghosts.files (slice_index_or after k d))
+    pub called : (d : D) → CallsDue old.load k (due_at old k) answer (view ghosts (slice_index_or before k d)) (view ghosts (slice_index_or after k d))
     pub others : (other : ℕ) (d : D) → other ≢ k → slice_index_or after other d ≡ slice_index_or before other d
 
   -- one call of a drive, or none where none is due
@@ -107,9 +112,8 @@ module _ {D : Type 0} (tells : D → Bool) (files : D → Files) (count : D → 
   StepsOnce old new before after = ((k : ℕ) × Stepped k old new before after)
       ⊎ (((k : ℕ) → IsDue old k → ⊥) × (new ≡ old) × (after ≡ before))
 
-module _ {D : Type 0} (tells : D → Bool) (files : D → Files) where
   -- each drive that tells has what a stage says of it, where it had it before
   abbrev pub StepWorks : Stage → Stage → List D → List D → Type 0
   StepWorks old new before after = (k : ℕ) (d : D) (blocks : Blocks) (first : DataCells) → k < old.load.set.drives → IsOfDrive old.load k blocks
-      → IsTrue (tells (slice_index_or before k d)) → AtWork old blocks k first (data_of old.load.names.id (files (slice_index_or before k d)))
-      → AtWork new blocks k first (data_of old.load.names.id (files (slice_index_or after k d)))
+      → IsTrue (ghosts.tells (slice_index_or before k d)) → AtWork old blocks k first (data_of old.load.names.id (ghosts.files (slice_index_or before k d)))
+      → AtWork new blocks k first (data_of old.load.names.id (ghosts.files (slice_index_or after k d)))

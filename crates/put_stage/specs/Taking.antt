@@ -1,10 +1,9 @@
 -- How far the body of a stage is taken, and what is made of it.
 use Rattle.std.specs.Prelude.{◌≡◌, ◌≤◌, ◌<◌, ◌+◌, ◌*◌, ℕ, false, List, [], ◌∷◌, ◌++◌, length, map, slice_index_or, Some, Result, Ok, Err, string_bytes}
 use Rattle.std.specs.List.{concat}
-use Rattle.std.specs.Io.KnownBytes.{IsAtEnd}
 use Rattle.md5.specs.Md5.{Holds, md5}
 use Rattle.fault_base.specs.Counts.{Rose}
-use Rattle.call_types.specs.Feeds.{FeedView, Gave}
+use Rattle.call_types.specs.Feeds.{FeedEnded, FeedView, Gave}
 use Rattle.drive_base.specs.Plan.{data_drives}
 use Rattle.manifest_file.specs.Print.{print_of_parts}
 use Rattle.manifest_file.specs.Spelling.{file_of}
@@ -12,6 +11,7 @@ use Rattle.manifest_file.specs.declared.manifest.Manifest.{Manifest}
 use Rattle.shard_file.specs.Shards.{root_of, table_of}
 use Rattle.shard_file.specs.Stripes.{stripe_size}
 use Rattle.body_print.specs.Shards.{AreShards}
+use Rattle.put_stage.specs.Called.{CallsGoOn}
 use Rattle.put_stage.specs.Cells.{DataCells}
 use Rattle.put_stage.specs.Coding.{all_bytes, block_at}
 use Rattle.put_stage.specs.Outcomes.{manifest_of}
@@ -76,6 +76,7 @@ pub record Filled (old new : Stage) (bytes : List ℕ) : Type 0 where
   pub whys : new.whys ≡ old.whys
   pub taken : (body : List ℕ) (shards : List (List (List ℕ))) → HasTaken old.load body shards
       → (after : List (List (List ℕ))) × HasTaken new.load (body ++ bytes) after × WorkGoesOn old new shards after
+      × CallsGoOn old new shards after
 
 -- a feed gave at most so many bytes, which are no longer left
 pub record GaveUpTo (most before after : ℕ) (old new : FeedView) : Type 0 where
@@ -94,6 +95,6 @@ abbrev pub FillCause : {T : Type 0} → Result T StageFault → FeedView → ℕ
 FillCause (Ok _) feed old new = new ≡ old
 FillCause (Err (WriteQuorum _)) feed old new = ⊥
 FillCause (Err (BadDigest _ _)) feed old new = ⊥
-FillCause (Err BodyCut) feed old new = (feed.given < feed.stated) × IsAtEnd feed.left × (new ≡ old)
+FillCause (Err BodyCut) feed old new = (feed.given < feed.stated) × FeedEnded feed × (new ≡ old)
 FillCause (Err ReadFault) feed old new = Rose old new
 FillCause (Err NoMemory) feed old new = new ≡ old

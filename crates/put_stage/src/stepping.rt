@@ -1,6 +1,8 @@
 //! What comes next for a stage, and one drive call of it.
 
 ghost use Rattle.std.specs.Prelude.{◌≡◌, ◌⊎◌, ◌↔◌, ◌<◌, ◌≤◌, ℕ, true, false, [], IsTrue, length, slice_index_or, Option, MatchOption};
+ghost use Rattle.drive_base.specs.View.{view};
+ghost use Rattle.put_stage.specs.Calls.{CallsDue};
 ghost use Rattle.put_stage.specs.Cells.{DataCells, Spares, data_of};
 ghost use Rattle.put_stage.specs.Coding.{all_bytes, block_at};
 ghost use Rattle.put_stage.specs.Dues.{is_block, is_nothing};
@@ -34,8 +36,8 @@ impl Stage {
     /// and steps that are left at most falls at each call.
     pub fn step<D: Drive>(&mut self, drives: &mut [D])
         requires { length drives.old ≡ self.old.load.set.drives }
-        ensures once { StepsOnce D.tells D.files D.count self.old self.new drives.old drives.new }
-        ensures works { StepWorks D.tells D.files self.old self.new drives.old drives.new }
+        ensures once { StepsOnce D.Drive self.old self.new drives.old drives.new }
+        ensures works { StepWorks D.Drive self.old self.new drives.old drives.new }
         ensures load { self.new.load ≡ self.old.load }
         ensures drives { length drives.new ≡ length drives.old }
         ensures fewer { (k : ℕ) → IsDue self.old k → calls_left self.new < calls_left self.old }
@@ -133,6 +135,7 @@ fn call_on<D: Drive>(load: &Load, index: u8, due: Due, drive: &mut D) -> Result<
         → HasAfter result load.now.alone due (block_at index load.now.window) load.now.made.manifest.items blocks first (data_of load.now.names.id (D.files drive.new)) }
     ensures spares { IsTrue (D.tells drive.old) → Spares load.now.names.id (D.files drive.old) (D.files drive.new) }
     ensures letter { LetterOf result due (D.tells drive.old) (data_of load.now.names.id (D.files drive.old)) (D.count drive.old) (D.count drive.new) }
+    ensures called { is_nothing due ≡ false → CallsDue load.now index due result (view D.Drive drive.old) (view D.Drive drive.new) }
     ensures tells { D.tells drive.new ≡ D.tells drive.old }
     ensures count { D.count drive.old ≤ D.count drive.new }
 {

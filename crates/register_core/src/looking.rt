@@ -1,8 +1,7 @@
 //! Looking at a register.
 
-ghost use Rattle.std.specs.Prelude.{◌≡◌, ◌<◌, ◌≤◌, ℕ, List, IsTrue, IfOk, IfErr, length, map, slice_index_or, string_bytes};
-ghost use Rattle.std.specs.Int.{IsBitSet};
-ghost use Rattle.drive_base.specs.Plan.{data_drives, write_drives};
+ghost use Rattle.std.specs.Prelude.{◌≡◌, ◌<◌, ◌≤◌, ℕ, IsTrue, length, map, slice_index_or, string_bytes};
+ghost use Rattle.drive_base.specs.View.{AllOnlyRead, views};
 ghost use Rattle.register_core.specs.Looking.{HasRead, Looks};
 ghost use Rattle.register_core.specs.LookSteps.{Forwards, IsConcluded};
 ghost use Rattle.register_core.specs.Records.{row_of};
@@ -51,11 +50,9 @@ pub fn look<D: Drive, R: ContentRule>(
     ensures rule { R.fault_in rule.new ≡ R.fault_in rule.old }
     ensures most { R.most_bytes rule.new ≡ R.most_bytes rule.old }
     ensures files { (k : ℕ) (d : D) → k < length lanes.old → IsTrue (D.tells (slice_index_or lanes.old k d)) → D.files (slice_index_or lanes.new k d) ≡ D.files (slice_index_or lanes.old k d) }
-    ensures disk_files { (k : ℕ) (d : D) → k < length disks.old → IsTrue (D.tells (slice_index_or disks.old k d)) → D.files (slice_index_or disks.new k d) ≡ D.files (slice_index_or disks.old k d) }
     ensures tells { (k : ℕ) (d : D) → k < length lanes.old → D.tells (slice_index_or lanes.new k d) ≡ D.tells (slice_index_or lanes.old k d) }
-    ensures disk_tells { (k : ℕ) (d : D) → k < length disks.old → D.tells (slice_index_or disks.new k d) ≡ D.tells (slice_index_or disks.old k d) }
     ensures counts { (k : ℕ) (d : D) → k < length lanes.old → D.count (slice_index_or lanes.old k d) ≤ D.count (slice_index_or lanes.new k d) }
-    ensures disk_counts { (k : ℕ) (d : D) → k < length disks.old → D.count (slice_index_or disks.old k d) ≤ D.count (slice_index_or disks.new k d) }
+    ensures disks_read { AllOnlyRead (views D.Drive disks.old) (views D.Drive disks.new) }
 {
     // The laws for the proof that the look finds the value. The calls do nothing.
     verdict_laws();
@@ -96,9 +93,7 @@ fn conclude<D: Drive>(
     requires files { length files.now ≡ set.drives }
     requires rows { rows.now ≡ map row_of files.now }
     ensures outcome { IsConcluded D.tells D.files D.count set files.now whys result disks.old disks.new }
-    ensures files { (k : ℕ) (d : D) → k < length disks.old → IsTrue (D.tells (slice_index_or disks.old k d)) → D.files (slice_index_or disks.new k d) ≡ D.files (slice_index_or disks.old k d) }
-    ensures tells { (k : ℕ) (d : D) → k < length disks.old → D.tells (slice_index_or disks.new k d) ≡ D.tells (slice_index_or disks.old k d) }
-    ensures counts { (k : ℕ) (d : D) → k < length disks.old → D.count (slice_index_or disks.old k d) ≤ D.count (slice_index_or disks.new k d) }
+    ensures disks_read { AllOnlyRead (views D.Drive disks.old) (views D.Drive disks.new) }
 {
     match judge(&set, rows) {
         Verdict::TooFew { .. } => Err(QuorumFault::ReadQuorum(whys)),
@@ -134,9 +129,7 @@ fn may_forward<D: Drive>(
 ) -> Result<(), QuorumFault>
     requires { length disks.old ≡ set.drives }
     ensures outcome { Forwards D.tells D.files D.count set next.now k u result disks.old disks.new }
-    ensures files { (k : ℕ) (d : D) → k < length disks.old → IsTrue (D.tells (slice_index_or disks.old k d)) → D.files (slice_index_or disks.new k d) ≡ D.files (slice_index_or disks.old k d) }
-    ensures tells { (k : ℕ) (d : D) → k < length disks.old → D.tells (slice_index_or disks.new k d) ≡ D.tells (slice_index_or disks.old k d) }
-    ensures counts { (k : ℕ) (d : D) → k < length disks.old → D.count (slice_index_or disks.old k d) ≤ D.count (slice_index_or disks.new k d) }
+    ensures disks_read { AllOnlyRead (views D.Drive disks.old) (views D.Drive disks.new) }
 {
     let Some(adds) = &next.adds else {
         return Ok(());

@@ -1,8 +1,9 @@
 //! The manifests of a pending change's data, on the data drives.
 
-ghost use Rattle.std.specs.Prelude.{◌≡◌, ◌<◌, ◌≤◌, ℕ, IsTrue, IfOk, IfErr, length, slice_index_or};
+ghost use Rattle.std.specs.Prelude.{◌≡◌, ◌<◌, ◌≤◌, IfOk, IfErr, length};
 ghost use Rattle.std.specs.Int.{IsBitSet};
 ghost use Rattle.body_print.specs.Names.{manifest_name};
+ghost use Rattle.drive_base.specs.View.{AllOnlyRead, OnlyRead, view, views};
 ghost use Rattle.manifest_file.specs.Canonical.{IsCanonical};
 ghost use Rattle.manifest_file.specs.Spelling.{file_of};
 ghost use Rattle.manifest_file.specs.declared.manifest.TheConstants.{LONGEST_FILE};
@@ -31,9 +32,7 @@ pub fn look_for_data<D: Drive>(
     requires { length disks.old ≡ set.drives }
     ensures letters { IfOk result (λ whys. AreManifestLetters D.tells D.files D.count set adds.now whys disks.old disks.new) }
     ensures refused { IfErr result (λ fault. fault ≡ NoMemory) }
-    ensures files { (k : ℕ) (d : D) → k < length disks.old → IsTrue (D.tells (slice_index_or disks.old k d)) → D.files (slice_index_or disks.new k d) ≡ D.files (slice_index_or disks.old k d) }
-    ensures tells { (k : ℕ) (d : D) → k < length disks.old → D.tells (slice_index_or disks.new k d) ≡ D.tells (slice_index_or disks.old k d) }
-    ensures counts { (k : ℕ) (d : D) → k < length disks.old → D.count (slice_index_or disks.old k d) ≤ D.count (slice_index_or disks.new k d) }
+    ensures disks_read { AllOnlyRead (views D.Drive disks.old) (views D.Drive disks.new) }
 {
     let name = name_of_manifest(alloc, adds.id)?;
     let mut whys = Whys::all_good(set.drives);
@@ -61,9 +60,7 @@ fn manifest_on<D: Drive>(
     requires { index < set.now.drives }
     ensures outcome { name.now ≡ manifest_name adds.now.id → ReadsManifest set.now adds.now (IsBitSet set.now.out index) result (D.tells disk.old) (D.files disk.old) (D.count disk.old) (D.count disk.new) }
     ensures alone { IsBitSet set.now.out index → disk.new ≡ disk.old }
-    ensures files { IsTrue (D.tells disk.old) → D.files disk.new ≡ D.files disk.old }
-    ensures tells { D.tells disk.new ≡ D.tells disk.old }
-    ensures count { D.count disk.old ≤ D.count disk.new }
+    ensures read { OnlyRead (view D.Drive disk.old) (view D.Drive disk.new) }
 {
     if set.is_out(index) {
         return Err(FetchFault::Because(Why::Lacks(FileKind::Format)));

@@ -1,9 +1,10 @@
 use Rattle.std.proofs.Common.{refl, rules, ◌≡◌, ◌∙◌, ◌*◌, ℕ, length, subst, arith}
+use Rattle.drive_base.specs.Calls.{Showed}
 use Rattle.drive_base.specs.Plan.{data_drives}
 use Rattle.drive_base.specs.View.{view}
 use Rattle.shard_file.specs.Shards.{table_place}
 use Rattle.shard_file.specs.Stripes.{stripe_count}
-use Rattle.get_read.specs.Account.{Showed, WasSeen}
+use Rattle.get_read.specs.Account.{WasSeen}
 use Rattle.get_read.proofs.FetchLemmas.{table_damaged}
 use Rattle.get_read.proofs.calls.call_table.Goals as goal
 

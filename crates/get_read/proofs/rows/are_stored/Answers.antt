@@ -1,4 +1,4 @@
-use Rattle.std.proofs.Common.{rules, ◌≡◌, ◌+◌, ◌-◌, ◌*◌, ◌∙◌, ℕ, List, [], slice_index_or, take, drop, ap, refl, sym, inl, inr, arith}
+use Rattle.std.proofs.Common.{rules, ◌≡◌, ◌+◌, ◌-◌, ◌*◌, ◌∙◌, ℕ, [], slice_index_or, take, drop, ap, refl, sym, inl, inr, arith}
 use Rattle.std.proofs.lemmas.Bool.{cases_lt}
 use Rattle.shard_file.specs.Stripes.{piece}
 use Rattle.get_read.proofs.WindowLemmas.{sliced}

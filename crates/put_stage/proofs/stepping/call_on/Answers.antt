@@ -1,15 +1,18 @@
 -- One call of a drive, by the call that is due.
-use Rattle.std.proofs.Common.{◌∙◌, ℕ, List, refl, subst, sym, inl, inr}
+use Rattle.std.proofs.Common.{◌≡◌, ◌∙◌, ℕ, true, false, List, ap, refl, subst, sym, inl, inr}
 use Rattle.std.specs.Prelude.{IsTrue, Ok, OnOk}
 use Rattle.call_types.specs.declared.why.FileKind.TheVariants as kind
+use Rattle.drive_base.specs.View.{view}
 use Rattle.file_access.specs.Writing.{Appended}
 use Rattle.put_stage.specs.Cells.{DataCells, data_of}
 use Rattle.put_stage.specs.Coding.{block_at}
+use Rattle.put_stage.specs.Dues.{is_nothing}
 use Rattle.put_stage.specs.Stepping.{HasAfter, LetterOf}
 use Rattle.put_stage.specs.Working.{IsBefore}
 use Rattle.put_stage.specs.declared.dues.Due.{Due}
 use Rattle.put_stage.specs.declared.dues.Due.TheVariants as due
 use Rattle.put_stage.proofs.CallLemmas.{block_call, append_letter, manifest_call, place_manifest_letter, place_shard_letter, sync_manifest_letter, sync_shard_letter, of_alone, of_body, of_table, place_manifest_call, place_shard_call, sync_manifest_call, sync_shard_call, table_call}
+use Rattle.put_stage.proofs.CalledLemmas.{called_block, called_manifest, called_place_manifest, called_place_shard, called_sync_manifest, called_sync_shard, called_table}
 use Rattle.put_stage.proofs.SparesLemmas.{append_spares, place_spares, sync_spares}
 use Rattle.put_stage.proofs.stepping.call_on.Goals as goal
 
@@ -48,6 +51,11 @@ returns-in-Block-clause-letter g c =
     let told = D.tells c.args.drive.now in
     subst (λ (d : Due). LetterOf c.append_on.result d told (data_of id old) (D.count c.args.drive.now) (D.count c.append_on.new.drive)) (sym c.in-Block.is)
     (append_letter due.Block told (data_of id old) kind.Shard c.append_on.result (D.count c.args.drive.now) (D.count c.append_on.new.drive) c.append_on.ensures.cause)
+
+pub returns-in-Block-clause-called : goal.returns-in-Block-clause-called
+returns-in-Block-clause-called g c = λ some.
+    called_block c.args.load.now c.args.index c.args.due c.append_on.result (view g.D.Drive c.args.drive.now) (view g.D.Drive c.append_on.new.drive)
+    c.as_str-shard.result.now c.block.result.now c.in-Block.is (c.as_str-shard.ensures.value ∙ c.args.load.now.names.loose_shard_is) c.block.ensures c.append_on.ensures.called
 
 pub returns-in-Block-clause-tells : goal.returns-in-Block-clause-tells
 returns-in-Block-clause-tells g c = c.append_on.ensures.tells
@@ -89,6 +97,11 @@ returns-in-Table-clause-letter g c =
     subst (λ (d : Due). LetterOf c.append_on-in-Table.result d told (data_of id old) (D.count c.args.drive.now) (D.count c.append_on-in-Table.new.drive)) (sym c.in-Table.is)
     (append_letter due.Table told (data_of id old) kind.Shard c.append_on-in-Table.result (D.count c.args.drive.now) (D.count c.append_on-in-Table.new.drive) c.append_on-in-Table.ensures.cause)
 
+pub returns-in-Table-clause-called : goal.returns-in-Table-clause-called
+returns-in-Table-clause-called g c = λ some.
+    called_table c.args.load.now c.args.index c.args.due c.append_on-in-Table.result (view g.D.Drive c.args.drive.now) (view g.D.Drive c.append_on-in-Table.new.drive)
+    c.as_str-shard.result.now c.table.result.now c.in-Table.is (c.as_str-shard.ensures.value ∙ c.args.load.now.names.loose_shard_is) c.table.ensures c.append_on-in-Table.ensures.called
+
 pub returns-in-Table-clause-tells : goal.returns-in-Table-clause-tells
 returns-in-Table-clause-tells g c = c.append_on-in-Table.ensures.tells
 
@@ -129,6 +142,11 @@ returns-in-SyncShard-clause-letter g c =
     subst (λ (d : Due). LetterOf c.sync_on.result d told (data_of id old) (D.count c.args.drive.now) (D.count c.sync_on.new.drive)) (sym c.in-SyncShard.is)
     (sync_shard_letter id told old c.as_str-shard.result.now c.sync_on.result (D.count c.args.drive.now) (D.count c.sync_on.new.drive)
     (c.as_str-shard.ensures.value ∙ c.args.load.now.names.loose_shard_is) c.sync_on.ensures.cause)
+
+pub returns-in-SyncShard-clause-called : goal.returns-in-SyncShard-clause-called
+returns-in-SyncShard-clause-called g c = λ some.
+    called_sync_shard c.args.load.now c.args.index c.args.due c.sync_on.result (view g.D.Drive c.args.drive.now) (view g.D.Drive c.sync_on.new.drive)
+    c.as_str-shard.result.now c.in-SyncShard.is (c.as_str-shard.ensures.value ∙ c.args.load.now.names.loose_shard_is) c.sync_on.ensures.called
 
 pub returns-in-SyncShard-clause-tells : goal.returns-in-SyncShard-clause-tells
 returns-in-SyncShard-clause-tells g c = c.sync_on.ensures.tells
@@ -172,6 +190,11 @@ returns-in-Manifest-clause-letter g c =
     subst (λ (d : Due). LetterOf c.append_on-in-Manifest.result d told (data_of id old) (D.count c.args.drive.now) (D.count c.append_on-in-Manifest.new.drive)) (sym c.in-Manifest.is)
     (append_letter due.Manifest told (data_of id old) kind.Manifest c.append_on-in-Manifest.result (D.count c.args.drive.now) (D.count c.append_on-in-Manifest.new.drive) c.append_on-in-Manifest.ensures.cause)
 
+pub returns-in-Manifest-clause-called : goal.returns-in-Manifest-clause-called
+returns-in-Manifest-clause-called g c = λ some.
+    called_manifest c.args.load.now c.args.index c.args.due c.append_on-in-Manifest.result (view g.D.Drive c.args.drive.now) (view g.D.Drive c.append_on-in-Manifest.new.drive)
+    c.as_str-manifest.result.now c.as_slice.result.now c.in-Manifest.is (c.as_str-manifest.ensures.value ∙ c.args.load.now.names.loose_manifest_is) c.as_slice.ensures.value c.append_on-in-Manifest.ensures.called
+
 pub returns-in-Manifest-clause-tells : goal.returns-in-Manifest-clause-tells
 returns-in-Manifest-clause-tells g c = c.append_on-in-Manifest.ensures.tells
 
@@ -212,6 +235,11 @@ returns-in-SyncManifest-clause-letter g c =
     subst (λ (d : Due). LetterOf c.sync_on-in-SyncManifest.result d told (data_of id old) (D.count c.args.drive.now) (D.count c.sync_on-in-SyncManifest.new.drive)) (sym c.in-SyncManifest.is)
     (sync_manifest_letter id told old c.as_str-manifest.result.now c.sync_on-in-SyncManifest.result (D.count c.args.drive.now) (D.count c.sync_on-in-SyncManifest.new.drive)
     (c.as_str-manifest.ensures.value ∙ c.args.load.now.names.loose_manifest_is) c.sync_on-in-SyncManifest.ensures.cause)
+
+pub returns-in-SyncManifest-clause-called : goal.returns-in-SyncManifest-clause-called
+returns-in-SyncManifest-clause-called g c = λ some.
+    called_sync_manifest c.args.load.now c.args.index c.args.due c.sync_on-in-SyncManifest.result (view g.D.Drive c.args.drive.now) (view g.D.Drive c.sync_on-in-SyncManifest.new.drive)
+    c.as_str-manifest.result.now c.in-SyncManifest.is (c.as_str-manifest.ensures.value ∙ c.args.load.now.names.loose_manifest_is) c.sync_on-in-SyncManifest.ensures.called
 
 pub returns-in-SyncManifest-clause-tells : goal.returns-in-SyncManifest-clause-tells
 returns-in-SyncManifest-clause-tells g c = c.sync_on-in-SyncManifest.ensures.tells
@@ -254,6 +282,11 @@ returns-in-PlaceManifest-clause-letter g c =
     (place_manifest_letter id told old c.as_str-manifest.result.now c.place.result (D.count c.args.drive.now) (D.count c.place.new.drive)
     (c.as_str-manifest.ensures.value ∙ c.args.load.now.names.loose_manifest_is) c.place.ensures.cause)
 
+pub returns-in-PlaceManifest-clause-called : goal.returns-in-PlaceManifest-clause-called
+returns-in-PlaceManifest-clause-called g c = λ some.
+    called_place_manifest c.args.load.now c.args.index c.args.due c.place.result (view g.D.Drive c.args.drive.now) (view g.D.Drive c.place.new.drive)
+    c.as_str-manifest.result.now c.as_str.result.now c.in-PlaceManifest.is (c.as_str-manifest.ensures.value ∙ c.args.load.now.names.loose_manifest_is) (c.as_str.ensures.value ∙ c.args.load.now.names.manifest_is) c.place.ensures.called
+
 pub returns-in-PlaceManifest-clause-tells : goal.returns-in-PlaceManifest-clause-tells
 returns-in-PlaceManifest-clause-tells g c = c.place.ensures.tells
 
@@ -295,6 +328,11 @@ returns-in-PlaceShard-clause-letter g c =
     (place_shard_letter id told old c.as_str-shard.result.now c.place-in-PlaceShard.result (D.count c.args.drive.now) (D.count c.place-in-PlaceShard.new.drive)
     (c.as_str-shard.ensures.value ∙ c.args.load.now.names.loose_shard_is) c.place-in-PlaceShard.ensures.cause)
 
+pub returns-in-PlaceShard-clause-called : goal.returns-in-PlaceShard-clause-called
+returns-in-PlaceShard-clause-called g c = λ some.
+    called_place_shard c.args.load.now c.args.index c.args.due c.place-in-PlaceShard.result (view g.D.Drive c.args.drive.now) (view g.D.Drive c.place-in-PlaceShard.new.drive)
+    c.as_str-shard.result.now c.as_str-in-PlaceShard.result.now c.in-PlaceShard.is (c.as_str-shard.ensures.value ∙ c.args.load.now.names.loose_shard_is) (c.as_str-in-PlaceShard.ensures.value ∙ c.args.load.now.names.shard_is) c.place-in-PlaceShard.ensures.called
+
 pub returns-in-PlaceShard-clause-tells : goal.returns-in-PlaceShard-clause-tells
 returns-in-PlaceShard-clause-tells g c = c.place-in-PlaceShard.ensures.tells
 
@@ -316,3 +354,9 @@ returns-in-Nothing-clause-spares g c = λ tells. record {
   shown = λ other apart. refl;
   loose = λ other apart. refl;
 }
+
+pub returns-in-Nothing-clause-called : goal.returns-in-Nothing-clause-called
+returns-in-Nothing-clause-called g c = λ some.
+    let none : is_nothing c.args.due ≡ true = ap is_nothing c.in-Nothing.is in
+    let one : is_nothing c.args.due ≡ false = some in
+    absurd cc

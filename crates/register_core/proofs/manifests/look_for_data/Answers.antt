@@ -1,7 +1,8 @@
-use Rattle.std.proofs.Common.{rules, ◌≡◌, ◌<◌, ◌≤◌, ◌+◌, ◌∙◌, ℕ, List, length, slice_index_or, slice_set, arith, ap, subst, sym}
-use Rattle.std.specs.Prelude.{IsTrue}
+use Rattle.std.proofs.Common.{rules, ◌≡◌, ◌<◌, ◌+◌, ◌∙◌, ℕ, List, length, slice_index_or, slice_set, arith, ap, subst, sym}
 use Rattle.std.specs.Int.{IsBitSet}
 use Rattle.std.proofs.lemmas.List.{get_or_default, length-set}
+use Rattle.drive_base.specs.View.{OnlyRead, view}
+use Rattle.drive_base.proofs.ViewLemmas.{at_each_view}
 use Rattle.call_types.specs.declared.why.Why.{Why}
 use Rattle.call_types.specs.declared.why.Why.TheVariants.{Good}
 use Rattle.register_core.specs.Loops.{letter_at}
@@ -61,11 +62,28 @@ loop-disk-preserved g c =
       ];
       stay = set_each T (λ (k : ℕ) (a b : T). IsBitSet c.args.set.out k → b ≡ a) old now i x low
           (λ d bit. c.manifest_on.ensures.alone (subst (IsBitSet c.args.set.out) (sym inv.at) bit) ∙ was d) inv.stay;
-      files = set_each T (λ (k : ℕ) (a b : T). IsTrue (D.tells a) → D.files b ≡ D.files a) old now i x low
-          (λ d. subst (λ (a : T). IsTrue (D.tells a) → D.files x ≡ D.files a) (was d) c.manifest_on.ensures.files) inv.files;
-      tells = set_each T (λ (k : ℕ) (a b : T). D.tells b ≡ D.tells a) old now i x low
-          (λ d. subst (λ (a : T). D.tells x ≡ D.tells a) (was d) c.manifest_on.ensures.tells) inv.tells;
-      counts = set_each T (λ (k : ℕ) (a b : T). D.count a ≤ D.count b) old now i x low
-          (λ d. subst (λ (a : T). D.count a ≤ D.count x) (was d) c.manifest_on.ensures.count) inv.counts;
+      read = set_each T (λ (k : ℕ) (a b : T). OnlyRead (view D a) (view D b)) old now i x low
+          (λ d. subst (λ (a : T). OnlyRead (view D a) (view D x)) (was d) c.manifest_on.ensures.read) inv.read;
       others = search rules;
     }
+
+pub returns-in-Err-NoMemory-clause-disks_read : goal.returns-in-Err-NoMemory-clause-disks_read
+returns-in-Err-NoMemory-clause-disks_read g c =
+    let D = g.D.Drive in
+    let T = g.row.D.Denot in
+    let i = c.loop-disk.disk-index in
+    let x = c.manifest_on.new.disk in
+    let old = c.args.disks.now in
+    let now = c.loop-disk.disks in
+    let inv = c.loop-disk.invariant in
+    let low : i < length now = omega arith in
+    let was : (d : T) → slice_index_or now i c.disk-item.result ≡ slice_index_or old i d =
+    (λ d. get_or_default now i c.disk-item.result d low ∙ inv.others i d (omega arith)) in
+    let each : (k : ℕ) (d : T) → OnlyRead (view D (slice_index_or old k d)) (view D (slice_index_or (slice_set now i x) k d)) =
+    set_each T (λ (k : ℕ) (a b : T). OnlyRead (view D a) (view D b)) old now i x low
+    (λ d. subst (λ (a : T). OnlyRead (view D a) (view D x)) (was d) c.manifest_on.ensures.read) inv.read in
+    at_each_view D (λ k. OnlyRead) old (slice_set now i x) (length-set now i x ∙ c.loop-disk.auto.disks) (λ k d within. each k d)
+
+pub returns-clause-disks_read : goal.returns-clause-disks_read
+returns-clause-disks_read g c =
+    at_each_view g.D.Drive (λ k. OnlyRead) c.args.disks.now c.loop-disk.disks c.loop-disk.auto.disks (λ k d within. c.loop-disk.invariant.read k d)

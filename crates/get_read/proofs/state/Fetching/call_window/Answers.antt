@@ -1,6 +1,5 @@
-use Rattle.std.proofs.Common.{rules, ◌≡◌, ◌∙◌, [], ℕ, List, length, slice_index_or, ap, sym, subst}
+use Rattle.std.proofs.Common.{rules, ◌≡◌, ◌∙◌, [], List, length, slice_index_or, ap, sym, subst}
 use Rattle.std.specs.Prelude.{Ok}
-use Rattle.std.specs.Global.{Global}
 use Rattle.std.proofs.lemmas.List.{get_or_default}
 use Rattle.drive_base.specs.View.{view}
 use Rattle.manifest_file.specs.declared.manifest.ManifestPart.{ManifestPart}

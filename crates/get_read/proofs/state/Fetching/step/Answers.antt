@@ -1,5 +1,5 @@
-use Rattle.std.proofs.Common.{◌≡◌, ◌∙◌, ◌+◌, ap, refl, sym}
-use Rattle.std.specs.Prelude.{None, Some}
+use Rattle.std.proofs.Common.{◌≡◌, ◌∙◌, refl, sym}
+use Rattle.std.specs.Prelude.{Some}
 use Rattle.get_read.proofs.WindowStepLemmas.{steps_of_stripe, steps_of_window}
 use Rattle.get_read.proofs.state.Fetching.step.Goals as goal
 

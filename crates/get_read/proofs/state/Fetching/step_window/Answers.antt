@@ -1,11 +1,12 @@
-use Rattle.std.proofs.Common.{rules, ◌≡◌, ◌<◌, ◌≤◌, ◌+◌, ◌*◌, ◌∙◌, [], ℕ, List, ap, length, refl, slice_index_or, subst, sym, arith}
+use Rattle.std.proofs.Common.{◌≡◌, ◌<◌, ◌≤◌, ◌+◌, ◌*◌, ◌∙◌, [], ℕ, List, ap, length, refl, slice_index_or, subst, sym, arith}
 use Rattle.std.specs.Global.{Global}
 use Rattle.std.specs.Prelude.{Vec}
+use Rattle.drive_base.specs.Calls.{Showed}
 use Rattle.drive_base.specs.View.{view}
 use Rattle.manifest_file.specs.declared.manifest.ManifestPart.{ManifestPart}
 use Rattle.body_print.specs.Names.{shard_name}
 use Rattle.shard_file.specs.Shards.{block_place}
-use Rattle.get_read.specs.Account.{Showed, WasSeen}
+use Rattle.get_read.specs.Account.{WasSeen}
 use Rattle.get_read.specs.Advancing.{data_of, part_of}
 use Rattle.get_read.specs.Held.{all_bytes}
 use Rattle.get_read.specs.Measure.{ahead_left, alone_left, one_held, run_left}

@@ -10,6 +10,21 @@ use Rattle.put_stage.proofs.LeftLemmas.{fewer_after}
 use Rattle.put_stage.proofs.StepLemmas.{bad_letter, step_works, stepped}
 use Rattle.put_stage.proofs.stage.Stage.step.Goals as goal
 
+pub returns-in-Ok-clause-once : goal.returns-in-Ok-clause-once
+returns-in-Ok-clause-once g c =
+    let D = g.D.Drive in
+    let old = c.args.self.now in
+    let k = c.in-Some.index in
+    let due : Due = slice_index_or old.dues k Block in
+    let places : length old.dues ≡ 16 = omega arith in
+    let same : due_at old k ≡ due = get_or_default old.dues k Nothing Block (omega (arith, places, c.in-Some.ensures.0.within, old.load.set.few_drives)) in
+    inl (
+      k,
+      stepped D k old _ c.args.drives.now c.index-drives-index.result c.call_on.new.drive (Ok c.in-Ok.field-0) due
+          places c.requires same c.in-Some.ensures.0 c.in-Some.ensures.1 (refl, ap (slice_set old.dues k) (c.after.ensures ∙ ap (after old.load.alone) (sym same)))
+          c.in-Ok.ensures.letter c.call_on.ensures.spares c.in-Ok.ensures.called,
+    )
+
 pub returns-in-Ok-clause-works : goal.returns-in-Ok-clause-works
 returns-in-Ok-clause-works g c =
     let D = g.D.Drive in
@@ -18,7 +33,7 @@ returns-in-Ok-clause-works g c =
     let due : Due = slice_index_or old.dues k Block in
     let places : length old.dues ≡ 16 = omega arith in
     let same : due_at old k ≡ due = get_or_default old.dues k Nothing Block (omega (arith, places, c.in-Some.ensures.0.within, old.load.set.few_drives)) in
-    step_works D.tells D.files D.count k old _ c.args.drives.now c.index-drives-index.result c.call_on.new.drive (Ok c.in-Ok.field-0) due
+    step_works D k old _ c.args.drives.now c.index-drives-index.result c.call_on.new.drive (Ok c.in-Ok.field-0) due
     places c.requires same c.in-Some.ensures.0 (refl, ap (slice_set old.dues k) (c.after.ensures ∙ ap (after old.load.alone) (sym same))) refl c.in-Ok.ensures.works
 
 pub returns-in-Err-clause-once : goal.returns-in-Err-clause-once
@@ -31,8 +46,8 @@ returns-in-Err-clause-once g c =
     let same : due_at old k ≡ due = get_or_default old.dues k Nothing Block (omega (arith, places, c.in-Some.ensures.0.within, old.load.set.few_drives)) in
     inl (
       k,
-      stepped D.tells D.files D.count k old _ c.args.drives.now c.index-drives-index.result c.call_on.new.drive (Err c.in-Err.why) due
-          c.requires same c.in-Some.ensures.0 c.in-Some.ensures.1 (c.set.ensures, refl) c.in-Err.ensures.letter c.call_on.ensures.spares,
+      stepped D k old _ c.args.drives.now c.index-drives-index.result c.call_on.new.drive (Err c.in-Err.why) due
+          places c.requires same c.in-Some.ensures.0 c.in-Some.ensures.1 (c.set.ensures, refl) c.in-Err.ensures.letter c.call_on.ensures.spares c.in-Err.ensures.called,
     )
 
 pub returns-in-Err-clause-works : goal.returns-in-Err-clause-works
@@ -43,7 +58,7 @@ returns-in-Err-clause-works g c =
     let due : Due = slice_index_or old.dues k Block in
     let places : length old.dues ≡ 16 = omega arith in
     let same : due_at old k ≡ due = get_or_default old.dues k Nothing Block (omega (arith, places, c.in-Some.ensures.0.within, old.load.set.few_drives)) in
-    step_works D.tells D.files D.count k old _ c.args.drives.now c.index-drives-index.result c.call_on.new.drive (Err c.in-Err.why) due
+    step_works D k old _ c.args.drives.now c.index-drives-index.result c.call_on.new.drive (Err c.in-Err.why) due
     places c.requires same c.in-Some.ensures.0 (c.set.ensures, refl) refl c.in-Err.ensures.works
 
 pub returns-in-Ok-clause-fewer : goal.returns-in-Ok-clause-fewer
