@@ -1,2 +1,6 @@
-pub mod MetLemmas
+pub mod AskLemmas
+pub mod CountLemmas
+pub mod FolderLemmas
+pub mod OpeningLemmas
 pub mod PathLemmas
+pub mod TrailLemmas

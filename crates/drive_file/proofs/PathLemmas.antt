@@ -1,14 +1,14 @@
 -- Spellings of names: their digits are those of the name, whatever groups they are cut into.
-use Rattle.std.specs.Prelude.{◌≡◌, ◌≤◌, ◌<◌, ◌-◌, ℕ, zero, suc, Bool, true, false, cond, List, [], ◌∷◌, ◌++◌, length, take, drop, slice_index, ◌/◌, ◌%◌, filter, refl, nat_le, Result, Ok}
+use Rattle.std.specs.Prelude.{◌≡◌, ◌≤◌, ◌<◌, ℕ, zero, suc, Bool, true, false, cond, List, [], ◌∷◌, ◌++◌, length, take, drop, slice_index, ◌/◌, ◌%◌, filter, refl, nat_le, Ok}
 use Rattle.std.proofs.Common.{sym, ap, ◌∙◌, arith, subst}
-use Rattle.std.proofs.lemmas.Bool.{leb-true, le-leb}
+use Rattle.std.proofs.lemmas.Bool.{le-leb}
 use Rattle.std.proofs.lemmas.Bool.Decides.{nat_tests}
 use Rattle.std.proofs.lemmas.List.{take-append-drop, append_assoc, length-drop}
 use Rattle.std.proofs.lemmas.List.Elements.{All-head, All-tail, All-nil, All-cons, filter-append}
 use Rattle.std.specs.List.{AllPass}
 use Rattle.hex.specs.Hex.{IsBytes, encode_lower, encode_with, lower_digits, is_hex_digit, decode_of}
 use Rattle.hex.proofs.HexLemmas.{decode_of-encode_lower, decode_of-ok}
-use Rattle.drive_file.specs.Paths.{next_group, spelled_within, spelled, SpellingsDiffer}
+use Rattle.drive_file.specs.Paths.{next_group, spelled_within, SpellingsDiffer}
 
 -- the digits of two parts
 encode-append : (t xs ys : List ℕ) → encode_with t (xs ++ ys) ≡ encode_with t xs ++ encode_with t ys

@@ -1,4 +1,9 @@
+pub mod Asks
 pub mod Calls
+pub mod Faults
 pub mod FileDrive
+pub mod Folder
+pub mod Opening
 pub mod Paths
 pub mod SharedDrive
+pub mod System

@@ -1,9 +1,6 @@
 -- What a way to a drive tells of it.
 use Rattle.std.specs.Prelude.{◌≡◌, ℕ, Bool, true, false, Option, Some, option_map, Result, Ok, Err}
 use Rattle.std.specs.Arc.{arc_value}
-use Rattle.fault_base.specs.Counts.{Rose}
-use Rattle.drive_base.specs.declared.fault.DriveFault.{DriveFault}
-use Rattle.drive_base.specs.declared.fault.DriveFault.TheVariants.{Absent, Failed, NoMemory}
 use Rattle.drive_base.specs.Files.{Files, no_files}
 use Rattle.drive_file.specs.declared.lock.Lock.{Lock}
 use Rattle.drive_file.specs.declared.shared.Way.{Way}
@@ -44,10 +41,3 @@ Shares (Ok _) (Alone drive) new = way_shared new ≡ true
 Shares (Ok _) (Shared lock) new = new ≡ Shared lock
 Shares (Err _) (Alone drive) new = new ≡ Alone drive
 Shares (Err _) (Shared lock) new = ⊥
-
--- the faults that a shared way met, after a call with this answer: they rise with `Failed` and with no other
-abbrev pub MetAfter : {T : Type 0} → Result T DriveFault → ℕ → ℕ → Type 0
-MetAfter (Ok _) old new = new ≡ old
-MetAfter (Err Absent) old new = new ≡ old
-MetAfter (Err Failed) old new = Rose old new
-MetAfter (Err NoMemory) old new = new ≡ old

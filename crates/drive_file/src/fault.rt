@@ -1,7 +1,7 @@
 //! Why a folder can't be opened as a drive.
 
+use drive_base::DriveFault;
 use std::alloc::{AllocError, AllocFailed};
-use std::io::{self, ErrorKind};
 use thiserror::Error;
 
 /// Why a folder can't be opened as a drive.
@@ -27,12 +27,11 @@ impl<T: Drop> From<AllocFailed<T>> for FileFault {
     }
 }
 
-impl From<io::Error> for FileFault {
-    fn from(error: io::Error) -> FileFault {
-        if error.kind() == ErrorKind::OutOfMemory {
-            FileFault::NoMemory
-        } else {
-            FileFault::Failed
+impl From<DriveFault> for FileFault {
+    fn from(fault: DriveFault) -> FileFault {
+        match fault {
+            DriveFault::NoMemory => FileFault::NoMemory,
+            DriveFault::Absent | DriveFault::Failed => FileFault::Failed,
         }
     }
 }

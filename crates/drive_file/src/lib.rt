@@ -16,18 +16,27 @@
 //! was shared, by which a holder of many ways says which drive each of them leads to. [`RootLock`] keeps a second process out of
 //! a folder.
 //!
-//! It is proved that each call meets the trait `Drive`, how a call changes the names that a drive over a folder knows, how a name
-//! is spelled, and that a lost or closed drive fails each call. What the system does with a file no contract can say: that is
-//! tested on real folders, with each call of the system failing in turn, and `tools/check_durable.sh` shows each fsync. A
-//! drive over a folder and a shared one tell nothing.
+//! Below a drive over a folder stands the trait [`Folder`], the calls on paths that a drive makes, each told with its answer. What
+//! is trusted is [`SystemFolder`], which passes them on to the system.
+//!
+//! It is proved that each call meets the trait `Drive`, how a call changes the names that a drive over a folder knows, which calls
+//! of its folder it makes, and that its answer is theirs, how a name is spelled, and that a lost or closed drive fails each call.
+//! What the system does with a file no contract can say: that is tested on real folders, with each call of the system failing in
+//! turn, and `tools/check_durable.sh` shows each fsync. A drive over a folder and a shared one tell nothing of what they hold.
+//! They tell each call that was made of them, and what it answered; each way tells its own.
 //!
 //! The crate stands on `drive_base`, which has the trait and the listing of names, on `fault_base`, which says when a count rose,
 //! and on the kit's `core`, `hex` and `thiserror`; two lemmas on `drive_memory`.
 #![tactic(auto)]
 
-mod calls;
+mod answers;
+mod asking;
+mod counting;
 mod drive;
 mod fault;
+mod files;
+mod folder;
+mod folder_trail;
 mod folders;
 mod lock;
 mod names;
@@ -36,10 +45,13 @@ mod paths;
 mod root_lock;
 mod share;
 mod shared;
+mod system;
 
 pub use drive::FileDrive;
 pub use fault::FileFault;
+pub use folder::Folder;
 pub use paths::spelling_laws;
 pub use root_lock::{LockFault, RootLock};
 pub use share::Share;
 pub use shared::SharedDrive;
+pub use system::SystemFolder;

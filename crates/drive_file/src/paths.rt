@@ -1,8 +1,8 @@
 //! The paths of files: how a name is spelled below a folder.
 
-ghost use Rattle.std.specs.Prelude.{◌≡◌, Some, None, IfOk, string_bytes};
+ghost use Rattle.std.specs.Prelude.{◌≡◌, IfOk, map, string_bytes};
 ghost use Rattle.std.specs.Option.{IfSome};
-ghost use Rattle.drive_file.specs.Paths.{spelled, SpellingsDiffer};
+ghost use Rattle.drive_file.specs.Paths.{inner_folders, path_below, path_in, spelled, SpellingsDiffer};
 
 use hex::FromHexError;
 use std::alloc::{AllocError, Global};
@@ -12,6 +12,12 @@ const GROUP: usize = 100;
 
 /// What ends a group that isn't the last: it is a folder.
 const NEXT_GROUP: &str = "_/";
+
+/// What stands after the digits of a group's folder.
+const GROUP_END: &str = "_";
+
+/// What stands between a folder and what is in it.
+const SLASH: &str = "/";
 
 /// The spelling of a name: its bytes as lower-case hex digits, cut into groups of 200. Each group but the last is a folder,
 /// with `_` after its digits, and the last is the file. So no file stands where a folder of another name does.
@@ -36,17 +42,40 @@ pub fn spelling_laws()
 {}
 
 /// The path of what has this spelling below a folder.
-pub(crate) fn below(alloc: Global, folder: &str, spelling: &str) -> Result<String, AllocError> {
+pub(crate) fn below(alloc: Global, folder: &str, spelling: &str) -> Result<String, AllocError>
+    ensures { IfOk result (λ path. string_bytes path ≡ path_below folder.now spelling.now) }
+{
     let mut path = String::from_str(alloc, folder)?;
-    path.push('/')?;
+    path.push_str(SLASH)?;
     path.push_str(spelling)?;
     Ok(path)
 }
 
 /// The path of the file of a name below a folder.
-pub(crate) fn path_of(alloc: Global, folder: &str, name: &str) -> Result<String, AllocError> {
+pub(crate) fn path_of(alloc: Global, folder: &str, name: &str) -> Result<String, AllocError>
+    ensures { IfOk result (λ path. string_bytes path ≡ path_in folder.now name.now) }
+{
     let spelling = spelling(alloc, name)?;
     below(alloc, folder, spelling.as_str())
+}
+
+/// The folders between a folder and the file of a name below it, the outermost first.
+pub(crate) fn folders_of(alloc: Global, folder: &str, name: &str) -> Result<Vec<String>, AllocError>
+    ensures { IfOk result (λ folders. map string_bytes folders.items ≡ inner_folders folder.now name.now) }
+{
+    let mut folders = Vec::new(alloc);
+    let mut text = String::from_str(alloc, folder)?;
+    text.push_str(SLASH)?;
+    let mut rest = name.as_bytes();
+    while rest.len() > GROUP {
+        let (group, after) = rest.split_at(GROUP);
+        text.push_str(hex::encode(alloc, group)?.as_str())?;
+        text.push_str(GROUP_END)?;
+        folders.push(String::from_str(alloc, text.as_str())?)?;
+        text.push_str(SLASH)?;
+        rest = after;
+    }
+    Ok(folders)
 }
 
 /// Whether a folder's name is that of a group, not the last.

@@ -1,6 +1,6 @@
 //! The trait of drives that can be shared.
 
-ghost use Rattle.std.specs.Prelude.{◌≡◌, ◌⊎◌, false, IfOk, IsErr, IsTrue, OnErr, OnOk, Option};
+ghost use Rattle.std.specs.Prelude.{◌≡◌, ◌⊎◌, false, IfOk, IsErr, IsTrue, OnErr, OnOk, Option, []};
 ghost use Rattle.drive_file.specs.SharedDrive.{way_root};
 
 use crate::SharedDrive;
@@ -25,13 +25,15 @@ pub trait Share: Drive + Sized {
         ensures tells { OnOk result (Self.tells self.new ≡ false) }
         ensures count { OnOk result (Self.count self.new ≡ 0) }
         ensures stays { OnErr result (self.new ≡ self.old) }
-        ensures root { root self.new ≡ root self.old };
+        ensures root { root self.new ≡ root self.old }
+        ensures trail { Self.trail self.new ≡ Self.trail self.old };
 
     /// One more way to the same drive, of the same root, for another thread. It tells nothing, and has met no fault yet.
     /// `NoMemory` where none was found for it, and of a drive that is not shared, as one that tells is not.
     fn again(&self) -> Result<Self, NoMemory>
         ensures tells { IfOk result (λ way. Self.tells way ≡ false) }
         ensures count { IfOk result (λ way. Self.count way ≡ 0) }
+        ensures trail { IfOk result (λ way. Self.trail way ≡ []) }
         ensures refused { IsTrue (Self.tells self.now) → IsErr result }
         ensures root { IfOk result (λ way. root way ≡ root self.now) };
 }

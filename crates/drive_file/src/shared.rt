@@ -1,14 +1,15 @@
 //! A drive that several threads share.
 
-ghost use Rattle.std.specs.Prelude.{◌≡◌, false, IfErr, IfOk, IsErr, OnErr, OnOk, Some};
+ghost use Rattle.std.specs.Prelude.{◌≡◌, false, [], IfErr, IfOk, IsErr, OnErr, OnOk, Some};
 ghost use Rattle.drive_base.specs.Files.{no_files};
-ghost use Rattle.drive_file.specs.SharedDrive.{MetAfter, Shares, way_shared, way_tells, way_files, way_count, way_root};
+ghost use Rattle.drive_file.specs.SharedDrive.{Shares, way_shared, way_tells, way_files, way_count, way_root};
 
 use crate::Share;
+use crate::counting::faults_after;
 use crate::lock::Lock;
 use core::mem::replace_with;
-use drive_base::{Drive, DriveFault};
-use fault_base::{NoMemory, count_after};
+use drive_base::{Before, Drive, DriveFault, Trail};
+use fault_base::NoMemory;
 use std::alloc::Global;
 use std::sync::Wait;
 
@@ -34,6 +35,8 @@ pub struct SharedDrive<R, D> {
     pub(crate) way: Way<D>,
     /// The faults that this way met, where it is shared.
     pub(crate) met: u64,
+    /// The calls that were made through this way.
+    pub(crate) trail: Trail,
 }
 
 impl<R: Wait + Clone + Drop, D: Drive + Drop> SharedDrive<R, D> {
@@ -42,6 +45,7 @@ impl<R: Wait + Clone + Drop, D: Drive + Drop> SharedDrive<R, D> {
         ensures back { IfErr result (λ back. back ≡ drive) }
         ensures tells { IfOk result (λ shared. ⟦<SharedDrive<R, D> as Drive>⟧.tells shared ≡ false) }
         ensures count { IfOk result (λ shared. ⟦<SharedDrive<R, D> as Drive>⟧.count shared ≡ 0) }
+        ensures trail { IfOk result (λ shared. ⟦<SharedDrive<R, D> as Drive>⟧.trail shared ≡ []) }
         ensures root { IfOk result (λ shared. ⟦<SharedDrive<R, D> as Share>⟧.root shared ≡ Some drive) }
     {
         let lock = Lock::new(alloc, drive)?;
@@ -49,6 +53,7 @@ impl<R: Wait + Clone + Drop, D: Drive + Drop> SharedDrive<R, D> {
             rt,
             way: Way::Shared(lock),
             met: 0,
+            trail: Trail::new(),
         })
     }
 
@@ -58,12 +63,14 @@ impl<R: Wait + Clone + Drop, D: Drive + Drop> SharedDrive<R, D> {
         ensures tells { ⟦<SharedDrive<R, D> as Drive>⟧.tells result ≡ D.tells drive }
         ensures files { ⟦<SharedDrive<R, D> as Drive>⟧.files result ≡ D.files drive }
         ensures count { ⟦<SharedDrive<R, D> as Drive>⟧.count result ≡ D.count drive }
+        ensures trail { ⟦<SharedDrive<R, D> as Drive>⟧.trail result ≡ [] }
         ensures root { ⟦<SharedDrive<R, D> as Share>⟧.root result ≡ Some drive }
     {
         SharedDrive {
             rt,
             way: Way::Alone(drive),
             met: 0,
+            trail: Trail::new(),
         }
     }
 
@@ -73,6 +80,7 @@ impl<R: Wait + Clone + Drop, D: Drive + Drop> SharedDrive<R, D> {
         ensures alone { way_shared self.now.way ≡ false → IsErr result }
         ensures tells { IfOk result (λ shared. ⟦<SharedDrive<R, D> as Drive>⟧.tells shared ≡ false) }
         ensures count { IfOk result (λ shared. ⟦<SharedDrive<R, D> as Drive>⟧.count shared ≡ 0) }
+        ensures trail { IfOk result (λ shared. ⟦<SharedDrive<R, D> as Drive>⟧.trail shared ≡ []) }
         ensures root { IfOk result (λ shared. ⟦<SharedDrive<R, D> as Share>⟧.root shared
             ≡ ⟦<SharedDrive<R, D> as Share>⟧.root self.now) }
     {
@@ -84,6 +92,7 @@ impl<R: Wait + Clone + Drop, D: Drive + Drop> SharedDrive<R, D> {
             rt: self.rt.clone()?,
             way: Way::Shared(lock),
             met: 0,
+            trail: Trail::new(),
         })
     }
 
@@ -96,6 +105,7 @@ impl<R: Wait + Clone + Drop, D: Drive + Drop> SharedDrive<R, D> {
         ensures files { OnOk result (⟦<SharedDrive<R, D> as Drive>⟧.files self.new ≡ no_files) }
         ensures count { OnOk result (⟦<SharedDrive<R, D> as Drive>⟧.count self.new ≡ 0) }
         ensures root { ⟦<SharedDrive<R, D> as Share>⟧.root self.new ≡ ⟦<SharedDrive<R, D> as Share>⟧.root self.old }
+        ensures trail { ⟦<SharedDrive<R, D> as Drive>⟧.trail self.new ≡ ⟦<SharedDrive<R, D> as Drive>⟧.trail self.old }
     {
         replace_with(&mut self.way, alloc, shared_way)?;
         self.met = 0;
@@ -117,17 +127,7 @@ fn shared_way<D: Drop>(way: Way<D>, alloc: Global) -> (Way<D>, Result<(), NoMemo
     }
 }
 
-/// How many faults a way met, after one more call that answered so.
-fn met_after<T>(met: u64, answer: &Result<T, DriveFault>) -> u64
-    ensures { MetAfter answer.now met result }
-{
-    match answer {
-        Err(DriveFault::Failed) => count_after(met),
-        _ => met,
-    }
-}
-
-#[tactic(auto, using(crate::proofs::MetLemmas::counts_met, crate::proofs::MetLemmas::appends_met, crate::proofs::MetLemmas::names_met))]
+#[tactic(auto, using(crate::proofs::CountLemmas::counts_met, crate::proofs::CountLemmas::appends_met, crate::proofs::CountLemmas::names_met))]
 impl<R: Wait + Clone + Drop, D: Drive + Drop> Drive for SharedDrive<R, D> {
     ghost tells = { λ shared. way_tells D.tells shared.way };
 
@@ -135,92 +135,111 @@ impl<R: Wait + Clone + Drop, D: Drive + Drop> Drive for SharedDrive<R, D> {
 
     ghost count = { λ shared. way_count D.count shared.way shared.met };
 
+    ghost trail = { λ shared. shared.trail };
+
     fn size(&mut self, name: &str) -> Result<u64, DriveFault> {
-        match &mut self.way {
+        let answer = match &mut self.way {
             Way::Alone(drive) => drive.size(name),
             Way::Shared(lock) => {
                 let answer = lock.lock(&self.rt).size(name);
-                self.met = met_after(self.met, &answer);
+                self.met = faults_after(self.met, &answer);
                 answer
             }
-        }
+        };
+        self.trail.size(name, &answer);
+        answer
     }
 
     fn read(&mut self, name: &str, at: u64, into: &mut [u8]) -> Result<usize, DriveFault> {
-        match &mut self.way {
+        let before = Before::of(into);
+        let answer = match &mut self.way {
             Way::Alone(drive) => drive.read(name, at, into),
             Way::Shared(lock) => {
                 let answer = lock.lock(&self.rt).read(name, at, into);
-                self.met = met_after(self.met, &answer);
+                self.met = faults_after(self.met, &answer);
                 answer
             }
-        }
+        };
+        self.trail.read(name, at, &before, &answer, into);
+        answer
     }
 
     fn append(&mut self, loose: &str, bytes: &[u8]) -> Result<(), DriveFault> {
-        match &mut self.way {
+        let answer = match &mut self.way {
             Way::Alone(drive) => drive.append(loose, bytes),
             Way::Shared(lock) => {
                 let answer = lock.lock(&self.rt).append(loose, bytes);
-                self.met = met_after(self.met, &answer);
+                self.met = faults_after(self.met, &answer);
                 answer
             }
-        }
+        };
+        self.trail.append(loose, bytes, &answer);
+        answer
     }
 
     fn sync(&mut self, loose: &str) -> Result<(), DriveFault> {
-        match &mut self.way {
+        let answer = match &mut self.way {
             Way::Alone(drive) => drive.sync(loose),
             Way::Shared(lock) => {
                 let answer = lock.lock(&self.rt).sync(loose);
-                self.met = met_after(self.met, &answer);
+                self.met = faults_after(self.met, &answer);
                 answer
             }
-        }
+        };
+        self.trail.sync(loose, &answer);
+        answer
     }
 
     fn rename(&mut self, loose: &str, name: &str) -> Result<(), DriveFault> {
-        match &mut self.way {
+        let answer = match &mut self.way {
             Way::Alone(drive) => drive.rename(loose, name),
             Way::Shared(lock) => {
                 let answer = lock.lock(&self.rt).rename(loose, name);
-                self.met = met_after(self.met, &answer);
+                self.met = faults_after(self.met, &answer);
                 answer
             }
-        }
+        };
+        self.trail.rename(loose, name, &answer);
+        answer
     }
 
     fn discard(&mut self, loose: &str) -> Result<(), DriveFault> {
-        match &mut self.way {
+        let answer = match &mut self.way {
             Way::Alone(drive) => drive.discard(loose),
             Way::Shared(lock) => {
                 let answer = lock.lock(&self.rt).discard(loose);
-                self.met = met_after(self.met, &answer);
+                self.met = faults_after(self.met, &answer);
                 answer
             }
-        }
+        };
+        self.trail.discard(loose, &answer);
+        answer
     }
 
     fn remove(&mut self, name: &str) -> Result<(), DriveFault> {
-        match &mut self.way {
+        let answer = match &mut self.way {
             Way::Alone(drive) => drive.remove(name),
             Way::Shared(lock) => {
                 let answer = lock.lock(&self.rt).remove(name);
-                self.met = met_after(self.met, &answer);
+                self.met = faults_after(self.met, &answer);
                 answer
             }
-        }
+        };
+        self.trail.remove(name, &answer);
+        answer
     }
 
     fn names(&mut self, alloc: Global, from: &str, most: u32) -> Result<Vec<String>, DriveFault> {
-        match &mut self.way {
+        let answer = match &mut self.way {
             Way::Alone(drive) => drive.names(alloc, from, most),
             Way::Shared(lock) => {
                 let answer = lock.lock(&self.rt).names(alloc, from, most);
-                self.met = met_after(self.met, &answer);
+                self.met = faults_after(self.met, &answer);
                 answer
             }
-        }
+        };
+        self.trail.names(from, most, &answer);
+        answer
     }
 
     fn faults(&self) -> u64 {

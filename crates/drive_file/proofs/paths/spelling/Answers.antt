@@ -1,6 +1,4 @@
-use Rattle.std.proofs.Common.{◌≡◌, ℕ, List, subst, ◌≤◌, ◌++◌, length, ◌<◌, sym, ap, ◌∙◌, arith, string_bytes, take, drop}
-use Rattle.hex.specs.Hex.{encode_lower}
-use Rattle.drive_file.specs.Paths.{next_group, spelled, spelled_within}
+use Rattle.std.proofs.Common.{ℕ, List, subst, ◌≤◌, length, ◌<◌, sym, arith, string_bytes}
 use Rattle.drive_file.proofs.PathLemmas.{cut_group, last_group}
 use Rattle.drive_file.proofs.paths.spelling.Goals as goal
 

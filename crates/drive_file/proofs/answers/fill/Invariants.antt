@@ -1,5 +1,5 @@
-use Rattle.std.proofs.Common.{length, ◌-◌, ◌≤◌, ◌≡◌, ℕ}
-use Rattle.drive_file.proofs.calls.fill.Given as goal
+use Rattle.std.proofs.Common.{length, ◌≤◌, ◌≡◌}
+use Rattle.drive_file.proofs.answers.fill.Given as goal
 
 -- the count is within the buffer, which has its length
 abbrev pub invariant-loop : goal.invariant-loop
