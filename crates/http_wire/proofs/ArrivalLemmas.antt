@@ -1,22 +1,21 @@
 -- Pieces that come one after the other.
 use Rattle.std.proofs.Common.{◌≡◌, ℕ, ◌<◌, List, [], ◌∷◌, ◌++◌, length, take, drop, inl, inr, refl, sym, ap, ◌∙◌, subst, arith, append_assoc, append-nil, length-append, length-take, take-append-drop}
-use Rattle.std.specs.Prelude.{Option}
 use Rattle.std.proofs.lemmas.List.{take_all, drop_at}
 use Rattle.fault_base.specs.Counts.{Rose}
-use Rattle.io_base.proofs.Taking.{prepend_known-nil, prepend_known-joined}
 use Rattle.httparse.specs.Grammar.{RequestHead, print_request}
 use Rattle.http_wire.specs.Heads.{BeginsHead, IsOpen}
 use Rattle.http_wire.specs.Parts.{HeadParts, parts_of}
 use Rattle.http_wire.specs.Framing.{SaysLength, SaysNoLength, IsChunked}
-use Rattle.http_wire.specs.Taking.{CameBehind}
+use Rattle.http_wire.specs.Taking.{CameBehind, SourceView, TakenNone}
 use Rattle.http_wire.specs.Answers.{Came, HasNoLength, HasChunks}
+use Rattle.http_wire.proofs.SourceLemmas.{taken_both, taken_none, taken_still}
 
 -- nothing came yet
-pub came_none : (before : List ℕ) (left : Option (List ℕ)) → Came before before left left
-came_none before left = record {
+pub came_none : (before : List ℕ) (source : SourceView) → Came before before source source
+came_none before source = record {
   piece = [];
   text_is = sym (append-nil before);
-  left_is = prepend_known-nil left;
+  took = taken_none source;
   asked = inl refl;
 }
 
@@ -28,12 +27,12 @@ pub open_whole : (text : List ℕ) → IsOpen (take 65536 text) → IsOpen text
 open_whole text is_open = subst IsOpen (take_all 65536 text (omega (arith, open_short text is_open))) is_open
 
 -- one piece more came behind what was open
-pub came_more : (before mid text : List ℕ) (left between_left after : Option (List ℕ)) (n : ℕ) → Came before mid left between_left
-    → IsOpen (take 65536 mid) → CameBehind n mid text between_left after → Came before text left after
-came_more before mid text left between_left after n came is_open behind = record {
+pub came_more : (before mid text : List ℕ) (source between after : SourceView) (n : ℕ) → Came before mid source between
+    → IsOpen (take 65536 mid) → CameBehind n mid text between after → Came before text source after
+came_more before mid text source between after n came is_open behind = record {
   piece = came.piece ++ behind.piece;
   text_is = behind.new_is ∙ ap (λ (t : List ℕ). t ++ behind.piece) came.text_is ∙ append_assoc before came.piece behind.piece;
-  left_is = prepend_known-joined left between_left after came.piece behind.piece came.left_is behind.left_is;
+  took = taken_both came.piece behind.piece source between after came.took behind.took;
   asked = inr (record {
     asked = mid;
     last = behind.piece;
@@ -44,20 +43,24 @@ came_more before mid text left between_left after n came is_open behind = record
   });
 }
 
--- nothing changed
-pub came_still : (before mid text : List ℕ) (left between_left after : Option (List ℕ)) → Came before mid left between_left
-    → text ≡ mid → after ≡ between_left → Came before text left after
-came_still before mid text left between_left after came same still =
-    subst (λ (t : List ℕ). Came before t left after) (sym same)
-    (subst (λ (o : Option (List ℕ)). Came before mid left o) (sym still) came)
+-- nothing was taken
+pub came_still : (before mid text : List ℕ) (source between after : SourceView) → Came before mid source between
+    → text ≡ mid → TakenNone between after → Came before text source after
+came_still before mid text source between after came same still =
+    subst (λ (t : List ℕ). Came before t source after) (sym same) (record {
+      piece = came.piece;
+      text_is = came.text_is;
+      took = taken_still came.piece source between after came.took still;
+      asked = came.asked;
+    })
 
 -- a count that rose since, and stood until then
 pub rose_since : (first mid last : ℕ) → mid ≡ first → Rose mid last → Rose first last
 rose_since first mid last same rose = subst (λ (n : ℕ). Rose n last) same rose
 
 -- no byte came
-pub came_nothing : (mid text : List ℕ) (between_left after : Option (List ℕ)) → CameBehind 0 mid text between_left after → text ≡ mid
-came_nothing mid text between_left after behind =
+pub came_nothing : (mid text : List ℕ) (between after : SourceView) → CameBehind 0 mid text between after → text ≡ mid
+came_nothing mid text between after behind =
     behind.new_is ∙ ap (λ (t : List ℕ). mid ++ t) (no_bytes behind.piece behind.size) ∙ append-nil mid
   where
     no_bytes : (piece : List ℕ) → length piece ≡ 0 → piece ≡ []

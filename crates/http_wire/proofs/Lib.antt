@@ -1,3 +1,4 @@
+pub mod SourceLemmas
 mod FeedLemmas
 mod LineLemmas
 mod LimitLemmas

@@ -1,11 +1,9 @@
 -- Slices of a room, side by side.
 use Rattle.std.proofs.Common.{◌≡◌, ℕ, ◌+◌, ◌-◌, ◌≤◌, List, ◌++◌, length, take, drop, slice_range, sym, ap, ◌∙◌, arith, take-append-drop, drop-drop}
-use Rattle.std.specs.Prelude.{Option}
-use Rattle.std.specs.Io.KnownBytes.{prepend_known, IsAtEnd}
 use Rattle.std.proofs.lemmas.List.{take-take, drop-take}
 use Rattle.std.proofs.lemmas.List.Edits.{length-between}
 use Rattle.std.proofs.lemmas.Slice.{between_is}
-use Rattle.http_wire.specs.Taking.{CameBehind}
+use Rattle.http_wire.specs.Taking.{CameBehind, HasEnded, SourceView, Taken}
 
 -- a slice without its first n bytes
 pub slice_passed : (xs : List ℕ) (i j n : ℕ) → i + n ≤ j → slice_range xs (i + n) j ≡ drop n (slice_range xs i j)
@@ -31,13 +29,13 @@ slice_same : (xs ys : List ℕ) (i j : ℕ) → take j ys ≡ take j xs → slic
 slice_same xs ys i j same = between_is ys i j ∙ ap (drop i) same ∙ sym (between_is xs i j)
 
 -- a piece was taken behind what stood in the room
-pub piece_behind : (old xs ys : List ℕ) (i j n : ℕ) (left after : Option (List ℕ)) → slice_range xs i j ≡ old → i ≤ j
-    → take j ys ≡ take j xs → j + n ≤ length ys → n ≤ 65536 → left ≡ prepend_known (slice_range ys j (j + n)) after
-    → (n ≡ 0 → IsAtEnd after) → CameBehind n old (slice_range ys i (j + n)) left after
-piece_behind old xs ys i j n left after held ordered same fits most left_is ends = record {
+pub piece_behind : (old xs ys : List ℕ) (i j n : ℕ) (source after : SourceView) → slice_range xs i j ≡ old → i ≤ j
+    → take j ys ≡ take j xs → j + n ≤ length ys → n ≤ 65536 → Taken (slice_range ys j (j + n)) source after
+    → (n ≡ 0 → HasEnded after) → CameBehind n old (slice_range ys i (j + n)) source after
+piece_behind old xs ys i j n source after held ordered same fits most took ends = record {
   piece = slice_range ys j (j + n);
   new_is = slice_joined ys i j (j + n) ordered (omega arith) ∙ ap (λ (t : List ℕ). t ++ slice_range ys j (j + n)) (slice_same xs ys i j same ∙ held);
-  left_is = left_is;
+  took = took;
   size = length-between ys j (j + n) fits ∙ omega arith;
   most = most;
   ends = ends;

@@ -1,6 +1,5 @@
 -- What `next_head` and `body` answer.
 use Rattle.std.specs.Prelude.{◌≡◌, ◌-◌, ◌<◌, ◌≤◌, ◌⊎◌, ℕ, List, [], ◌++◌, length, take, drop, Option, Some, None, Result, Ok, Err}
-use Rattle.std.specs.Io.KnownBytes.{prepend_known, IsAtEnd}
 use Rattle.fault_base.specs.Counts.{Rose}
 use Rattle.httparse.specs.Grammar.{RequestHead}
 use Rattle.httparse.specs.declared.spans.HeaderSpan.{HeaderSpan}
@@ -16,7 +15,7 @@ use Rattle.http_wire.specs.declared.reading.Reading.TheVariants as reading
 use Rattle.http_wire.specs.Heads.{most_bytes, BeginsHead, IsOpen, IsBad, IsTooLong, IsJudged}
 use Rattle.http_wire.specs.Framing.{SaysLength, SaysNoLength, IsChunked}
 use Rattle.http_wire.specs.Parts.{HeadParts, parts_of}
-use Rattle.http_wire.specs.Taking.{CameBehind}
+use Rattle.http_wire.specs.Taking.{CameBehind, HasEnded, SourceView, Taken, TakenNone}
 
 -- the last bytes of the text came in one piece, when those before it were open
 pub record LastPiece (before text : List ℕ) : Type 0 where
@@ -28,32 +27,32 @@ pub record LastPiece (before text : List ℕ) : Type 0 where
   pub most : length last ≤ most_bytes
 
 -- the text is what waited and what came behind it, and it came only because what was there before did not decide
-pub record Came (before text : List ℕ) (left after : Option (List ℕ)) : Type 0 where
+pub record Came (before text : List ℕ) (source after : SourceView) : Type 0 where
   pub piece : List ℕ
   pub text_is : text ≡ before ++ piece
-  pub left_is : left ≡ prepend_known piece after
+  pub took : Taken piece source after
   pub asked : (piece ≡ []) ⊎ LastPiece before text
 
--- what one take comes to: before and after it what waits, what is left of the source, and the count of faults
-abbrev pub TakesPiece : Piece → (old new : List ℕ) (left after : Option (List ℕ)) (faults faults_after : ℕ) → Type 0
-TakesPiece taken.Came old new left after faults faults_after =
-    (n : ℕ) × CameBehind n old new left after × (0 < n) × (faults_after ≡ faults)
-TakesPiece taken.Ended old new left after faults faults_after =
-    CameBehind 0 old new left after × (faults_after ≡ faults)
-TakesPiece taken.Failed old new left after faults faults_after =
-    (new ≡ old) × (after ≡ left) × Rose faults faults_after
+-- what one take comes to: before and after it what waits, what is seen of the source, and the count of faults
+abbrev pub TakesPiece : Piece → (old new : List ℕ) (source after : SourceView) (faults faults_after : ℕ) → Type 0
+TakesPiece taken.Came old new source after faults faults_after =
+    (n : ℕ) × CameBehind n old new source after × (0 < n) × (faults_after ≡ faults)
+TakesPiece taken.Ended old new source after faults faults_after =
+    CameBehind 0 old new source after × (faults_after ≡ faults)
+TakesPiece taken.Failed old new source after faults faults_after =
+    (new ≡ old) × TakenNone source after × Rose faults faults_after
 
 -- what decides of a text
 abbrev pub ahead : List ℕ → List ℕ
 ahead text = take most_bytes text
 
--- why no more was taken: old and new are the counts of faults, after is what is left of the source
-abbrev pub Arrives : Arrival → List ℕ → List HeaderSpan → Option (List ℕ) → ℕ → ℕ → Type 0
+-- why no more was taken: old and new are the counts of faults, after is what is seen of the source then
+abbrev pub Arrives : Arrival → List ℕ → List HeaderSpan → SourceView → ℕ → ℕ → Type 0
 Arrives (arrival.Whole spans) text headers after old new =
     IsJudged (ahead text) headers (judged.Whole spans) × (new ≡ old)
 Arrives arrival.Bad text headers after old new = IsBad (ahead text) × (new ≡ old)
 Arrives arrival.Long text headers after old new = IsTooLong (ahead text) × (new ≡ old)
-Arrives arrival.Ended text headers after old new = IsOpen text × IsAtEnd after × (new ≡ old)
+Arrives arrival.Ended text headers after old new = IsOpen text × HasEnded after × (new ≡ old)
 Arrives arrival.Failed text headers after old new = IsOpen text × Rose old new
 
 -- a wire: the bytes that came and wait, the stated length of the last head's body, how much of it was not read yet,
@@ -95,13 +94,13 @@ pub record HasChunks (text : List ℕ) : Type 0 where
   pub says : SaysLength (parts_of tree).lines stated
   pub chunked : IsChunked (parts_of tree).lines
 
--- why a head is refused: old and new are the counts of faults, after is what is left of the source
-abbrev pub Refuses : WireFault → List ℕ → Option (List ℕ) → ℕ → ℕ → Type 0
+-- why a head is refused: old and new are the counts of faults, after is what is seen of the source then
+abbrev pub Refuses : WireFault → List ℕ → SourceView → ℕ → ℕ → Type 0
 Refuses BadHead text after old new = (IsBad (ahead text) ⊎ HasNoLength text) × (new ≡ old)
 Refuses HeadTooLong text after old new = IsTooLong (ahead text) × (new ≡ old)
 Refuses ChunkedBody text after old new = HasChunks text × (new ≡ old)
 Refuses (BodyCut read stated) text after old new =
-    IsOpen text × IsAtEnd after × (0 < length text) × (read ≡ length text) × (stated ≡ 0) × (new ≡ old)
+    IsOpen text × HasEnded after × (0 < length text) × (read ≡ length text) × (stated ≡ 0) × (new ≡ old)
 Refuses ReadFault text after old new = IsOpen text × Rose old new
 Refuses NoMemory text after old new = new ≡ old
 
@@ -120,19 +119,19 @@ EndsAfter (reading.Whole head n) waiting = ⊥
 EndsAfter reading.End waiting = waiting ≡ 0
 EndsAfter (reading.Refused fault) waiting = (fault ≡ BodyCut waiting 0) × (0 < waiting)
 
--- what the text that came comes to: after is what is left of the source
-abbrev pub Decides : Reading → (text waits : List ℕ) → Option (List ℕ) → (faults faults_after : ℕ) → Type 0
+-- what the text that came comes to: after is what is seen of the source then
+abbrev pub Decides : Reading → (text waits : List ℕ) → SourceView → (faults faults_after : ℕ) → Type 0
 Decides (reading.Whole head n) text waits after faults faults_after = GivesHead head n text waits × (faults_after ≡ faults)
 Decides reading.End text waits after faults faults_after =
-    (text ≡ []) × (waits ≡ []) × IsAtEnd after × (faults_after ≡ faults)
+    (text ≡ []) × (waits ≡ []) × HasEnded after × (faults_after ≡ faults)
 Decides (reading.Refused fault) text waits after faults faults_after =
     Refuses fault text after faults faults_after × (waits ≡ text)
 
 -- what was read, of the bytes that waited and those that were taken
 pub record ReadsNext
-    (result : Reading) (before waits : List ℕ) (left after : Option (List ℕ)) (faults faults_after : ℕ) : Type 0 where
+    (result : Reading) (before waits : List ℕ) (source after : SourceView) (faults faults_after : ℕ) : Type 0 where
   pub text : List ℕ
-  pub came : Came before text left after
+  pub came : Came before text source after
   pub decides : Decides result text waits after faults faults_after
 
 -- the wire after a head, after the end, and after a refusal
@@ -143,38 +142,39 @@ Leaves (Ok None) new Reads = Reads reading.End × (new.body_left ≡ 0) × (new.
 Leaves (Err fault) new Reads = Reads (reading.Refused fault) × (new.body_left ≡ 0) × (new.refused ≡ Some fault)
 
 -- what `next_head` answers of a wire that has refused nothing
-abbrev pub Answers : Result (Option HeadParts) WireFault → List ℕ → (left after : Option (List ℕ)) → Wired → (faults faults_after : ℕ) → Type 0
-Answers result before left after new faults faults_after =
-    Leaves result new (λ reads. ReadsNext reads before new.waits left after faults faults_after)
+abbrev pub Answers : Result (Option HeadParts) WireFault → List ℕ → (source after : SourceView) → Wired → (faults faults_after : ℕ) → Type 0
+Answers result before source after new faults faults_after =
+    Leaves result new (λ reads. ReadsNext reads before new.waits source after faults faults_after)
 
 -- n bytes were brought to the front of the buffer: of those that waited, or where none did by one take
 pub record BringsFront
-    (n : ℕ) (into old new : List ℕ) (left after : Option (List ℕ)) (faults faults_after : ℕ) : Type 0 where
+    (n : ℕ) (into old new : List ℕ) (source after : SourceView) (faults faults_after : ℕ) : Type 0 where
   pub fits : n ≤ length into
   pub piece : List ℕ
   pub joined : old ++ piece ≡ take n into ++ new
-  pub left_is : left ≡ prepend_known piece after
+  pub took : Taken piece source after
   pub asked : (piece ≡ []) ⊎ ((old ≡ []) × (piece ≡ take n into))
-  pub ends : n ≡ 0 → (old ≡ []) × (new ≡ []) × IsAtEnd after
+  pub ends : n ≡ 0 → (old ≡ []) × (new ≡ []) × HasEnded after
   pub counted : faults_after ≡ faults
 
 -- what `bring` does
-abbrev pub Brings : {E : Type 0} → Result ℕ E → (into old new : List ℕ) (left after : Option (List ℕ)) (faults faults_after : ℕ) → Type 0
-Brings (Ok n) into old new left after faults faults_after = BringsFront n into old new left after faults faults_after
-Brings (Err _) into old new left after faults faults_after =
-    (old ≡ []) × (new ≡ []) × (after ≡ left) × Rose faults faults_after
+abbrev pub Brings : {E : Type 0} → Result ℕ E → (into old new : List ℕ) (source after : SourceView) (faults faults_after : ℕ) → Type 0
+Brings (Ok n) into old new source after faults faults_after = BringsFront n into old new source after faults faults_after
+Brings (Err _) into old new source after faults faults_after =
+    (old ≡ []) × (new ≡ []) × TakenNone source after × Rose faults faults_after
 
 -- n bytes of the body were given, none only where there is no room or nothing of it is left
 pub record GivesPart
-    (n : ℕ) (into : List ℕ) (old new : Wired) (left after : Option (List ℕ)) (faults faults_after : ℕ) : Type 0 where
+    (n : ℕ) (into : List ℕ) (old new : Wired) (source after : SourceView) (faults faults_after : ℕ) : Type 0 where
   pub fits : n ≤ length into
   pub within : n ≤ old.body_left
   pub left_now : new.body_left ≡ old.body_left - n
   pub piece : List ℕ
   pub joined : old.waits ++ piece ≡ take n into ++ new.waits
-  pub left_is : left ≡ prepend_known piece after
+  pub took : Taken piece source after
   pub asked : (piece ≡ []) ⊎ ((old.waits ≡ []) × (piece ≡ take n into))
   pub ends : n ≡ 0 → (length into ≡ 0) ⊎ (old.body_left ≡ 0)
+  pub still : n ≡ 0 → after ≡ source
   pub stated : new.stated ≡ old.stated
   pub passes : new.refused ≡ None
   pub counted : faults_after ≡ faults
@@ -188,11 +188,11 @@ pub record CutsBody (fault : WireFault) (into : List ℕ) (old new : Wired) : Ty
   pub refused : new.refused ≡ Some fault
 
 -- what `body` answers of a wire that has refused nothing
-abbrev pub GivesBody : Result ℕ WireFault → List ℕ → Wired → Wired → Option (List ℕ) → Option (List ℕ) → ℕ → ℕ → Type 0
-GivesBody (Ok n) into old new left after faults faults_after = GivesPart n into old new left after faults faults_after
-GivesBody (Err (BodyCut read stated)) into old new left after faults faults_after =
+abbrev pub GivesBody : Result ℕ WireFault → List ℕ → Wired → Wired → SourceView → SourceView → ℕ → ℕ → Type 0
+GivesBody (Ok n) into old new source after faults faults_after = GivesPart n into old new source after faults faults_after
+GivesBody (Err (BodyCut read stated)) into old new source after faults faults_after =
     CutsBody (BodyCut read stated) into old new × (read ≡ old.stated - old.body_left) × (stated ≡ old.stated)
-    × (left ≡ after) × IsAtEnd after × (faults_after ≡ faults)
-GivesBody (Err ReadFault) into old new left after faults faults_after =
-    CutsBody ReadFault into old new × (after ≡ left) × Rose faults faults_after
-GivesBody (Err _) into old new left after faults faults_after = ⊥
+    × TakenNone source after × HasEnded after × (faults_after ≡ faults)
+GivesBody (Err ReadFault) into old new source after faults faults_after =
+    CutsBody ReadFault into old new × TakenNone source after × Rose faults faults_after
+GivesBody (Err _) into old new source after faults faults_after = ⊥

@@ -3,6 +3,7 @@
 ghost use Rattle.std.specs.Prelude.{◌≡◌, ◌<◌, length};
 ghost use Rattle.http_wire.specs.Answers.{Arrives, Came, TakesPiece};
 ghost use Rattle.http_wire.specs.Heads.{most_bytes};
+ghost use Rattle.http_wire.specs.Taking.{source_view};
 
 use crate::judging::{Judged, judge_first};
 use crate::window::Window;
@@ -32,8 +33,8 @@ pub fn await_head<S: Source>(
     source: &mut S,
 ) -> Arrival
     requires { length headers.old ≡ 64 }
-    ensures came { Came window.old window.new (S.left source.old) (S.left source.new) }
-    ensures arrives { Arrives result window.new headers.new (S.left source.new)
+    ensures came { Came window.old window.new (source_view S.Source source.old) (source_view S.Source source.new) }
+    ensures arrives { Arrives result window.new headers.new (source_view S.Source source.new)
         (S.faults source.old) (S.faults source.new) }
 {
     'pieces: loop {
@@ -65,7 +66,7 @@ enum Piece {
 /// Takes one piece from the source, behind what waits.
 fn take_piece<S: Source>(window: &mut Window, source: &mut S) -> Piece
     requires { length window.old < most_bytes }
-    ensures { TakesPiece result window.old window.new (S.left source.old) (S.left source.new)
+    ensures { TakesPiece result window.old window.new (source_view S.Source source.old) (source_view S.Source source.new)
         (S.faults source.old) (S.faults source.new) }
 {
     match window.fill(source) {

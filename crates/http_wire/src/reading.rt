@@ -3,6 +3,7 @@
 ghost use Rattle.std.specs.Prelude.{◌≡◌, ◌<◌, ◌++◌, length, take, drop, min};
 ghost use Rattle.http_wire.specs.Answers.{Brings, EndsAfter, IsHeadOf, ReadsNext, TakesHead, ahead};
 ghost use Rattle.http_wire.specs.Heads.{IsJudged};
+ghost use Rattle.http_wire.specs.Taking.{source_view};
 ghost use Rattle.http_wire.specs.declared.judging.Judged.TheVariants as judged;
 
 use crate::arrival::{Arrival, await_head};
@@ -34,7 +35,7 @@ pub fn read_head<S: Source>(
     alloc: Global,
 ) -> Reading
     requires { length headers.old ≡ 64 }
-    ensures { ReadsNext result window.old window.new (S.left source.old) (S.left source.new)
+    ensures { ReadsNext result window.old window.new (source_view S.Source source.old) (source_view S.Source source.new)
         (S.faults source.old) (S.faults source.new) }
 {
     match await_head(window, headers, source) {
@@ -99,7 +100,7 @@ pub fn bring<S: Source>(
     into: &mut [u8],
 ) -> Result<usize, IoFault>
     requires { 0 < length into.old }
-    ensures { Brings result into.new window.old window.new (S.left source.old) (S.left source.new)
+    ensures { Brings result into.new window.old window.new (source_view S.Source source.old) (source_view S.Source source.new)
         (S.faults source.old) (S.faults source.new) }
 {
     if window.bytes().is_empty() {

@@ -2,7 +2,7 @@
 
 ghost use Rattle.std.specs.Prelude.{◌≡◌, ◌+◌, ◌-◌, ◌<◌, ◌≤◌, [], length, take, drop, slice_range, IfOk, vec_len};
 ghost use Rattle.io_base.specs.Count.{CountsFault};
-ghost use Rattle.http_wire.specs.Taking.{Fills, TakesAt};
+ghost use Rattle.http_wire.specs.Taking.{Fills, TakesAt, source_view};
 ghost use Rattle.http_wire.specs.Heads.{most_bytes};
 
 use io_base::{IoFault, Source};
@@ -65,7 +65,7 @@ impl Window {
     /// ended. Where the source fails, what waits stays.
     pub fn fill<S: Source>(&mut self, source: &mut S) -> Result<usize, IoFault>
         requires { length self.old < most_bytes }
-        ensures filled { Fills result self.old self.new (S.left source.old) (S.left source.new) }
+        ensures filled { Fills result self.old self.new (source_view S.Source source.old) (source_view S.Source source.new) }
         ensures counted { CountsFault result (S.faults source.old) (S.faults source.new) }
     {
         let start = settle(&mut self.room, self.start, self.end);
@@ -100,7 +100,7 @@ fn take_behind<S: Source>(room: &mut Vec<u8>, end: usize, source: &mut S) -> Res
     requires room { vec_len room.old ≡ 131072 }
     ensures room { vec_len room.new ≡ 131072 }
     ensures front { take end room.new.items ≡ take end room.old.items }
-    ensures taken { TakesAt result end room.new.items (S.left source.old) (S.left source.new) }
+    ensures taken { TakesAt result end room.new.items (source_view S.Source source.old) (source_view S.Source source.new) }
     ensures counted { CountsFault result (S.faults source.old) (S.faults source.new) }
 {
     source.take(&mut room[end..end + PIECE])

@@ -4,6 +4,7 @@ ghost use Rattle.std.specs.Prelude.{◌≡◌, [], None, Some, Err, IfOk, IfErr}
 ghost use Rattle.http_wire.specs.Answers.{Answers, GivesBody};
 ghost use Rattle.http_wire.specs.Laws.{GivesInOrder};
 ghost use Rattle.http_wire.specs.Seen.{seen};
+ghost use Rattle.http_wire.specs.Taking.{source_view};
 
 use crate::fault::WireFault;
 use crate::head::Head;
@@ -54,8 +55,8 @@ impl<S: Source + Drop> Wire<S> {
         requires { self.old.refused ≡ None → self.old.body_left ≡ 0 }
         ensures again { (fault : WireFault) → self.old.refused ≡ Some fault
             → (result ≡ Err fault) × (self.new ≡ self.old) }
-        ensures answers { self.old.refused ≡ None → Answers result self.old.window (S.left self.old.source)
-            (S.left self.new.source) (seen self.new) (S.faults self.old.source) (S.faults self.new.source) }
+        ensures answers { self.old.refused ≡ None → Answers result self.old.window (source_view S.Source self.old.source)
+            (source_view S.Source self.new.source) (seen self.new) (S.faults self.old.source) (S.faults self.new.source) }
     {
         if let Some(fault) = self.refused {
             return Err(fault);
@@ -82,7 +83,7 @@ impl<S: Source + Drop> Wire<S> {
         ensures again { (fault : WireFault) → self.old.refused ≡ Some fault
             → (result ≡ Err fault) × (self.new ≡ self.old) × (into.new ≡ into.old) }
         ensures answers { self.old.refused ≡ None → GivesBody result into.new (seen self.old) (seen self.new)
-            (S.left self.old.source) (S.left self.new.source) (S.faults self.old.source) (S.faults self.new.source) }
+            (source_view S.Source self.old.source) (source_view S.Source self.new.source) (S.faults self.old.source) (S.faults self.new.source) }
     {
         if let Some(fault) = self.refused {
             return Err(fault);

@@ -1,14 +1,13 @@
 -- What the asking of a desk comes to where its call was cut.
-use Rattle.std.proofs.Common.{zero, suc, ◌≡◌, ◌⊎◌, inl, inr, ◌≤◌, ◌<◌, ◌+◌, ◌-◌, nat_lt, ℕ, Bool, true, IsTrue, List, [], ◌∷◌, ◌++◌, length, take, Option, Some, None, refl, sym, ap, ◌∙◌, subst, arith, append_assoc, append-nil, length-append}
-use Rattle.std.proofs.Math.Seq.{take-append-add, take-append_seam}
+use Rattle.std.proofs.Common.{zero, suc, ◌≡◌, ◌⊎◌, inl, inr, ◌≤◌, ◌<◌, ◌+◌, nat_lt, ℕ, Bool, true, List, [], ◌∷◌, ◌++◌, length, take, refl, sym, ap, ◌∙◌, subst, arith, append_assoc, append-nil}
+use Rattle.std.proofs.Math.Seq.{take-append-add}
 use Rattle.std.proofs.lemmas.Bool.{lt-ltb}
 use Rattle.std.proofs.lemmas.Grind.{flat_map-append}
 use Rattle.std.specs.List.{concat}
 use Rattle.std.specs.Prelude.{Result, Ok, Err}
-use Rattle.std.specs.Io.KnownBytes.{prepend_known, append_known, IsAtEnd}
 use Rattle.fault_base.specs.Counts.{Rose}
-use Rattle.io_base.specs.Sink.{GaveFront}
 use Rattle.http_wire.specs.Answers.{Wired}
+use Rattle.http_wire.specs.Taking.{SourceView}
 use Rattle.call_types.specs.Feeds.{Gave}
 use Rattle.call_types.specs.declared.feed.Cut.{Cut}
 use Rattle.call_types.specs.declared.feed.Cut.TheVariants.{ReadFault, BodyCut, WriteFault, ShardCut, NoMemory}
@@ -19,13 +18,18 @@ use Rattle.desk_base.specs.Calls.{stated_length}
 use Rattle.desk_base.specs.Telling.{Telling, TellsAll}
 use Rattle.desk_base.specs.declared.call.Call.{Call}
 use Rattle.desk_base.specs.declared.call.Call.TheVariants as call
-use Rattle.serve_loop.specs.Deeds.{Wires, wires, IsCutBy, IsFront, IsServed, Moved}
+use Rattle.serve_loop.specs.Deeds.{wires, IsCutBy, IsFront, IsServed}
 use Rattle.serve_loop.specs.Intakes.{feed_of, unread_of}
+use Rattle.serve_loop.specs.Sending.{Sent}
+use Rattle.serve_loop.specs.Session.{CountsSo}
 use Rattle.serve_loop.specs.Telling.{BreaksText, Replying, TakesText, Told, tale_in, text_in}
-use Rattle.serve_loop.specs.Turns.{AskCutSo, AskGoes, Asking, AsksShort, BreaksOff, Finishes, asking_text}
+use Rattle.serve_loop.specs.Turns.{AskCutSo, AskGoes, Asking, AsksShort, BreaksOff, Finishes, asking_text, end_for}
 use Rattle.serve_loop.proofs.AskLemmas.{asked_done, served_so, silent_so, taken_long, told_text}
-use Rattle.serve_loop.proofs.RestLemmas.{front_all, front_same}
-use Rattle.serve_loop.proofs.TellingLemmas.{append_both, broken, taken, takes_all}
+use Rattle.serve_loop.proofs.IntakeLemmas.{taken_of}
+use Rattle.serve_loop.proofs.MovedLemmas.{moved_of}
+use Rattle.serve_loop.proofs.RestLemmas.{front_all}
+use Rattle.serve_loop.proofs.SentLemmas.{sent_both}
+use Rattle.serve_loop.proofs.TellingLemmas.{broken, taken, takes_all}
 
 -- the result of a call that was cut
 abbrev pub failed : (R : Type 0) → Cut → Result R Cut
@@ -115,26 +119,31 @@ none_taken R call tale whys (told, pieces, less, are) = bytes_taken (length (con
 
 module _ {M R : Type 0} (answers : Task → M → M → List ℕ → List Telling → Result R Cut → Type 0) where
   -- what all cuts but those of the sink share: what was told was given in part
-  short_told : (why : Cut) (asking : Asking) (waits : Bool) (old new : M) (taken : List ℕ) (tale : List Telling) (stated stated_after : ℕ) (wire wire_after : Wired) (left after : Option (List ℕ))
+  short_told : (why : Cut) (asking : Asking) (waits : Bool) (old new : M) (taken : List ℕ) (tale : List Telling) (stated stated_after : ℕ) (wire wire_after : Wired) (source after : SourceView)
       (reads reads_after : ℕ) (told told_mid told_after : Told) (writes writes_after : ℕ)
       → asking.long ≡ wire.body_left → wire.body_left ≡ stated → wire_after.body_left ≤ stated_after
-      → Gave taken (feed_of stated wire left) (feed_of stated_after wire_after after)
+      → Gave taken (feed_of stated wire source) (feed_of stated_after wire_after after)
       → CallTells asking.call (failed R why) tale → answers (record { call = asking.call; now = asking.now }) old new taken tale (failed R why) → IsCutBy why why
       → told.held ≡ [] → (told.reply.waits ≡ true) ⊎ (asking.long ≡ 0) → (takes : TakesText (asking_text asking tale) told told_mid)
-      → told_after.given ≡ told_mid.given → reads ≤ reads_after → writes ≤ writes_after
-      → AskCutSo why asking tale taken takes.more (wires (unread_of wire left) told.given reads writes) (wires (unread_of wire_after after) told_after.given reads_after writes_after)
-      → AsksShort answers why asking old new (wires (unread_of wire left) told.given reads writes) (wires (unread_of wire_after after) told_after.given reads_after writes_after)
-  short_told why asking waits old new taken tale stated stated_after wire wire_after left after reads reads_after told told_mid told_after writes writes_after is fresh within gave whole did by none silent takes given read wrote cause =
-      let long = taken_long taken asking.long stated stated_after wire wire_after left after is fresh within gave in
+      → told_after.sink ≡ told_mid.sink → reads ≤ reads_after → writes ≤ writes_after
+      → AskCutSo why asking tale taken takes.more (wires (unread_of wire source) told.sink reads writes) (wires (unread_of wire_after after) told_after.sink reads_after writes_after)
+      → CountsSo (end_for why) (wires (unread_of wire source) told.sink reads writes) (wires (unread_of wire_after after) told_after.sink reads_after writes_after)
+      → AsksShort answers why asking old new (wires (unread_of wire source) told.sink reads writes) (wires (unread_of wire_after after) told_after.sink reads_after writes_after)
+  short_told why asking waits old new taken tale stated stated_after wire wire_after source after reads reads_after told told_mid told_after writes writes_after is fresh within gave whole did by none silent takes given read wrote cause counts =
+      let long = taken_long taken asking.long stated stated_after wire wire_after source after is fresh within gave in
+      let self : IsServed answers asking.call asking.now taken tale (failed R why) old new =
+      subst (λ l. IsServed answers asking.call asking.now l tale (failed R why) old new) (append-nil taken) (served_so answers asking (failed R why) old new taken [] tale whole did) in
       record {
         read = taken;
         tale = tale;
         part = omega (arith, long);
-        came = inr (why, by, subst (λ l. IsServed answers asking.call asking.now l tale (failed R why) old new) (append-nil taken) (served_so answers asking (failed R why) old new taken [] tale whole did));
+        came = inr (why, by, self);
         out = takes.more;
         silent = silent_so (asking_text asking tale) taken asking.long told told_mid silent takes;
         cause = cause;
-        moved = record { took = gave.left; gave = given ∙ takes.gave; reads = read; writes = wrote };
+        moved = moved_of taken takes.more (unread_of wire source) (unread_of wire_after after) told.sink told_after.sink reads reads_after writes writes_after
+            (taken_of taken stated stated_after wire wire_after source after gave) (subst (Sent takes.more told.sink) (sym given) takes.gave) read wrote;
+        counts = counts;
       }
 
   -- the text that a teller was told is that of the reply
@@ -145,64 +154,67 @@ module _ {M R : Type 0} (answers : Task → M → M → List ℕ → List Tellin
   module _ {T N : Type 0} (view : T → Told) (name : T → N) where
     -- the desk answered, over what its teller was told
     pub asked_well : (result : Result (Unit {0}) Cut) (asking : Asking) (waits : Bool) (old new : M) (receipt : R) (body : List ℕ) (tale : List Telling)
-        (stated stated_after : ℕ) (wire wire_mid wire_after : Wired) (left mid after : Option (List ℕ)) (reads reads_mid reads_after : ℕ) (told told_mid told_after : T) (writes writes_mid writes_after : ℕ)
+        (stated stated_after : ℕ) (wire wire_mid wire_after : Wired) (source mid after : SourceView) (reads reads_mid reads_after : ℕ) (told told_mid told_after : T) (writes writes_mid writes_after : ℕ)
         → asking.long ≡ wire.body_left → wire.body_left ≡ stated → wire_mid.body_left ≤ stated_after
-        → Gave body (feed_of stated wire left) (feed_of stated_after wire_mid mid)
+        → Gave body (feed_of stated wire source) (feed_of stated_after wire_mid mid)
         → CallTells asking.call (Ok receipt) tale → answers (record { call = asking.call; now = asking.now }) old new body tale (Ok receipt)
         → TellsAll (taken view name) told tale told_mid → (view told).reply ≡ replying asking waits → (view told).held ≡ [] → (waits ≡ true) ⊎ (asking.long ≡ 0)
         → reads_mid ≡ reads → writes_mid ≡ writes
         → Finishes result wire_mid wire_after mid after reads_mid reads_after (view told_mid) (view told_after) writes_mid writes_after
-        → AskGoes answers result asking old new (wires (unread_of wire left) (view told).given reads writes) (wires (unread_of wire_after after) (view told_after).given reads_after writes_after)
-    asked_well result asking waits old new receipt body tale stated stated_after wire wire_mid wire_after left mid after reads reads_mid reads_after told told_mid told_after writes writes_mid writes_after is fresh within gave whole did tells reply none silent read wrote finishes =
-        asked_done answers result asking old new receipt body tale stated stated_after wire wire_mid wire_after left mid after reads reads_mid reads_after (view told) (view told_mid) (view told_after) writes writes_mid writes_after
+        → AskGoes answers result asking old new (wires (unread_of wire source) (view told).sink reads writes) (wires (unread_of wire_after after) (view told_after).sink reads_after writes_after)
+    asked_well result asking waits old new receipt body tale stated stated_after wire wire_mid wire_after source mid after reads reads_mid reads_after told told_mid told_after writes writes_mid writes_after is fresh within gave whole did tells reply none silent read wrote finishes =
+        asked_done answers result asking old new receipt body tale stated stated_after wire wire_mid wire_after source mid after reads reads_mid reads_after (view told) (view told_mid) (view told_after) writes writes_mid writes_after
         is fresh within gave whole did none (all_waits asking waits (view told) reply silent)
         (takes_asked asking waits tale (view told) (view told_mid) reply (takes_all view name tale told told_mid tells).1) read wrote finishes
 
     -- the desk's call was cut, over what its teller was told
     pub asked_cut : (why : Cut) (result : Result (Unit {0}) Cut) (asking : Asking) (waits : Bool) (old new : M) (body : List ℕ) (tale : List Telling)
-        (stated stated_after : ℕ) (wire wire_after : Wired) (left after : Option (List ℕ)) (reads reads_after : ℕ) (told told_mid told_after : T) (writes writes_mid writes_after : ℕ)
+        (stated stated_after : ℕ) (wire wire_after : Wired) (source after : SourceView) (reads reads_after : ℕ) (told told_mid told_after : T) (writes writes_mid writes_after : ℕ)
         → asking.long ≡ wire.body_left → wire.body_left ≡ stated → wire_after.body_left ≤ stated_after → asking.long ≡ stated_length asking.call
-        → Gave body (feed_of stated wire left) (feed_of stated_after wire_after after)
+        → Gave body (feed_of stated wire source) (feed_of stated_after wire_after after)
         → CallTells asking.call (failed R why) tale → answers (record { call = asking.call; now = asking.now }) old new body tale (failed R why)
         → WasTold (taken view name) (broken view name) (failed R why) told tale told_mid → (view told).reply ≡ replying asking waits → (view told).held ≡ []
         → (waits ≡ true) ⊎ (asking.long ≡ 0)
         → CutCause (failed R why) (feed_of stated_after wire_after after) reads reads_after writes writes_mid
         → BreaksOff why result (view told_mid) (view told_after) writes_mid writes_after
-        → AskGoes answers result asking old new (wires (unread_of wire left) (view told).given reads writes) (wires (unread_of wire_after after) (view told_after).given reads_after writes_after)
-    asked_cut ReadFault (Ok _) asking waits old new body tale stated stated_after wire wire_after left after reads reads_after told told_mid told_after writes writes_mid writes_after is fresh within takes_body gave whole did tells reply none silent cause breaks = absurd breaks
-    asked_cut ReadFault (Err e) asking waits old new body tale stated stated_after wire wire_after left after reads reads_after told told_mid told_after writes writes_mid writes_after is fresh within takes_body gave whole did tells reply none silent cause breaks =
+        → AskGoes answers result asking old new (wires (unread_of wire source) (view told).sink reads writes) (wires (unread_of wire_after after) (view told_after).sink reads_after writes_after)
+    asked_cut ReadFault (Ok _) asking waits old new body tale stated stated_after wire wire_after source after reads reads_after told told_mid told_after writes writes_mid writes_after is fresh within takes_body gave whole did tells reply none silent cause breaks = absurd breaks
+    asked_cut ReadFault (Err e) asking waits old new body tale stated stated_after wire wire_after source after reads reads_after told told_mid told_after writes writes_mid writes_after is fresh within takes_body gave whole did tells reply none silent cause breaks =
         let takes = takes_asked asking waits tale (view told) (view told_mid) reply (was_so R view name ReadFault tale told told_mid tells).1 in
-        subst (λ w. AsksShort answers w asking old new (wires (unread_of wire left) (view told).given reads writes) (wires (unread_of wire_after after) (view told_after).given reads_after writes_after)) (sym breaks.0)
-        (short_told ReadFault asking waits old new body tale stated stated_after wire wire_after left after reads reads_after (view told) (view told_mid) (view told_after) writes writes_after
+        subst (λ w. AsksShort answers w asking old new (wires (unread_of wire source) (view told).sink reads writes) (wires (unread_of wire_after after) (view told_after).sink reads_after writes_after)) (sym breaks.0)
+        (short_told ReadFault asking waits old new body tale stated stated_after wire wire_after source after reads reads_after (view told) (view told_mid) (view told_after) writes writes_after
         is fresh within gave whole did refl none (all_waits asking waits (view told) reply silent) takes breaks.1 cause.0.0 (omega (arith, cause.1, breaks.2))
-        (cause.0, subst (IsFront takes.more) (told_text (asking_text asking tale) (view told) (view told_mid) none takes) (front_all takes.more (view told_mid).held)))
-    asked_cut (BodyCut r s) (Ok _) asking waits old new body tale stated stated_after wire wire_after left after reads reads_after told told_mid told_after writes writes_mid writes_after is fresh within takes_body gave whole did tells reply none silent cause breaks = absurd breaks
-    asked_cut (BodyCut r s) (Err e) asking waits old new body tale stated stated_after wire wire_after left after reads reads_after told told_mid told_after writes writes_mid writes_after is fresh within takes_body gave whole did tells reply none silent cause breaks =
+        (cause.0, subst (IsFront takes.more) (told_text (asking_text asking tale) (view told) (view told_mid) none takes) (front_all takes.more (view told_mid).held))
+        (breaks.2 ∙ cause.1))
+    asked_cut (BodyCut r s) (Ok _) asking waits old new body tale stated stated_after wire wire_after source after reads reads_after told told_mid told_after writes writes_mid writes_after is fresh within takes_body gave whole did tells reply none silent cause breaks = absurd breaks
+    asked_cut (BodyCut r s) (Err e) asking waits old new body tale stated stated_after wire wire_after source after reads reads_after told told_mid told_after writes writes_mid writes_after is fresh within takes_body gave whole did tells reply none silent cause breaks =
         let takes = takes_asked asking waits tale (view told) (view told_mid) reply (was_so R view name (BodyCut r s) tale told told_mid tells).1 in
         let waits_all = all_waits asking waits (view told) reply silent in
-        let long = taken_long body asking.long stated stated_after wire wire_after left after is fresh within gave in
+        let long = taken_long body asking.long stated stated_after wire wire_after source after is fresh within gave in
         let short : length body < asking.long = omega (arith, long, cause.2, within) in
-        subst (λ w. AsksShort answers w asking old new (wires (unread_of wire left) (view told).given reads writes) (wires (unread_of wire_after after) (view told_after).given reads_after writes_after)) (sym breaks.0)
-        (short_told (BodyCut r s) asking waits old new body tale stated stated_after wire wire_after left after reads reads_after (view told) (view told_mid) (view told_after) writes writes_after
+        subst (λ w. AsksShort answers w asking old new (wires (unread_of wire source) (view told).sink reads writes) (wires (unread_of wire_after after) (view told_after).sink reads_after writes_after)) (sym breaks.0)
+        (short_told (BodyCut r s) asking waits old new body tale stated stated_after wire wire_after source after reads reads_after (view told) (view told_mid) (view told_after) writes writes_after
         is fresh within gave whole did refl none waits_all takes breaks.1 (omega (arith, cause.4)) (omega (arith, cause.5, breaks.2))
-        (short, cause.3, silent_so (asking_text asking tale) body asking.long (view told) (view told_mid) waits_all takes short))
-    asked_cut NoMemory (Ok _) asking waits old new body tale stated stated_after wire wire_after left after reads reads_after told told_mid told_after writes writes_mid writes_after is fresh within takes_body gave whole did tells reply none silent cause breaks = absurd breaks
-    asked_cut NoMemory (Err e) asking waits old new body tale stated stated_after wire wire_after left after reads reads_after told told_mid told_after writes writes_mid writes_after is fresh within takes_body gave whole did tells reply none silent cause breaks =
+        (short, record { left = cause.3.left; takes = cause.3.ended }, silent_so (asking_text asking tale) body asking.long (view told) (view told_mid) waits_all takes short)
+        (cause.4, breaks.2 ∙ cause.5))
+    asked_cut NoMemory (Ok _) asking waits old new body tale stated stated_after wire wire_after source after reads reads_after told told_mid told_after writes writes_mid writes_after is fresh within takes_body gave whole did tells reply none silent cause breaks = absurd breaks
+    asked_cut NoMemory (Err e) asking waits old new body tale stated stated_after wire wire_after source after reads reads_after told told_mid told_after writes writes_mid writes_after is fresh within takes_body gave whole did tells reply none silent cause breaks =
         let takes = takes_asked asking waits tale (view told) (view told_mid) reply (was_so R view name NoMemory tale told told_mid tells).1 in
-        subst (λ w. AsksShort answers w asking old new (wires (unread_of wire left) (view told).given reads writes) (wires (unread_of wire_after after) (view told_after).given reads_after writes_after)) (sym breaks.0)
-        (short_told NoMemory asking waits old new body tale stated stated_after wire wire_after left after reads reads_after (view told) (view told_mid) (view told_after) writes writes_after
+        subst (λ w. AsksShort answers w asking old new (wires (unread_of wire source) (view told).sink reads writes) (wires (unread_of wire_after after) (view told_after).sink reads_after writes_after)) (sym breaks.0)
+        (short_told NoMemory asking waits old new body tale stated stated_after wire wire_after source after reads reads_after (view told) (view told_mid) (view told_after) writes writes_after
         is fresh within gave whole did refl none (all_waits asking waits (view told) reply silent) takes breaks.1 (omega (arith, cause.0)) (omega (arith, cause.1, breaks.2))
-        (subst (IsFront takes.more) (told_text (asking_text asking tale) (view told) (view told_mid) none takes) (front_all takes.more (view told_mid).held)))
-    asked_cut WriteFault (Ok _) asking waits old new body tale stated stated_after wire wire_after left after reads reads_after told told_mid told_after writes writes_mid writes_after is fresh within takes_body gave whole did tells reply none silent cause breaks = absurd breaks
-    asked_cut WriteFault (Err e) asking waits old new body tale stated stated_after wire wire_after left after reads reads_after told told_mid told_after writes writes_mid writes_after is fresh within takes_body gave whole did tells reply none silent cause breaks =
+        (subst (IsFront takes.more) (told_text (asking_text asking tale) (view told) (view told_mid) none takes) (front_all takes.more (view told_mid).held))
+        (cause.0, breaks.2 ∙ cause.1))
+    asked_cut WriteFault (Ok _) asking waits old new body tale stated stated_after wire wire_after source after reads reads_after told told_mid told_after writes writes_mid writes_after is fresh within takes_body gave whole did tells reply none silent cause breaks = absurd breaks
+    asked_cut WriteFault (Err e) asking waits old new body tale stated stated_after wire wire_after source after reads reads_after told told_mid told_after writes writes_mid writes_after is fresh within takes_body gave whole did tells reply none silent cause breaks =
         let so = (was_so R view name WriteFault tale told told_mid tells).1 in
         let took = takes_asked asking waits so.earlier (view told) so.mid reply so.took in
         let last = text_in (replying asking waits) so.last in
         let broke : BreaksText last so.mid (view told_mid) = subst (λ r. BreaksText (text_in r so.last) so.mid (view told_mid)) reply so.broke in
         let text : took.more ++ (so.mid.held ++ last) ≡ asking_text asking tale =
         sym (append_assoc took.more so.mid.held last) ∙ ap (λ l. l ++ last) (told_text (asking_text asking so.earlier) (view told) so.mid none took) ∙ tale_last (replying asking waits) tale so.earlier so.last so.are in
-        let long = taken_long body asking.long stated stated_after wire wire_after left after is fresh within gave in
-        subst (λ w. AsksShort answers w asking old new (wires (unread_of wire left) (view told).given reads writes) (wires (unread_of wire_after after) (view told_after).given reads_after writes_after)) (sym breaks.0)
+        let long = taken_long body asking.long stated stated_after wire wire_after source after is fresh within gave in
+        subst (λ w. AsksShort answers w asking old new (wires (unread_of wire source) (view told).sink reads writes) (wires (unread_of wire_after after) (view told_after).sink reads_after writes_after)) (sym breaks.0)
         (record {
           read = body;
           tale = tale;
@@ -214,20 +226,20 @@ module _ {M R : Type 0} (answers : Task → M → M → List ℕ → List Tellin
             subst (λ w. Rose writes w) (sym breaks.2) cause.1,
             (length took.more + broke.count, sym (take-append-add took.more (so.mid.held ++ last) broke.count) ∙ ap (take (length took.more + broke.count)) text),
           );
-          moved = record {
-            took = gave.left;
-            gave = breaks.1 ∙ broke.front ∙ ap (λ g. append_known g (take broke.count (so.mid.held ++ last))) took.gave ∙ append_both (view told).given took.more (take broke.count (so.mid.held ++ last));
-            reads = omega (arith, cause.0);
-            writes = omega (arith, cause.1.0, breaks.2);
-          };
+          moved = moved_of body (took.more ++ take broke.count (so.mid.held ++ last)) (unread_of wire source) (unread_of wire_after after)
+              (view told).sink (view told_after).sink reads reads_after writes writes_after (taken_of body stated stated_after wire wire_after source after gave)
+              (subst (Sent (took.more ++ take broke.count (so.mid.held ++ last)) (view told).sink) (sym breaks.1)
+              (sent_both took.more (take broke.count (so.mid.held ++ last)) (view told).sink so.mid.sink (view told_mid).sink took.gave broke.front))
+              (omega (arith, cause.0)) (omega (arith, cause.1.0, breaks.2));
+          counts = cause.0;
         })
-    asked_cut (ShardCut whys) (Ok _) asking waits old new body tale stated stated_after wire wire_after left after reads reads_after told told_mid told_after writes writes_mid writes_after is fresh within takes_body gave whole did tells reply none silent cause breaks = absurd breaks
-    asked_cut (ShardCut whys) (Err e) asking waits old new body tale stated stated_after wire wire_after left after reads reads_after told told_mid told_after writes writes_mid writes_after is fresh within takes_body gave whole did tells reply none silent cause (inl (same, given, counted)) =
+    asked_cut (ShardCut whys) (Ok _) asking waits old new body tale stated stated_after wire wire_after source after reads reads_after told told_mid told_after writes writes_mid writes_after is fresh within takes_body gave whole did tells reply none silent cause breaks = absurd breaks
+    asked_cut (ShardCut whys) (Err e) asking waits old new body tale stated stated_after wire wire_after source after reads reads_after told told_mid told_after writes writes_mid writes_after is fresh within takes_body gave whole did tells reply none silent cause (inl (same, given, counted)) =
         let takes = takes_asked asking waits tale (view told) (view told_mid) reply (was_so R view name (ShardCut whys) tale told told_mid tells).1 in
         let text = told_text (asking_text asking tale) (view told) (view told_mid) none takes in
-        let long = taken_long body asking.long stated stated_after wire wire_after left after is fresh within gave in
+        let long = taken_long body asking.long stated stated_after wire wire_after source after is fresh within gave in
         let nil = takes_body ∙ none_taken R asking.call tale whys whole in
-        subst (λ w. AsksShort answers w asking old new (wires (unread_of wire left) (view told).given reads writes) (wires (unread_of wire_after after) (view told_after).given reads_after writes_after)) (sym same)
+        subst (λ w. AsksShort answers w asking old new (wires (unread_of wire source) (view told).sink reads writes) (wires (unread_of wire_after after) (view told_after).sink reads_after writes_after)) (sym same)
         (record {
           read = body;
           tale = tale;
@@ -236,19 +248,18 @@ module _ {M R : Type 0} (answers : Task → M → M → List ℕ → List Tellin
           out = takes.more ++ (view told_mid).held;
           silent = λ short. absurd (omega (arith, nil, short));
           cause = (whole, omega (arith, long, nil), text);
-          moved = record {
-            took = gave.left;
-            gave = given ∙ ap (λ g. append_known g (view told_mid).held) takes.gave ∙ append_both (view told).given takes.more (view told_mid).held;
-            reads = omega (arith, cause.0);
-            writes = omega (arith, cause.1, counted);
-          };
+          moved = moved_of body (takes.more ++ (view told_mid).held) (unread_of wire source) (unread_of wire_after after)
+              (view told).sink (view told_after).sink reads reads_after writes writes_after (taken_of body stated stated_after wire wire_after source after gave)
+              (sent_both takes.more (view told_mid).held (view told).sink (view told_mid).sink (view told_after).sink takes.gave given)
+              (omega (arith, cause.0)) (omega (arith, cause.1, counted));
+          counts = (cause.0, counted ∙ cause.1);
         })
-    asked_cut (ShardCut whys) (Err e) asking waits old new body tale stated stated_after wire wire_after left after reads reads_after told told_mid told_after writes writes_mid writes_after is fresh within takes_body gave whole did tells reply none silent cause (inr (same, front, rose)) =
+    asked_cut (ShardCut whys) (Err e) asking waits old new body tale stated stated_after wire wire_after source after reads reads_after told told_mid told_after writes writes_mid writes_after is fresh within takes_body gave whole did tells reply none silent cause (inr (same, front, rose)) =
         let takes = takes_asked asking waits tale (view told) (view told_mid) reply (was_so R view name (ShardCut whys) tale told told_mid tells).1 in
         let text = told_text (asking_text asking tale) (view told) (view told_mid) none takes in
-        let long = taken_long body asking.long stated stated_after wire wire_after left after is fresh within gave in
+        let long = taken_long body asking.long stated stated_after wire wire_after source after is fresh within gave in
         let nil = takes_body ∙ none_taken R asking.call tale whys whole in
-        subst (λ w. AsksShort answers w asking old new (wires (unread_of wire left) (view told).given reads writes) (wires (unread_of wire_after after) (view told_after).given reads_after writes_after)) (sym same)
+        subst (λ w. AsksShort answers w asking old new (wires (unread_of wire source) (view told).sink reads writes) (wires (unread_of wire_after after) (view told_after).sink reads_after writes_after)) (sym same)
         (record {
           read = body;
           tale = tale;
@@ -260,10 +271,9 @@ module _ {M R : Type 0} (answers : Task → M → M → List ℕ → List Tellin
             subst (λ w. Rose w writes_after) cause.1 rose,
             (length takes.more + front.count, sym (take-append-add takes.more (view told_mid).held front.count) ∙ ap (take (length takes.more + front.count)) text),
           );
-          moved = record {
-            took = gave.left;
-            gave = front.front ∙ ap (λ g. append_known g (take front.count (view told_mid).held)) takes.gave ∙ append_both (view told).given takes.more (take front.count (view told_mid).held);
-            reads = omega (arith, cause.0);
-            writes = omega (arith, cause.1, rose.0);
-          };
+          moved = moved_of body (takes.more ++ take front.count (view told_mid).held) (unread_of wire source) (unread_of wire_after after)
+              (view told).sink (view told_after).sink reads reads_after writes writes_after (taken_of body stated stated_after wire wire_after source after gave)
+              (sent_both takes.more (take front.count (view told_mid).held) (view told).sink (view told_mid).sink (view told_after).sink takes.gave front.front)
+              (omega (arith, cause.0)) (omega (arith, cause.1, rose.0));
+          counts = cause.0;
         })

@@ -7,7 +7,7 @@ use Rattle.io_base.specs.Door.{IsOwed, told_more}
 use Rattle.call_types.specs.declared.feed.Cut.{Cut}
 use Rattle.desk_base.specs.Answering.{Task}
 use Rattle.desk_base.specs.Telling.{Telling}
-use Rattle.serve_loop.specs.Doors.{AreVisited, DoorEndsSo, DoorServed, DoorView, GaveVisits, IsEven, IsVisited, ServedSince, ServesOne, Sight, Visit, given_of, returned_of, told_all}
+use Rattle.serve_loop.specs.Doors.{AreVisited, DoorEndsSo, DoorServed, DoorView, GaveVisits, IsEven, IsVisited, ServedSince, ServesOne, Sight, Visit, capped, given_of, returned_of, told_all, want_in, wants_in}
 use Rattle.serve_loop.specs.declared.doors.DoorEnd.{DoorEnd}
 use Rattle.serve_loop.specs.declared.doors.DoorEnd.TheVariants.{Over, DoorFailed}
 use Rattle.serve_loop.specs.declared.ends.ConnectionEnd.{ConnectionEnd}
@@ -19,6 +19,16 @@ told_none (Some all) = ap Some (sym (append-nil all))
 told_both : {X : Type 0} (known : Option (List X)) (xs ys : List X) → told_all (told_all known xs) ys ≡ told_all known (xs ++ ys)
 told_both None xs ys = refl
 told_both (Some all) xs ys = ap Some (append_assoc all xs ys)
+
+-- ---- connections that ended for want of memory
+
+wants_both : {S T : Type 0} (vs ws : List (Visit S T)) → wants_in (vs ++ ws) ≡ wants_in vs + wants_in ws
+wants_both [] ws = omega arith
+wants_both (visit ∷ vs) ws = omega (arith, wants_both vs ws)
+
+-- a capped count goes on as the count does
+capped_on : (a b : ℕ) → capped (capped a + b) ≡ capped (a + b)
+capped_on a b = omega arith
 
 -- ---- pairs that came back
 
@@ -43,7 +53,7 @@ module _ {S T : Type 0} where
     shut = λ over. refl;
   }
 
-  visits_more : (vs ws : List (Visit S T)) (old mid new : DoorView S T) → GaveVisits vs old mid → (old.over ≡ true → mid.over ≡ true) → GaveVisits ws mid new
+  pub visits_more : (vs ws : List (Visit S T)) (old mid new : DoorView S T) → GaveVisits vs old mid → (old.over ≡ true → mid.over ≡ true) → GaveVisits ws mid new
       → GaveVisits (vs ++ ws) old new
   visits_more vs ws old mid new first over more = record {
     gave = more.gave ∙ ap (λ k. told_all k (map given_of ws)) first.gave ∙ told_both old.gave (map given_of vs) (map given_of ws)
@@ -69,12 +79,12 @@ module _ {S T : Type 0} where
   }
 
 module _ {M R S T : Type 0} (answers : Task → M → M → List ℕ → List Telling → Result R Cut → Type 0) (clock : Option ℕ) (seen : Sight S T) where
-  visited_more : (vs ws : List (Visit S T)) (old mid new : M) → AreVisited answers clock seen old vs mid → AreVisited answers clock seen mid ws new → AreVisited answers clock seen old (vs ++ ws) new
+  pub visited_more : (vs ws : List (Visit S T)) (old mid new : M) → AreVisited answers clock seen old vs mid → AreVisited answers clock seen mid ws new → AreVisited answers clock seen old (vs ++ ws) new
   visited_more [] ws old mid new same more = subst (λ m. AreVisited answers clock seen m ws new) (sym same) more
   visited_more (visit ∷ vs) ws old mid new (next, first, rest) more = (next, first, visited_more vs ws next mid new rest more)
 
   -- a connection was served that the door gave, and it came back
-  pub serves_one : (visit : Visit S T) (old new : M) (before mid after : DoorView S T) → IsVisited answers clock seen old visit new
+  abbrev pub serves_one : (visit : Visit S T) (old new : M) (before mid after : DoorView S T) → IsVisited answers clock seen old visit new
       → (before.over ≡ false) × (mid.over ≡ false) → mid.gave ≡ told_more before.gave (given_of visit) → mid.returned ≡ before.returned → mid.faults ≡ before.faults
       → (IsOwed mid.gave mid.returned → after.returned ≡ told_more mid.returned (returned_of visit)) → after.over ≡ mid.over → after.gave ≡ mid.gave → after.faults ≡ mid.faults
       → ServesOne answers clock seen old new before after
@@ -87,38 +97,56 @@ module _ {M R S T : Type 0} (answers : Task → M → M → List ℕ → List Te
   }
 
   -- the connections so far
-  pub record DoorSoFar (old now : M) (start here : DoorView S T) : Type 0 where
+  pub record DoorSoFar (old now : M) (start here : DoorView S T) (first starved : ℕ) : Type 0 where
     pub visits : List (Visit S T)
     pub visited : AreVisited answers clock seen old visits now
     pub passed : GaveVisits visits start here
     pub over : here.over ≡ start.over
     pub counted : here.faults ≡ start.faults
+    pub wanted : (count : ℕ) → first ≡ capped count → starved ≡ capped (count + wants_in visits)
 
-  pub door_none : (old : M) (start : DoorView S T) → DoorSoFar old old start start
-  door_none old start = record { visits = []; visited = refl; passed = visits_none start start refl refl; over = refl; counted = refl }
+  pub door_none : (old : M) (start : DoorView S T) (first : ℕ) → DoorSoFar old old start start first first
+  door_none old start first = record {
+    visits = [];
+    visited = refl;
+    passed = visits_none start start refl refl;
+    over = refl;
+    counted = refl;
+    wanted = λ count is. is ∙ ap capped (omega arith);
+  }
 
-  pub door_more : (old mid new : M) (start here there : DoorView S T) → DoorSoFar old mid start here → ServesOne answers clock seen mid new here there → DoorSoFar old new start there
-  door_more old mid new start here there so_far one = record {
+  pub door_more : (old mid new : M) (start here there : DoorView S T) (first starved next : ℕ) → DoorSoFar old mid start here first starved
+      → (one : ServesOne answers clock seen mid new here there) → next ≡ capped (starved + want_in one.visit.end) → DoorSoFar old new start there first next
+  door_more old mid new start here there first starved next so_far one wants = record {
     visits = so_far.visits ++ one.visit ∷ [];
     visited = visited_more so_far.visits (one.visit ∷ []) old mid new so_far.visited (new, one.visited, refl);
     passed = visits_more so_far.visits (one.visit ∷ []) start here there so_far.passed (λ shut. so_far.over ∙ shut) one.passed;
     over = one.over ∙ so_far.over;
     counted = one.counted ∙ so_far.counted;
+    wanted = λ count is. wants ∙ ap (λ n. capped (n + want_in one.visit.end)) (so_far.wanted count is)
+        ∙ capped_on (count + wants_in so_far.visits) (want_in one.visit.end)
+        ∙ ap capped (omega (arith, wants_both so_far.visits (one.visit ∷ [])));
   }
 
+  -- the same where no connection came any more
+  pub wanted_all : (old mid : M) (start here : DoorView S T) (first starved : ℕ) (so_far : DoorSoFar old mid start here first starved) (count : ℕ) → first ≡ capped count
+      → starved ≡ capped (count + wants_in (so_far.visits ++ []))
+  wanted_all old mid start here first starved so_far count is =
+      so_far.wanted count is ∙ ap (λ visits. capped (count + wants_in visits)) (sym (append-nil so_far.visits))
+
   -- no connection came any more, or the door failed
-  pub ends_over : (old mid : M) (start here there : DoorView S T) → DoorSoFar old mid start here → there.gave ≡ here.gave → there.returned ≡ here.returned
+  abbrev pub ends_over : (old mid : M) (start here there : DoorView S T) (first starved : ℕ) → DoorSoFar old mid start here first starved → there.gave ≡ here.gave → there.returned ≡ here.returned
       → there.over ≡ true → there.faults ≡ here.faults → DoorServed answers clock seen Over old mid start there
-  ends_over old mid start here there so_far gave returned shut counted = record {
+  ends_over old mid start here there first starved so_far gave returned shut counted = record {
     visits = so_far.visits ++ [];
     visited = visited_more so_far.visits [] old mid mid so_far.visited refl;
     passed = visits_more so_far.visits [] start here there so_far.passed (λ over. so_far.over ∙ over) (visits_none here there gave returned);
     ends = (shut, counted ∙ so_far.counted);
   }
 
-  pub ends_failed : (old mid : M) (start here there : DoorView S T) → DoorSoFar old mid start here → there.gave ≡ here.gave → there.returned ≡ here.returned
+  abbrev pub ends_failed : (old mid : M) (start here there : DoorView S T) (first starved : ℕ) → DoorSoFar old mid start here first starved → there.gave ≡ here.gave → there.returned ≡ here.returned
       → there.over ≡ here.over → Rose here.faults there.faults → DoorServed answers clock seen (DoorFailed start.faults there.faults) old mid start there
-  ends_failed old mid start here there so_far gave returned over rose = record {
+  ends_failed old mid start here there first starved so_far gave returned over rose = record {
     visits = so_far.visits ++ [];
     visited = visited_more so_far.visits [] old mid mid so_far.visited refl;
     passed = visits_more so_far.visits [] start here there so_far.passed (λ shut. so_far.over ∙ shut) (visits_none here there gave returned);
@@ -132,16 +160,25 @@ module _ {M R S T : Type 0} (answers : Task → M → M → List ℕ → List Te
 
   module _ {H : Type 0} (holds : M → H) where
     -- nothing was served yet
-    pub since_none : (old : M) (start : DoorView S T) → ServedSince answers clock seen holds old old start start
-    since_none old start = record { holds_still = refl; visits = []; visited = refl; passed = visits_none start start refl refl; shut = λ shut. shut }
+    pub since_none : (old : M) (start : DoorView S T) → ServedSince answers clock seen holds old old start start 0
+    since_none old start = record {
+      holds_still = refl;
+      visits = [];
+      visited = refl;
+      passed = visits_none start start refl refl;
+      shut = λ shut. shut;
+      counted = refl;
+    }
 
     -- a door was served once more
-    pub since_more : (old mid new : M) (start here there : DoorView S T) (end : DoorEnd) → ServedSince answers clock seen holds old mid start here
-        → holds new ≡ holds mid → DoorServed answers clock seen end mid new here there → ServedSince answers clock seen holds old new start there
-    since_more old mid new start here there end since stays served = record {
+    pub since_more : (old mid new : M) (start here there : DoorView S T) (first starved : ℕ) (end : DoorEnd) → ServedSince answers clock seen holds old mid start here first
+        → holds new ≡ holds mid → (served : DoorServed answers clock seen end mid new here there)
+        → ((count : ℕ) → first ≡ capped count → starved ≡ capped (count + wants_in served.visits)) → ServedSince answers clock seen holds old new start there starved
+    since_more old mid new start here there first starved end since stays served wanted = record {
       holds_still = stays ∙ since.holds_still;
       visits = since.visits ++ served.visits;
       visited = visited_more since.visits served.visits old mid new since.visited served.visited;
       passed = visits_more since.visits served.visits start here there since.passed since.shut served.passed;
       shut = λ shut. stays_over end here there served.ends (since.shut shut);
+      counted = wanted (wants_in since.visits) since.counted ∙ ap capped (sym (wants_both since.visits served.visits));
     }

@@ -1,14 +1,15 @@
 -- Turns from the reading of a head.
-use Rattle.std.proofs.Common.{◌≡◌, ◌⊎◌, inl, inr, ◌≤◌, ◌<◌, ◌+◌, ℕ, Bool, true, List, [], ◌∷◌, ◌++◌, length, take, Option, Some, None, refl, sym, ap, ◌∙◌, subst, arith, append_assoc, append-nil}
+use Rattle.std.proofs.Common.{◌≡◌, inl, inr, ◌≤◌, ◌<◌, ℕ, List, [], ◌∷◌, ◌++◌, length, take, Option, Some, None, refl, sym, ap, ◌∙◌, subst, arith, append-nil}
 use Rattle.std.specs.Prelude.{Result, Ok, Err, IfSome}
-use Rattle.std.specs.Io.KnownBytes.{prepend_known, append_known, IsAtEnd}
 use Rattle.fault_base.specs.Counts.{Rose}
 use Rattle.httparse.specs.Grammar.{print_request}
-use Rattle.http_wire.specs.Answers.{ReadsNext, Refuses}
+use Rattle.http_wire.specs.Answers.{Answers, ReadsNext, Wired}
 use Rattle.http_wire.specs.Heads.{IsOpen}
 use Rattle.http_wire.specs.Parts.{HeadParts}
+use Rattle.http_wire.specs.Taking.{HandsOn, HasEnded, SourceView, Taken}
 use Rattle.http_wire.specs.declared.fault.WireFault.{WireFault}
-use Rattle.http_wire.specs.declared.reading.Reading.TheVariants.{Whole, Refused as RefusedHead}
+use Rattle.http_wire.specs.declared.reading.Reading.{Reading}
+use Rattle.http_wire.specs.declared.reading.Reading.TheVariants.{End, Whole, Refused as RefusedHead}
 use Rattle.call_types.specs.declared.feed.Cut.{Cut}
 use Rattle.call_types.specs.declared.feed.Cut.TheVariants as cut
 use Rattle.call_types.specs.declared.refusal.Refusal.{Refusal}
@@ -16,9 +17,11 @@ use Rattle.call_types.specs.declared.reply.Reply.TheVariants.{Refused}
 use Rattle.desk_base.specs.Answering.{Task}
 use Rattle.desk_base.specs.Telling.{Telling}
 use Rattle.desk_base.specs.Telling.Telling.{Head}
-use Rattle.serve_loop.specs.Deeds.{Wires, wires, IsCutOff, IsExchange, Moved}
+use Rattle.serve_loop.specs.Deeds.{Wires, wires, CountsStay, IsCutOff, IsExchange, Moved}
 use Rattle.serve_loop.specs.Exchanges.{Exchange, IsHead, IsUnread, unread, text_of}
-use Rattle.serve_loop.specs.Session.{Cuts, EndsSo, IsInHead, Parts}
+use Rattle.serve_loop.specs.Intakes.{AreLast, with_waiting}
+use Rattle.serve_loop.specs.Sending.{Sent, SinkView}
+use Rattle.serve_loop.specs.Session.{Cuts, EndsSo}
 use Rattle.serve_loop.specs.Telling.{RefusesHead, refusal_text}
 use Rattle.serve_loop.specs.Turns.{TurnEnds, Turns}
 use Rattle.serve_loop.specs.declared.ends.ConnectionEnd.{ConnectionEnd}
@@ -26,22 +29,26 @@ use Rattle.serve_loop.specs.declared.ends.ConnectionEnd.TheVariants.{Over, Close
 use Rattle.serve_loop.specs.declared.ends.Turn.{Turn}
 use Rattle.serve_loop.specs.declared.ends.Turn.TheVariants.{Answered, Ended}
 use Rattle.serve_loop.specs.declared.manner.Manner.TheVariants.{ServerCloses}
-use Rattle.serve_loop.proofs.IntakeLemmas.{prepend_both}
-use Rattle.serve_loop.proofs.TellingLemmas.{append_both, append_none}
+use Rattle.serve_loop.proofs.IntakeLemmas.{last_after, last_none, taken_all, taken_on}
+use Rattle.serve_loop.proofs.MovedLemmas.{counts_later, moved_later, moved_of}
+use Rattle.serve_loop.proofs.SentLemmas.{sent_none}
 
 -- ---- what was read
 
 -- a head and what is behind it
-pub record ReadFront (head : HeadParts) (size : ℕ) (before waits : List ℕ) (left after : Option (List ℕ)) : Type 0 where
+pub record ReadFront (head : HeadParts) (size : ℕ) (before waits : List ℕ) (source after : SourceView) : Type 0 where
   pub front : List ℕ
   pub is : IsHead front head size
-  pub took : prepend_known before left ≡ prepend_known front (prepend_known waits after)
+  pub took : Taken front (with_waiting before source) (with_waiting waits after)
+  pub last : AreLast waits after.takes
 
-pub read_front : (head : HeadParts) (size : ℕ) (before waits : List ℕ) (left after : Option (List ℕ)) (faults faults_after : ℕ)
-    → ReadsNext (Whole head size) before waits left after faults faults_after → ReadFront head size before waits left after
-read_front head size before waits left after faults faults_after reads =
+pub read_front : (head : HeadParts) (size : ℕ) (before waits : List ℕ) (source after : SourceView) (faults faults_after : ℕ) → AreLast before source.takes
+    → ReadsNext (Whole head size) before waits source after faults faults_after → ReadFront head size before waits source after
+read_front head size before waits source after faults faults_after last reads =
     let given = reads.decides.0 in
     let front = print_request given.tree in
+    let hands : HandsOn front before waits source after =
+    record { piece = reads.came.piece; took = reads.came.took; are = sym reads.came.text_is ∙ given.begins.reads.1 } in
     record {
       front = front;
       is = record {
@@ -54,28 +61,39 @@ read_front head size before waits left after faults faults_after reads =
         states = given.length_is;
         plain = given.plain;
       };
-      took = ap (prepend_known before) reads.came.left_is ∙ prepend_both before reads.came.piece after
-          ∙ ap (λ l. prepend_known l after) (sym reads.came.text_is ∙ given.begins.reads.1) ∙ sym (prepend_both front waits after);
+      took = taken_on front before waits source after last hands;
+      last = last_after front before waits source after last hands;
     }
 
 -- the text that was no head
-pub took_text : (fault : WireFault) (before waits : List ℕ) (left after : Option (List ℕ)) (faults faults_after : ℕ)
-    → (reads : ReadsNext (RefusedHead fault) before waits left after faults faults_after) → prepend_known before left ≡ prepend_known reads.text after
-took_text fault before waits left after faults faults_after reads =
-    ap (prepend_known before) reads.came.left_is ∙ prepend_both before reads.came.piece after ∙ ap (λ l. prepend_known l after) (sym reads.came.text_is)
+pub took_text : (fault : WireFault) (before waits : List ℕ) (source after : SourceView) (faults faults_after : ℕ) → AreLast before source.takes
+    → (reads : ReadsNext (RefusedHead fault) before waits source after faults faults_after) → Taken reads.text (with_waiting before source) after
+took_text fault before waits source after faults faults_after last reads =
+    taken_all reads.text before reads.came.piece source after last reads.came.text_is reads.came.took
+
+-- what waits behind what was read, whatever that came to
+pub last_read : (result : Reading) (before waits : List ℕ) (source after : SourceView) (faults faults_after : ℕ) → AreLast before source.takes
+    → ReadsNext result before waits source after faults faults_after → AreLast waits after.takes
+last_read (Whole head size) before waits source after faults faults_after last reads =
+    (read_front head size before waits source after faults faults_after last reads).last
+last_read End before waits source after faults faults_after last reads = last_none waits after.takes reads.decides.1
+last_read (RefusedHead fault) before waits source after faults faults_after last reads =
+    last_after [] before waits source after last
+    (record { piece = reads.came.piece; took = reads.came.took; are = sym reads.came.text_is ∙ sym reads.decides.1 })
+
+-- so it is of what a wire answers
+pub last_answered : (result : Result (Option HeadParts) WireFault) (before : List ℕ) (source after : SourceView) (new : Wired) (faults faults_after : ℕ)
+    → AreLast before source.takes → Answers result before source after new faults faults_after → AreLast new.waits after.takes
+last_answered (Ok (Some head)) before source after new faults faults_after last answers =
+    last_read (Whole head new.stated) before new.waits source after faults faults_after last answers.0
+last_answered (Ok None) before source after new faults faults_after last answers = last_read End before new.waits source after faults faults_after last answers.0
+last_answered (Err fault) before source after new faults faults_after last answers =
+    last_read (RefusedHead fault) before new.waits source after faults faults_after last answers.0
 
 -- ---- later wires
 
 rose_later : (a b c : ℕ) → a ≤ b → Rose b c → Rose a c
 rose_later a b c low rose = (omega (arith, low, rose.0), elim rose.1 [ inl up ↦ inl (omega (arith, low, up)) | inr last ↦ inr last ])
-
-pub moved_later : (taken more given others : List ℕ) (a b c : Wires) → Moved taken given a b → Moved more others b c → Moved (taken ++ more) (given ++ others) a c
-moved_later taken more given others a b c first second = record {
-  took = first.took ∙ ap (prepend_known taken) second.took ∙ prepend_both taken more c.left;
-  gave = second.gave ∙ ap (λ g. append_known g others) first.gave ∙ append_both a.given given others;
-  reads = omega (arith, first.reads, second.reads);
-  writes = omega (arith, first.writes, second.writes);
-}
 
 cut_later : (why : Cut) (x : Exchange) (ahead out : List ℕ) (a b c : Wires) → a.read_faults ≤ b.read_faults → a.write_faults ≤ b.write_faults
     → IsCutOff why x ahead out b c → IsCutOff why x ahead out a c
@@ -109,22 +127,24 @@ module _ {M R : Type 0} (answers : Task → M → M → List ℕ → List Tellin
   ends_later NoMemory number old new taken out a b c reads writes (inr cuts) = inr (cuts_later cut.NoMemory number old new taken out a b c reads writes cuts)
 
   -- a turn that began with the reading of a head
-  pub deeper : (turn : Turn) (number : ℕ) (front : List ℕ) (old new : M) (start mid going shut : Wires) → Moved front [] start mid
+  pub deeper : (turn : Turn) (number : ℕ) (front : List ℕ) (old new : M) (start mid going shut : Wires) → Moved front [] start mid → CountsStay start mid
       → Turns answers clock turn number front old new mid going shut → Turns answers clock turn number [] old new start going shut
-  deeper Answered number front old new start mid going shut first turns = record {
+  deeper Answered number front old new start mid going shut first stay turns = record {
     x = turns.x;
     answered = turns.answered;
     stays = turns.stays;
     part = front ++ turns.part;
     is = turns.is;
     moved = moved_later front turns.part [] (text_of turns.x) start mid going first turns.moved;
+    still = (turns.still.0 ∙ stay.0, turns.still.1 ∙ stay.1);
   }
-  deeper (Ended end) number front old new start mid going shut first turns = record {
+  deeper (Ended end) number front old new start mid going shut first stay turns = record {
     taken = turns.taken;
     part = front ++ turns.part;
     is = turns.is;
     out = turns.out;
     moved = moved_later front turns.part [] turns.out start mid shut first turns.moved;
+    counts = counts_later end start mid shut stay turns.counts;
     ends = ends_later end number old new turns.taken turns.out start mid shut first.reads first.writes turns.ends;
   }
 
@@ -137,26 +157,23 @@ module _ {M R : Type 0} (answers : Task → M → M → List ℕ → List Tellin
   unread_is : (why : Refusal) (now number : ℕ) (text : List ℕ) → IsUnread why text → IfSome clock (λ told. now ≡ told) → now < 253402300800 → IsExchange clock number (unread_x why now text)
   unread_is why now number text asks moment range = record { asks = asks; moment = moment; range = range; manner = inr refl }
 
-  pub unread_turn : (turn : Turn) (why : Refusal) (now number : ℕ) (same : M) (text : List ℕ) (ahead left given given_after : Option (List ℕ)) (reads reads_after writes writes_after : ℕ) (going : Wires)
-      → IsUnread why text → IfSome clock (λ told. now ≡ told) → now < 253402300800 → ahead ≡ prepend_known text left → reads_after ≡ reads
-      → RefusesHead turn why now given given_after writes writes_after
-      → Turns answers clock turn number [] same same (wires ahead given reads writes) going (wires left given_after reads_after writes_after)
-  unread_turn Answered why now number same text ahead left given given_after reads reads_after writes writes_after going asks moment range took read refuses = absurd refuses
-  unread_turn (Ended Over) why now number same text ahead left given given_after reads reads_after writes writes_after going asks moment range took read refuses = absurd refuses
-  unread_turn (Ended InputCut) why now number same text ahead left given given_after reads reads_after writes writes_after going asks moment range took read refuses = absurd refuses
-  unread_turn (Ended ReadFault) why now number same text ahead left given given_after reads reads_after writes writes_after going asks moment range took read refuses = absurd refuses
-  unread_turn (Ended (ReplyCut whys)) why now number same text ahead left given given_after reads reads_after writes writes_after going asks moment range took read refuses = absurd refuses
-  unread_turn (Ended Closed) why now number same text ahead left given given_after reads reads_after writes writes_after going asks moment range took read refuses = record {
+  pub unread_turn : (turn : Turn) (why : Refusal) (now number : ℕ) (same : M) (text : List ℕ) (ahead source : SourceView) (sink sink_after : SinkView) (reads reads_after writes writes_after : ℕ) (going : Wires)
+      → IsUnread why text → IfSome clock (λ told. now ≡ told) → now < 253402300800 → Taken text ahead source → reads_after ≡ reads
+      → RefusesHead turn why now sink sink_after writes writes_after
+      → Turns answers clock turn number [] same same (wires ahead sink reads writes) going (wires source sink_after reads_after writes_after)
+  unread_turn Answered why now number same text ahead source sink sink_after reads reads_after writes writes_after going asks moment range took read refuses = absurd refuses
+  unread_turn (Ended Over) why now number same text ahead source sink sink_after reads reads_after writes writes_after going asks moment range took read refuses = absurd refuses
+  unread_turn (Ended InputCut) why now number same text ahead source sink sink_after reads reads_after writes writes_after going asks moment range took read refuses = absurd refuses
+  unread_turn (Ended ReadFault) why now number same text ahead source sink sink_after reads reads_after writes writes_after going asks moment range took read refuses = absurd refuses
+  unread_turn (Ended (ReplyCut whys)) why now number same text ahead source sink sink_after reads reads_after writes writes_after going asks moment range took read refuses = absurd refuses
+  unread_turn (Ended Closed) why now number same text ahead source sink sink_after reads reads_after writes writes_after going asks moment range took read refuses = record {
     taken = text;
     part = text;
     is = refl;
     out = refusal_text why now ++ [];
-    moved = record {
-      took = took;
-      gave = refuses.0 ∙ ap (append_known given) (sym (append-nil (refusal_text why now)));
-      reads = omega (arith, read);
-      writes = omega (arith, refuses.1);
-    };
+    moved = moved_of text (refusal_text why now ++ []) ahead source sink sink_after reads reads_after writes writes_after took
+        (subst (λ l. Sent l sink sink_after) (sym (append-nil (refusal_text why now))) refuses.0) (omega (arith, read)) (omega (arith, refuses.1));
+    counts = (read, refuses.1);
     ends = record {
       x = unread_x why now text;
       answered = record { is = unread_is why now number text asks moment range; whole = refl; made = (refl, refl) };
@@ -166,12 +183,14 @@ module _ {M R : Type 0} (answers : Task → M → M → List ℕ → List Tellin
       gave = refl;
     };
   }
-  unread_turn (Ended WriteFault) why now number same text ahead left given given_after reads reads_after writes writes_after going asks moment range took read refuses = record {
+  unread_turn (Ended WriteFault) why now number same text ahead source sink sink_after reads reads_after writes writes_after going asks moment range took read refuses = record {
     taken = text;
     part = text;
     is = refl;
     out = take refuses.0.count (refusal_text why now);
-    moved = record { took = took; gave = refuses.0.front; reads = omega (arith, read); writes = refuses.1.0 };
+    moved = moved_of text (take refuses.0.count (refusal_text why now)) ahead source sink sink_after reads reads_after writes writes_after took
+        refuses.0.front (omega (arith, read)) refuses.1.0;
+    counts = read;
     ends = record {
       x = unread_x why now text;
       ahead = [];
@@ -187,50 +206,70 @@ module _ {M R : Type 0} (answers : Task → M → M → List ℕ → List Tellin
       took = sym (append-nil (text ++ []) ∙ append-nil text);
     };
   }
-  unread_turn (Ended NoMemory) why now number same text ahead left given given_after reads reads_after writes writes_after going asks moment range took read refuses = record {
+  unread_turn (Ended NoMemory) why now number same text ahead source sink sink_after reads reads_after writes writes_after going asks moment range took read refuses = record {
     taken = text;
     part = text;
     is = refl;
     out = [];
-    moved = record { took = took; gave = refuses.0 ∙ sym (append_none given); reads = omega (arith, read); writes = omega (arith, refuses.1) };
+    moved = moved_of text [] ahead source sink sink_after reads reads_after writes writes_after took
+        (subst (Sent [] sink) (sym refuses.0) (sent_none sink)) (omega (arith, read)) (omega (arith, refuses.1));
+    counts = (read, refuses.1);
     ends = inl (refl, refl);
   }
 
   -- the source ended in a head
-  pub head_cut : (number : ℕ) (same : M) (text : List ℕ) (ahead left given : Option (List ℕ)) (reads reads_after writes : ℕ)
-      → IsOpen text → IsAtEnd left → 0 < length text → ahead ≡ prepend_known text left → reads_after ≡ reads
-      → TurnEnds answers clock InputCut number [] same same (wires ahead given reads writes) (wires left given reads_after writes)
-  head_cut number same text ahead left given reads reads_after writes begun ended some took read = record {
+  pub head_cut : (number : ℕ) (same : M) (text : List ℕ) (ahead source : SourceView) (sink : SinkView) (reads reads_after writes : ℕ)
+      → IsOpen text → HasEnded source → 0 < length text → Taken text ahead source → reads_after ≡ reads
+      → TurnEnds answers clock InputCut number [] same same (wires ahead sink reads writes) (wires source sink reads_after writes)
+  head_cut number same text ahead source sink reads reads_after writes begun ended some took read = record {
     taken = text;
     part = text;
     is = refl;
     out = [];
-    moved = record { took = took; gave = sym (append_none given); reads = omega (arith, read); writes = omega arith };
-    ends = inl (record { begun = begun; nothing = refl }, some, refl, ended);
+    moved = moved_of text [] ahead source sink sink reads reads_after writes writes took (sent_none sink) (omega (arith, read)) (omega arith);
+    counts = (read, refl);
+    ends = inl (record { begun = begun; nothing = refl }, some, refl, record { left = ended.left; takes = ended.takes });
+  }
+
+  -- the source ended between two requests
+  pub head_over : (number : ℕ) (same : M) (text : List ℕ) (ahead source : SourceView) (sink : SinkView) (reads reads_after writes : ℕ)
+      → text ≡ [] → HasEnded source → Taken text ahead source → reads_after ≡ reads
+      → TurnEnds answers clock Over number [] same same (wires ahead sink reads writes) (wires source sink reads_after writes)
+  head_over number same text ahead source sink reads reads_after writes none ended took read = record {
+    taken = [];
+    part = [];
+    is = refl;
+    out = [];
+    moved = moved_of [] [] ahead source sink sink reads reads_after writes writes (subst (λ l. Taken l ahead source) none took) (sent_none sink)
+        (omega (arith, read)) (omega arith);
+    counts = (read, refl);
+    ends = inl (refl, refl, refl, record { left = ended.left; takes = ended.takes });
   }
 
   -- the source failed in a head, or before one
-  pub head_failed : (number : ℕ) (same : M) (text : List ℕ) (ahead left given : Option (List ℕ)) (reads reads_after writes : ℕ)
-      → IsOpen text → ahead ≡ prepend_known text left → Rose reads reads_after
-      → TurnEnds answers clock ReadFault number [] same same (wires ahead given reads writes) (wires left given reads_after writes)
-  head_failed number same text ahead left given reads reads_after writes begun took rose = record {
+  pub head_failed : (number : ℕ) (same : M) (text : List ℕ) (ahead source : SourceView) (sink : SinkView) (reads reads_after writes : ℕ)
+      → IsOpen text → Taken text ahead source → Rose reads reads_after
+      → TurnEnds answers clock ReadFault number [] same same (wires ahead sink reads writes) (wires source sink reads_after writes)
+  head_failed number same text ahead source sink reads reads_after writes begun took rose = record {
     taken = text;
     part = text;
     is = refl;
     out = [];
-    moved = record { took = took; gave = sym (append_none given); reads = rose.0; writes = omega arith };
+    moved = moved_of text [] ahead source sink sink reads reads_after writes writes took (sent_none sink) rose.0 (omega arith);
+    counts = refl;
     ends = inl (record { begun = begun; nothing = refl }, refl, rose);
   }
 
   -- no memory was found for a head
-  pub head_starved : (number : ℕ) (same : M) (text : List ℕ) (ahead left given : Option (List ℕ)) (reads reads_after writes : ℕ)
-      → ahead ≡ prepend_known text left → reads_after ≡ reads
-      → TurnEnds answers clock NoMemory number [] same same (wires ahead given reads writes) (wires left given reads_after writes)
-  head_starved number same text ahead left given reads reads_after writes took read = record {
+  pub head_starved : (number : ℕ) (same : M) (text : List ℕ) (ahead source : SourceView) (sink : SinkView) (reads reads_after writes : ℕ)
+      → Taken text ahead source → reads_after ≡ reads
+      → TurnEnds answers clock NoMemory number [] same same (wires ahead sink reads writes) (wires source sink reads_after writes)
+  head_starved number same text ahead source sink reads reads_after writes took read = record {
     taken = text;
     part = text;
     is = refl;
     out = [];
-    moved = record { took = took; gave = sym (append_none given); reads = omega (arith, read); writes = omega arith };
+    moved = moved_of text [] ahead source sink sink reads reads_after writes writes took (sent_none sink) (omega (arith, read)) (omega arith);
+    counts = (read, refl);
     ends = inl (refl, refl);
   }

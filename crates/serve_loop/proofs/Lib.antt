@@ -4,8 +4,10 @@ pub mod CutLemmas
 pub mod DoorLemmas
 pub mod HeadLemmas
 pub mod IntakeLemmas
+pub mod MovedLemmas
 pub mod RestLemmas
 pub mod SendLemmas
+pub mod SentLemmas
 pub mod SessionLemmas
 pub mod TellingLemmas
 pub mod TurnLemmas

@@ -1,13 +1,13 @@
 -- The rest of a request: its greeting, its body, and a refusal.
-use Rattle.std.proofs.Common.{◌≡◌, ◌⊎◌, inl, inr, ◌≤◌, ◌<◌, ◌+◌, ℕ, Bool, true, false, cond, not, ◌&&◌, List, [], ◌∷◌, ◌++◌, length, take, Option, Some, None, refl, sym, ap, ◌∙◌, subst, arith, append_assoc, append-nil, length-append}
+use Rattle.std.proofs.Common.{◌≡◌, ◌≤◌, ◌+◌, ℕ, Bool, true, false, cond, not, ◌&&◌, List, [], ◌∷◌, ◌++◌, length, take, refl, sym, ap, ◌∙◌, subst, arith, append-nil}
 use Rattle.std.proofs.Math.Seq.{take-append-add, take-append_seam}
 use Rattle.std.proofs.lemmas.List.{take-append-le}
 use Rattle.std.specs.Prelude.{Result, Ok, Err}
 use Rattle.std.specs.Result.{IsErrAnd}
-use Rattle.std.specs.Io.KnownBytes.{prepend_known, append_known, IsAtEnd}
 use Rattle.fault_base.specs.Counts.{Rose}
-use Rattle.io_base.specs.Sink.{GaveFront}
 use Rattle.http_wire.specs.Answers.{Wired}
+use Rattle.http_wire.specs.Taking.{SourceView, Taken}
+use Rattle.http_wire.proofs.SourceLemmas.{taken_none}
 use Rattle.call_types.specs.declared.feed.Cut.{Cut}
 use Rattle.call_types.specs.declared.feed.Cut.TheVariants.{ReadFault, BodyCut, WriteFault, ShardCut, NoMemory}
 use Rattle.call_types.specs.declared.refusal.Refusal.{Refusal}
@@ -15,16 +15,17 @@ use Rattle.call_types.specs.declared.reply.Reply.TheVariants.{Refused}
 use Rattle.desk_base.specs.Telling.{Telling}
 use Rattle.desk_base.specs.Telling.Telling.{Head}
 use Rattle.s3_reply.specs.Replies.{reply_bytes}
-use Rattle.serve_loop.specs.Deeds.{Wires, wires, IsFront, Moved}
+use Rattle.serve_loop.specs.Deeds.{Wires, wires, IsFront}
 use Rattle.http_wire.specs.Parts.{HeadParts}
 use Rattle.serve_loop.specs.Asks.{expects_continue, leaves_body}
-use Rattle.serve_loop.specs.Exchanges.{Ask, refused, greeting, call_of, closes, continue_of, head_of, size_of, tale_text}
+use Rattle.serve_loop.specs.Exchanges.{Ask, refused, greeting, call_of, closes, continue_of, head_of, size_of, tale_text, text_of}
 use Rattle.serve_loop.specs.Intakes.{CutsOver, unread_of}
+use Rattle.serve_loop.specs.Sending.{Sent, SinkView}
 use Rattle.serve_loop.specs.Telling.{GivesFront, MakesText}
-use Rattle.serve_loop.specs.Turns.{IsShort, IsWhole, RefuseGoes, refusal_rest, rest_of}
+use Rattle.serve_loop.specs.Turns.{IsShort, RefuseGoes, refusal_rest, rest_of}
 use Rattle.serve_loop.specs.declared.manner.Manner.{Manner}
-use Rattle.serve_loop.proofs.IntakeLemmas.{prepend_none}
-use Rattle.serve_loop.proofs.TellingLemmas.{append_both, append_none}
+use Rattle.serve_loop.proofs.MovedLemmas.{moved_of}
+use Rattle.serve_loop.proofs.SentLemmas.{sent_both}
 
 -- ---- fronts
 
@@ -67,10 +68,10 @@ pub size_none : (head : HeadParts) (why : Refusal) (size : ℕ) → leaves_body 
 size_none head why size leaves = ap (λ b. cond b 0 size) (sym leaves)
 
 -- the sink failed in the greeting
-pub greet_cut : (why : Cut) (ask : Ask) (now : ℕ) (manner : Manner) (tale : List Telling) (text : List ℕ) (left given given_after : Option (List ℕ)) (reads writes writes_after : ℕ)
-    → text ≡ continue_of ask → GivesFront why text given given_after writes writes_after
-    → IsShort why (rest_of ask now manner [] tale) (wires left given reads writes) (wires left given_after reads writes_after)
-greet_cut WriteFault ask now manner tale text left given given_after reads writes writes_after is gave = record {
+pub greet_cut : (why : Cut) (ask : Ask) (now : ℕ) (manner : Manner) (tale : List Telling) (text : List ℕ) (source : SourceView) (sink sink_after : SinkView) (reads writes writes_after : ℕ)
+    → text ≡ continue_of ask → GivesFront why text sink sink_after writes writes_after
+    → IsShort why (rest_of ask now manner [] tale) (wires source sink reads writes) (wires source sink_after reads writes_after)
+greet_cut WriteFault ask now manner tale text source sink sink_after reads writes writes_after is gave = record {
   out = take gave.0.count text;
   cut_off = record {
     part = omega arith;
@@ -81,20 +82,21 @@ greet_cut WriteFault ask now manner tale text left given given_after reads write
           (front_more text (tale_text (head_of ask) (call_of ask) now (closes manner) tale) gave.0.count gave.0.within),
     );
   };
-  moved = record { took = prepend_none left; gave = gave.0.front; reads = omega arith; writes = gave.1.0 };
+  moved = moved_of [] (take gave.0.count text) source source sink sink_after reads reads writes writes_after (taken_none source) gave.0.front (omega arith) gave.1.0;
+  counts = refl;
 }
-greet_cut ReadFault ask now manner tale text left given given_after reads writes writes_after is gave = absurd gave
-greet_cut (BodyCut _ _) ask now manner tale text left given given_after reads writes writes_after is gave = absurd gave
-greet_cut (ShardCut _) ask now manner tale text left given given_after reads writes writes_after is gave = absurd gave
-greet_cut NoMemory ask now manner tale text left given given_after reads writes writes_after is gave = absurd gave
+greet_cut ReadFault ask now manner tale text source sink sink_after reads writes writes_after is gave = absurd gave
+greet_cut (BodyCut _ _) ask now manner tale text source sink sink_after reads writes writes_after is gave = absurd gave
+greet_cut (ShardCut _) ask now manner tale text source sink sink_after reads writes writes_after is gave = absurd gave
+greet_cut NoMemory ask now manner tale text source sink sink_after reads writes writes_after is gave = absurd gave
 
 -- ---- the body
 
 -- the source ended or failed in the body, behind the greeting
-pub pass_cut : (why : Cut) (ask : Ask) (now : ℕ) (manner : Manner) (tale : List Telling) (old new : Wired) (left after given given_after : Option (List ℕ)) (reads reads_after writes writes_after : ℕ)
-    → old.body_left ≡ size_of ask → given_after ≡ append_known given (continue_of ask) → writes_after ≡ writes → CutsOver why old new left after reads reads_after
-    → (body : List ℕ) × IsShort why (rest_of ask now manner body tale) (wires (unread_of old left) given reads writes) (wires (unread_of new after) given_after reads_after writes_after)
-pass_cut ReadFault ask now manner tale old new left after given given_after reads reads_after writes writes_after size gave same cut = (
+pub pass_cut : (why : Cut) (ask : Ask) (now : ℕ) (manner : Manner) (tale : List Telling) (old new : Wired) (source after : SourceView) (sink sink_after : SinkView) (reads reads_after writes writes_after : ℕ)
+    → old.body_left ≡ size_of ask → Sent (continue_of ask) sink sink_after → writes_after ≡ writes → CutsOver why old new source after reads reads_after
+    → (body : List ℕ) × IsShort why (rest_of ask now manner body tale) (wires (unread_of old source) sink reads writes) (wires (unread_of new after) sink_after reads_after writes_after)
+pass_cut ReadFault ask now manner tale old new source after sink sink_after reads reads_after writes writes_after size gave same cut = (
   cut.0.part,
   record {
     out = continue_of ask;
@@ -103,24 +105,28 @@ pass_cut ReadFault ask now manner tale old new left after given given_after read
       silent = λ short. front_same (continue_of ask);
       cause = (cut.1, front_all (continue_of ask) (tale_text (head_of ask) (call_of ask) now (closes manner) tale));
     };
-    moved = record { took = cut.0.took; gave = gave; reads = cut.1.0; writes = omega (arith, same) };
+    moved = moved_of cut.0.part (continue_of ask) (unread_of old source) (unread_of new after) sink sink_after reads reads_after writes writes_after
+        cut.0.took gave cut.1.0 (omega (arith, same));
+    counts = same;
   },
 )
-pass_cut (BodyCut read stated) ask now manner tale old new left after given given_after reads reads_after writes writes_after size gave same cut = (
+pass_cut (BodyCut read stated) ask now manner tale old new source after sink sink_after reads reads_after writes writes_after size gave same cut = (
   cut.0.part,
   record {
     out = continue_of ask;
     cut_off = record {
       part = omega (arith, cut.0.long, size);
       silent = λ short. front_same (continue_of ask);
-      cause = (omega (arith, cut.0.long, size), subst IsAtEnd (prepend_none (unread_of new after)) cut.1, refl);
+      cause = (omega (arith, cut.0.long, size), refl, record { left = cut.1.left; takes = cut.1.takes }, refl);
     };
-    moved = record { took = cut.0.took; gave = gave; reads = omega (arith, cut.2); writes = omega (arith, same) };
+    moved = moved_of cut.0.part (continue_of ask) (unread_of old source) (unread_of new after) sink sink_after reads reads_after writes writes_after
+        cut.0.took gave (omega (arith, cut.2)) (omega (arith, same));
+    counts = (cut.2, same);
   },
 )
-pass_cut WriteFault ask now manner tale old new left after given given_after reads reads_after writes writes_after size gave same cut = absurd cut
-pass_cut (ShardCut _) ask now manner tale old new left after given given_after reads reads_after writes writes_after size gave same cut = absurd cut
-pass_cut NoMemory ask now manner tale old new left after given given_after reads reads_after writes writes_after size gave same cut = absurd cut
+pass_cut WriteFault ask now manner tale old new source after sink sink_after reads reads_after writes writes_after size gave same cut = absurd cut
+pass_cut (ShardCut _) ask now manner tale old new source after sink sink_after reads reads_after writes writes_after size gave same cut = absurd cut
+pass_cut NoMemory ask now manner tale old new source after sink sink_after reads reads_after writes writes_after size gave same cut = absurd cut
 
 -- ---- a refusal
 
@@ -133,25 +139,23 @@ refusal_tale : (ask : Ask) (why : Refusal) (now : ℕ) (manner : Manner) (close 
 refusal_tale ask why now manner close is = ap (refusal_of ask why now) is ∙ sym (append-nil (refusal_of ask why now (closes manner)))
 
 -- the text of a refusal behind the greeting and the body
-pub refusal_given : (result : Result (Unit {0}) Cut) (ask : Ask) (why : Refusal) (now : ℕ) (manner : Manner) (body : List ℕ) (close : Bool) (left after given greeted given_after : Option (List ℕ)) (reads reads_after writes writes_mid writes_after : ℕ)
+pub refusal_given : (result : Result (Unit {0}) Cut) (ask : Ask) (why : Refusal) (now : ℕ) (manner : Manner) (body : List ℕ) (close : Bool) (source after : SourceView) (sink greeted sink_after : SinkView) (reads reads_after writes writes_mid writes_after : ℕ)
     → close ≡ closes manner
-    → length body ≡ size_of ask → left ≡ prepend_known body after → reads_after ≡ reads → greeted ≡ append_known given (continue_of ask) → writes_mid ≡ writes
-    → MakesText result (reply_bytes (record { head = head_of ask; call = call_of ask; reply = Refused why }) now close) greeted given_after writes_mid writes_after
-    → RefuseGoes result ask why now manner (wires left given reads writes) (wires after given_after reads_after writes_after)
-refusal_given (Ok _) ask why now manner body close left after given greeted given_after reads reads_after writes writes_mid writes_after is whole took read greet wrote made = (
+    → length body ≡ size_of ask → Taken body source after → reads_after ≡ reads → Sent (continue_of ask) sink greeted → writes_mid ≡ writes
+    → MakesText result (reply_bytes (record { head = head_of ask; call = call_of ask; reply = Refused why }) now close) greeted sink_after writes_mid writes_after
+    → RefuseGoes result ask why now manner (wires source sink reads writes) (wires after sink_after reads_after writes_after)
+refusal_given (Ok _) ask why now manner body close source after sink greeted sink_after reads reads_after writes writes_mid writes_after is whole took read greet wrote made = (
   body,
   record {
     whole = whole;
-    moved = record {
-      took = took;
-      gave = made.0 ∙ ap (λ g. append_known g (refusal_of ask why now close)) greet ∙ append_both given (continue_of ask) (refusal_of ask why now close)
-          ∙ ap (λ l. append_known given (continue_of ask ++ l)) (refusal_tale ask why now manner close is);
-      reads = omega (arith, read);
-      writes = omega (arith, wrote, made.1);
-    };
+    moved = moved_of body (text_of (refusal_rest ask why now manner body)) source after sink sink_after reads reads_after writes writes_after took
+        (subst (λ l. Sent (continue_of ask ++ l) sink sink_after) (refusal_tale ask why now manner close is)
+        (sent_both (continue_of ask) (refusal_of ask why now close) sink greeted sink_after greet made.0))
+        (omega (arith, read)) (omega (arith, wrote, made.1));
+    still = (read, made.1 ∙ wrote);
   },
 )
-refusal_given (Err WriteFault) ask why now manner body close left after given greeted given_after reads reads_after writes writes_mid writes_after is whole took read greet wrote made =
+refusal_given (Err WriteFault) ask why now manner body close source after sink greeted sink_after reads reads_after writes writes_mid writes_after is whole took read greet wrote made =
     let text = refusal_of ask why now close in
     let full = refusal_tale ask why now manner close is in
     let n = made.0.count in (
@@ -163,15 +167,12 @@ refusal_given (Err WriteFault) ask why now manner body close left after given gr
           silent = λ short. absurd (omega (arith, whole, short));
           cause = (subst (λ w. Rose w writes_after) wrote made.1, front_behind (continue_of ask) (take n text) _ (n, ap (take n) full));
         };
-        moved = record {
-          took = took;
-          gave = made.0.front ∙ ap (λ g. append_known g (take n text)) greet ∙ append_both given (continue_of ask) (take n text);
-          reads = omega (arith, read);
-          writes = omega (arith, wrote, made.1.0);
-        };
+        moved = moved_of body (continue_of ask ++ take n text) source after sink sink_after reads reads_after writes writes_after took
+            (sent_both (continue_of ask) (take n text) sink greeted sink_after greet made.0.front) (omega (arith, read)) (omega (arith, wrote, made.1.0));
+        counts = read;
       },
     )
-refusal_given (Err NoMemory) ask why now manner body close left after given greeted given_after reads reads_after writes writes_mid writes_after is whole took read greet wrote made = (
+refusal_given (Err NoMemory) ask why now manner body close source after sink greeted sink_after reads reads_after writes writes_mid writes_after is whole took read greet wrote made = (
   body,
   record {
     out = continue_of ask;
@@ -180,15 +181,19 @@ refusal_given (Err NoMemory) ask why now manner body close left after given gree
       silent = λ short. front_same (continue_of ask);
       cause = front_all (continue_of ask) _;
     };
-    moved = record { took = took; gave = made.0 ∙ greet; reads = omega (arith, read); writes = omega (arith, wrote, made.1) };
+    moved = moved_of body (continue_of ask) source after sink sink_after reads reads_after writes writes_after took
+        (subst (Sent (continue_of ask) sink) (sym made.0) greet) (omega (arith, read)) (omega (arith, wrote, made.1));
+    counts = (read, made.1 ∙ wrote);
   },
 )
-refusal_given (Err ReadFault) ask why now manner body close left after given greeted given_after reads reads_after writes writes_mid writes_after is whole took read greet wrote made = absurd made
-refusal_given (Err (BodyCut _ _)) ask why now manner body close left after given greeted given_after reads reads_after writes writes_mid writes_after is whole took read greet wrote made = absurd made
-refusal_given (Err (ShardCut _)) ask why now manner body close left after given greeted given_after reads reads_after writes writes_mid writes_after is whole took read greet wrote made = absurd made
+refusal_given (Err ReadFault) ask why now manner body close source after sink greeted sink_after reads reads_after writes writes_mid writes_after is whole took read greet wrote made = absurd made
+refusal_given (Err (BodyCut _ _)) ask why now manner body close source after sink greeted sink_after reads reads_after writes writes_mid writes_after is whole took read greet wrote made = absurd made
+refusal_given (Err (ShardCut _)) ask why now manner body close source after sink greeted sink_after reads reads_after writes writes_mid writes_after is whole took read greet wrote made = absurd made
 
 -- a refusal that was cut before
 pub refuse_err : (result : Result (Unit {0}) Cut) (cut : Cut) (ask : Ask) (why : Refusal) (now : ℕ) (manner : Manner) (before after : Wires)
-    → IsErrAnd result (λ e. e ≡ cut) → ((body : List ℕ) × IsShort cut (refusal_rest ask why now manner body) before after) → RefuseGoes result ask why now manner before after
+    → IsErrAnd result (λ e. e ≡ cut)
+    → ((body : List ℕ) × IsShort cut (refusal_rest ask why now manner body) before after) → RefuseGoes result ask why now manner before after
 refuse_err (Ok _) cut ask why now manner before after is short = absurd is
-refuse_err (Err e) cut ask why now manner before after is short = (short.0, subst (λ c. IsShort c (refusal_rest ask why now manner short.0) before after) (sym is) short.1)
+refuse_err (Err e) cut ask why now manner before after is short =
+    (short.0, subst (λ c. IsShort c (refusal_rest ask why now manner short.0) before after) (sym is) short.1)

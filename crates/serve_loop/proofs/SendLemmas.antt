@@ -16,4 +16,4 @@ pub work_send : (ℓ : NamedLft) (R K O C P X S T : RattleType) (desk : DeskGhos
     → IsSend R → IsSync K → IsSend O → IsSync C → IsSend P → IsSend (the_row ℓ R K O C P X S T desk door source sink clock)
 work_send ℓ R K O C P X S T desk door source sink clock r k o c p =
     declared_send (the_type ℓ R K O C P X S T desk door source sink clock)
-    (search (sendable, crosses), (search (sendable, crosses), (search (sendable, crosses), (search (sendable, crosses), (search (sendable, crosses), (search (sendable, crosses), (search (sendable, crosses), (search (sendable, crosses), (search (sendable, crosses), tt)))))))))
+    (search (sendable, crosses), (search (sendable, crosses), (search (sendable, crosses), (search (sendable, crosses), (search (sendable, crosses), (search (sendable, crosses), (search (sendable, crosses), (search (sendable, crosses), (search (sendable, crosses), (search (sendable, crosses), tt))))))))))

@@ -1,20 +1,20 @@
 -- A connection from its turns.
-use Rattle.std.proofs.Common.{◌≡◌, ◌⊎◌, inl, inr, ◌≤◌, ◌<◌, ◌+◌, ℕ, List, [], ◌∷◌, ◌++◌, length, Option, Some, None, refl, sym, ap, ◌∙◌, subst, arith, append_assoc, append-nil, length-append}
+use Rattle.std.proofs.Common.{◌≡◌, inl, ◌≤◌, ◌+◌, ℕ, List, [], ◌∷◌, ◌++◌, length, Option, refl, sym, ap, ◌∙◌, subst, arith, append_assoc, append-nil, length-append}
 use Rattle.std.specs.Prelude.{Result}
-use Rattle.std.specs.Io.KnownBytes.{prepend_known, append_known}
+use Rattle.http_wire.specs.Taking.{SourceView}
 use Rattle.call_types.specs.declared.feed.Cut.{Cut}
 use Rattle.desk_base.specs.Answering.{Task}
 use Rattle.desk_base.specs.Telling.{Telling}
-use Rattle.serve_loop.specs.Deeds.{Wires, wires, Answered, Moved}
+use Rattle.serve_loop.specs.Deeds.{Wires, wires, Answered, CountsStay, Moved}
 use Rattle.serve_loop.specs.Exchanges.{Exchange, IsManner, all_bytes, all_texts, bytes_of, last_number, text_of}
+use Rattle.serve_loop.specs.Sending.{SinkView}
 use Rattle.serve_loop.specs.Session.{EndsSo, Run, Session}
 use Rattle.serve_loop.specs.Turns.{TurnAnswers, TurnEnds}
 use Rattle.serve_loop.specs.declared.ends.ConnectionEnd.{ConnectionEnd}
 use Rattle.serve_loop.specs.declared.ends.ConnectionEnd.TheVariants.{NoMemory}
 use Rattle.serve_loop.specs.declared.manner.Manner.TheVariants.{Stays}
-use Rattle.serve_loop.proofs.HeadLemmas.{ends_later, moved_later}
-use Rattle.serve_loop.proofs.IntakeLemmas.{prepend_none}
-use Rattle.serve_loop.proofs.TellingLemmas.{append_none}
+use Rattle.serve_loop.proofs.HeadLemmas.{ends_later}
+use Rattle.serve_loop.proofs.MovedLemmas.{counts_later, moved_later, moved_none}
 
 bytes_more : (xs : List Exchange) (x : Exchange) → all_bytes (xs ++ x ∷ []) ≡ all_bytes xs ++ bytes_of x
 bytes_more [] x = append-nil (bytes_of x)
@@ -41,13 +41,15 @@ module _ {M R : Type 0} (answers : Task → M → M → List ℕ → List Tellin
     pub exchanges : List Exchange
     pub run : Run answers clock 0 old exchanges now
     pub moved : Moved (all_bytes exchanges) (all_texts exchanges) start here
+    pub still : CountsStay start here
     pub many : number ≡ length exchanges
 
-  pub so_far_none : (old : M) (left given : Option (List ℕ)) (reads writes : ℕ) → SoFar 0 old old (wires left given reads writes) (wires left given reads writes)
-  so_far_none old left given reads writes = record {
+  pub so_far_none : (old : M) (source : SourceView) (sink : SinkView) (reads writes : ℕ) → SoFar 0 old old (wires source sink reads writes) (wires source sink reads writes)
+  so_far_none old source sink reads writes = record {
     exchanges = [];
     run = refl;
-    moved = record { took = prepend_none left; gave = sym (append_none given); reads = omega arith; writes = omega arith };
+    moved = moved_none source sink reads writes;
+    still = (refl, refl);
     many = refl;
   }
 
@@ -62,6 +64,7 @@ module _ {M R : Type 0} (answers : Task → M → M → List ℕ → List Tellin
             (subst (λ t. Moved (all_bytes xs ++ bytes_of turn.x) t start there) (sym (texts_more xs turn.x))
             (moved_later (all_bytes xs) (bytes_of turn.x) (all_texts xs) (text_of turn.x) start here there so_far.moved
             (subst (λ l. Moved l (text_of turn.x) here there) (sym turn.is) turn.moved)));
+        still = (turn.still.0 ∙ so_far.still.0, turn.still.1 ∙ so_far.still.1);
         many = omega (arith, so_far.many, length-append xs (turn.x ∷ []));
       }
 
@@ -84,16 +87,18 @@ module _ {M R : Type 0} (answers : Task → M → M → List ℕ → List Tellin
         (subst (λ l. Moved l turn.out here there) (sym turn.is) turn.moved);
     ends = subst (λ n. EndsSo answers clock end n mid new turn.taken turn.out start there) so_far.many
         (ends_later answers clock end number mid new turn.taken turn.out start here there so_far.moved.reads so_far.moved.writes turn.ends);
+    counts = counts_later end start here there so_far.still turn.counts;
   }
 
   -- a connection for which no memory was found
-  pub session_none : (same : M) (left given : Option (List ℕ)) (reads writes : ℕ) → Session answers clock same same NoMemory (wires left given reads writes) (wires left given reads writes)
-  session_none same left given reads writes = record {
+  pub session_none : (same : M) (source : SourceView) (sink : SinkView) (reads writes : ℕ) → Session answers clock same same NoMemory (wires source sink reads writes) (wires source sink reads writes)
+  session_none same source sink reads writes = record {
     exchanges = [];
     stop = same;
     run = refl;
     taken = [];
     out = [];
-    moved = record { took = prepend_none left; gave = sym (append_none given); reads = omega arith; writes = omega arith };
+    moved = moved_none source sink reads writes;
     ends = inl (refl, refl);
+    counts = (refl, refl);
   }

@@ -1,26 +1,14 @@
 -- What a teller does, put together from what its flush and its sink do.
-use Rattle.std.proofs.Common.{◌≡◌, ◌≤◌, ◌+◌, ℕ, Bool, false, IsTrue, List, [], ◌∷◌, ◌++◌, length, take, Option, Some, None, refl, sym, ap, ◌∙◌, subst, arith, append_assoc, append-nil, length-append}
+use Rattle.std.proofs.Common.{◌≡◌, ◌+◌, ℕ, Bool, false, IsTrue, List, [], ◌∷◌, ◌++◌, length, take, refl, sym, ap, ◌∙◌, subst, append_assoc, append-nil}
 use Rattle.std.proofs.Math.Seq.{take-append-add}
 use Rattle.std.proofs.lemmas.Bool.{false≢true}
-use Rattle.std.proofs.lemmas.List.{take-append-le}
 use Rattle.std.specs.Prelude.{Result, Ok, Err}
-use Rattle.std.specs.Io.KnownBytes.{append_known}
-use Rattle.fault_base.specs.Counts.{Rose}
-use Rattle.io_base.specs.Sink.{GaveFront}
 use Rattle.call_types.specs.declared.feed.Cut.{Cut}
 use Rattle.call_types.specs.declared.feed.Cut.TheVariants.{ReadFault, BodyCut, WriteFault, ShardCut, NoMemory}
 use Rattle.desk_base.specs.Telling.{Telling, Tells, TellsAll}
-use Rattle.serve_loop.specs.Telling.{BreaksText, FlushesText, GivesText, Replying, TakesText, Told, tale_in, text_in}
-
--- ---- what was given, and more
-
-pub append_both : (given : Option (List ℕ)) (first second : List ℕ) → append_known (append_known given first) second ≡ append_known given (first ++ second)
-append_both None first second = refl
-append_both (Some given) first second = ap Some (append_assoc given first second)
-
-pub append_none : (given : Option (List ℕ)) → append_known given [] ≡ given
-append_none None = refl
-append_none (Some given) = ap Some (append-nil given)
+use Rattle.serve_loop.specs.Sending.{Sent, SentFront}
+use Rattle.serve_loop.specs.Telling.{BreaksText, FlushesText, GivesText, TakesText, Told, tale_in, text_in}
+use Rattle.serve_loop.proofs.SentLemmas.{sent_both, sent_none}
 
 not_true : {A : Type 0} (b : Bool) → b ≡ false → IsTrue b → A
 not_true b never so = absurd (false≢true (sym never ∙ so))
@@ -28,7 +16,7 @@ not_true b never so = absurd (false≢true (sym never ∙ so))
 -- ---- one telling
 
 -- what is held back and a text behind it are all given
-pub takes_given : (text : List ℕ) (old new : Told) → new.reply ≡ old.reply → new.held ≡ [] → new.given ≡ append_known old.given (old.held ++ text)
+pub takes_given : (text : List ℕ) (old new : Told) → new.reply ≡ old.reply → new.held ≡ [] → Sent (old.held ++ text) old.sink new.sink
     → old.reply.waits ≡ false → TakesText text old new
 takes_given text old new same none gave never = record {
   same = same;
@@ -39,22 +27,22 @@ takes_given text old new same none gave never = record {
 }
 
 -- a text is held back
-pub takes_held : (text : List ℕ) (old new : Told) → new.reply ≡ old.reply → new.held ≡ old.held ++ text → new.given ≡ old.given → TakesText text old new
+pub takes_held : (text : List ℕ) (old new : Told) → new.reply ≡ old.reply → new.held ≡ old.held ++ text → new.sink ≡ old.sink → TakesText text old new
 takes_held text old new same held gave = record {
   same = same;
   more = [];
-  gave = gave ∙ sym (append_none old.given);
+  gave = subst (Sent [] old.sink) (sym gave) (sent_none old.sink);
   split = held;
   waits = λ so. refl;
 }
 
 -- a front of both was given
-pub breaks_front : (text all : List ℕ) (old new : Told) → new.reply ≡ old.reply → all ≡ old.held ++ text → GaveFront all old.given new.given
+pub breaks_front : (text all : List ℕ) (old new : Told) → new.reply ≡ old.reply → all ≡ old.held ++ text → SentFront all old.sink new.sink
     → old.reply.waits ≡ false → BreaksText text old new
 breaks_front text all old new same are gave never = record {
   same = same;
   count = gave.count;
-  front = gave.front ∙ ap (λ l. append_known old.given (take gave.count l)) are;
+  front = subst (λ l. Sent (take gave.count l) old.sink new.sink) are gave.front;
   waits = λ so. not_true old.reply.waits never so;
 }
 
@@ -70,12 +58,15 @@ module _ {T N : Type 0} (view : T → Told) (name : T → N) where
 
   -- a text was put behind what is held back, and then all was flushed
   pub tells_flushed : (telling : Telling) (result : Result (Unit {0}) Cut) (old new : T) (mid : Told) (faults faults_after : ℕ)
-      → name new ≡ name old → mid.reply ≡ (view old).reply → mid.given ≡ (view old).given → mid.held ≡ (view old).held ++ text_in (view old).reply telling
+      → name new ≡ name old → mid.reply ≡ (view old).reply → mid.sink ≡ (view old).sink → mid.held ≡ (view old).held ++ text_in (view old).reply telling
       → (view old).reply.waits ≡ false → FlushesText result mid (view new) faults faults_after → Tells taken broken result telling old new
-  tells_flushed telling (Ok _) old new mid faults faults_after named same given held never flushed =
-      (named, takes_given (text_in (view old).reply telling) (view old) (view new) (flushed.0 ∙ same) flushed.1 (flushed.2 ∙ ap (λ g. append_known g mid.held) given ∙ ap (append_known (view old).given) held) never)
+  tells_flushed telling (Ok _) old new mid faults faults_after named same given held never flushed = (
+    named,
+    takes_given (text_in (view old).reply telling) (view old) (view new) (flushed.0 ∙ same) flushed.1
+        (subst (λ l. Sent l (view old).sink (view new).sink) held (subst (λ s. Sent mid.held s (view new).sink) given flushed.2)) never,
+  )
   tells_flushed telling (Err WriteFault) old new mid faults faults_after named same given held never flushed =
-      (named, breaks_front (text_in (view old).reply telling) mid.held (view old) (view new) (flushed.0 ∙ same) held (subst (λ g. GaveFront mid.held g (view new).given) given flushed.1) never)
+      (named, breaks_front (text_in (view old).reply telling) mid.held (view old) (view new) (flushed.0 ∙ same) held (subst (λ s. SentFront mid.held s (view new).sink) given flushed.1) never)
   tells_flushed telling (Err ReadFault) old new mid faults faults_after named same given held never flushed = absurd flushed
   tells_flushed telling (Err (BodyCut _ _)) old new mid faults faults_after named same given held never flushed = absurd flushed
   tells_flushed telling (Err (ShardCut _)) old new mid faults faults_after named same given held never flushed = absurd flushed
@@ -83,12 +74,12 @@ module _ {T N : Type 0} (view : T → Told) (name : T → N) where
 
   -- all that was held back was flushed, and then a text was given
   pub tells_given : (telling : Telling) (result : Result (Unit {0}) Cut) (old new : T) (mid : Told) (faults faults_mid faults_after : ℕ)
-      → name new ≡ name old → (mid.reply ≡ (view old).reply) × (mid.held ≡ []) × (mid.given ≡ append_known (view old).given (view old).held) × (faults_mid ≡ faults) → (view new).reply ≡ mid.reply → (view new).held ≡ mid.held
-      → (view old).reply.waits ≡ false → GivesText result (text_in (view old).reply telling) mid.given (view new).given faults_mid faults_after → Tells taken broken result telling old new
+      → name new ≡ name old → (mid.reply ≡ (view old).reply) × (mid.held ≡ []) × Sent (view old).held (view old).sink mid.sink × (faults_mid ≡ faults) → (view new).reply ≡ mid.reply → (view new).held ≡ mid.held
+      → (view old).reply.waits ≡ false → GivesText result (text_in (view old).reply telling) mid.sink (view new).sink faults_mid faults_after → Tells taken broken result telling old new
   tells_given telling (Ok _) old new mid faults faults_mid faults_after named flushed same held never given = (
     named,
     takes_given (text_in (view old).reply telling) (view old) (view new) (same ∙ flushed.0) (held ∙ flushed.1)
-        (given.0 ∙ ap (λ g. append_known g (text_in (view old).reply telling)) flushed.2 ∙ append_both (view old).given (view old).held (text_in (view old).reply telling)) never,
+        (sent_both (view old).held (text_in (view old).reply telling) (view old).sink mid.sink (view new).sink flushed.2 given.0) never,
   )
   tells_given telling (Err WriteFault) old new mid faults faults_mid faults_after named flushed same held never given =
       let text = text_in (view old).reply telling in (
@@ -96,8 +87,8 @@ module _ {T N : Type 0} (view : T → Told) (name : T → N) where
         record {
           same = same ∙ flushed.0;
           count = length (view old).held + given.0.count;
-          front = given.0.front ∙ ap (λ g. append_known g (take given.0.count text)) flushed.2 ∙ append_both (view old).given (view old).held (take given.0.count text)
-              ∙ ap (append_known (view old).given) (sym (take-append-add (view old).held text given.0.count));
+          front = subst (λ l. Sent l (view old).sink (view new).sink) (sym (take-append-add (view old).held text given.0.count))
+              (sent_both (view old).held (take given.0.count text) (view old).sink mid.sink (view new).sink flushed.2 given.0.front);
           waits = λ so. not_true (view old).reply.waits never so;
         },
       )
@@ -114,7 +105,7 @@ module _ {T N : Type 0} (view : T → Told) (name : T → N) where
     subst (λ t. TakesText [] (view old) (view t)) same (record {
       same = refl;
       more = [];
-      gave = sym (append_none (view old).given);
+      gave = sent_none (view old).sink;
       split = sym (append-nil (view old).held);
       waits = λ so. refl;
     }),
@@ -128,7 +119,7 @@ module _ {T N : Type 0} (view : T → Told) (name : T → N) where
         record {
           same = later.1.same ∙ one.same;
           more = one.more ++ later.1.more;
-          gave = later.1.gave ∙ ap (λ g. append_known g later.1.more) one.gave ∙ append_both (view old).given one.more later.1.more;
+          gave = sent_both one.more later.1.more (view old).sink (view mid).sink (view new).sink one.gave later.1.gave;
           split = append_assoc one.more later.1.more (view new).held ∙ ap (λ l. one.more ++ l) later.1.split
               ∙ sym (append_assoc one.more (view mid).held (tale_in (view mid).reply tale)) ∙ ap (λ l. l ++ tale_in (view mid).reply tale) one.split
               ∙ append_assoc (view old).held text (tale_in (view mid).reply tale) ∙ ap (λ l. (view old).held ++ (text ++ l)) texts;

@@ -1,5 +1,5 @@
 -- What is done for a request, over any desk.
-use Rattle.std.specs.Prelude.{◌≡◌, ◌⊎◌, ◌<◌, ◌≤◌, ℕ, List, [], ◌∷◌, ◌++◌, length, take, Option, IfSome, Result, Ok, Err}
+use Rattle.std.specs.Prelude.{◌≡◌, ◌⊎◌, ◌<◌, ◌≤◌, ℕ, true, List, [], ◌∷◌, ◌++◌, length, take, Option, IfSome, Result, Ok, Err}
 use Rattle.std.specs.Io.KnownBytes.{prepend_known, append_known, IsAtEnd}
 use Rattle.std.specs.List.{concat}
 use Rattle.fault_base.specs.Counts.{Rose}
@@ -12,25 +12,50 @@ use Rattle.desk_base.specs.Telling.{Telling}
 use Rattle.desk_base.specs.Telling.Telling.{Head}
 use Rattle.desk_base.specs.declared.call.Call.{Call}
 use Rattle.serve_loop.specs.Exchanges.{Ask, unread, refused, asked, Asks, Exchange, IsManner, continue_of, size_of, text_of}
+use Rattle.serve_loop.specs.Sending.{SentSince, SinkView}
+use Rattle.http_wire.specs.Taking.{SourceView, took_none}
 use Rattle.io_base.specs.Clock.{year_10000}
+use Rattle.io_base.specs.Trail.{GiveCall, TakeCall, obtained}
 
--- what the source and the sink show: what of the source was not taken, what was given to the sink, told or not, and both counts of faults
+-- what the source and the sink show: what of the source was not taken, what was given to the sink, told or not, both counts of faults, and the
+-- takes and the gives that were asked of them, the newest first
 pub record Wires : Type 0 where
   pub left : Option (List ℕ)
   pub given : Option (List ℕ)
   pub read_faults : ℕ
   pub write_faults : ℕ
+  pub takes : List TakeCall
+  pub gives : List GiveCall
 
 -- wires, from what they show
-abbrev pub wires : Option (List ℕ) → Option (List ℕ) → ℕ → ℕ → Wires
-wires left given read_faults write_faults = record { left = left; given = given; read_faults = read_faults; write_faults = write_faults }
+abbrev pub wires : SourceView → SinkView → ℕ → ℕ → Wires
+wires source sink read_faults write_faults = record {
+  left = source.left;
+  given = sink.given;
+  read_faults = read_faults;
+  write_faults = write_faults;
+  takes = source.takes;
+  gives = sink.gives;
+}
 
--- bytes went from the source, other bytes to the sink, and no count fell
+-- bytes went from the source, which are those that its takes answered, other bytes to the sink, which its gives sent, and no count fell
 pub record Moved (taken given : List ℕ) (old new : Wires) : Type 0 where
   pub took : old.left ≡ prepend_known taken new.left
+  pub takes : obtained new.takes ≡ obtained old.takes ++ taken
   pub gave : new.given ≡ append_known old.given given
+  pub gives : SentSince given old.gives new.gives
   pub reads : old.read_faults ≤ new.read_faults
   pub writes : old.write_faults ≤ new.write_faults
+
+-- both counts of faults stay
+abbrev pub CountsStay : Wires → Wires → Type 0
+CountsStay old new = (new.read_faults ≡ old.read_faults) × (new.write_faults ≡ old.write_faults)
+
+-- the source met its end: no byte is left, as far as it tells, and of its takes into a buffer with room the newest that did not fail answered that no
+-- byte comes
+pub record MetEnd (now : Wires) : Type 0 where
+  pub left : IsAtEnd now.left
+  pub takes : took_none now.takes ≡ true
 
 -- bytes are a front of a text
 abbrev pub IsFront : List ℕ → List ℕ → Type 0
@@ -47,9 +72,9 @@ TellsShort (unread why) tale = ⊥
 TellsShort (refused head size why) tale = ⊥
 TellsShort (asked head size call) tale = (reply : Reply) × (pieces : List (List ℕ)) × (length (concat pieces) < bytes_after reply call) × (tale ≡ tale_of reply pieces)
 
--- what was given of the answer where the exchange was cut, and why
+-- what was given of the answer where the exchange was cut, and why; behind a body that was cut no byte was taken
 abbrev pub CutSo : Cut → Exchange → (ahead out : List ℕ) → Wires → Wires → Type 0
-CutSo (BodyCut _ _) x ahead out old new = (length x.body < size_of x.ask) × IsAtEnd (prepend_known ahead new.left) × (out ≡ continue_of x.ask)
+CutSo (BodyCut _ _) x ahead out old new = (length x.body < size_of x.ask) × (ahead ≡ []) × MetEnd new × (out ≡ continue_of x.ask)
 CutSo ReadFault x ahead out old new = Rose old.read_faults new.read_faults × IsFront out (text_of x)
 CutSo WriteFault x ahead out old new = Rose old.write_faults new.write_faults × IsFront out (text_of x)
 CutSo (ShardCut _) x ahead out old new = TellsShort x.ask x.tale × (length x.body ≡ size_of x.ask) × (out ≡ text_of x)

@@ -1,29 +1,34 @@
 -- What the serving of a door comes to: connections one after another, and how it ended.
-use Rattle.std.specs.Prelude.{◌≡◌, ◌⊎◌, ◌≤◌, ℕ, Bool, true, List, [], ◌∷◌, ◌++◌, length, map, Option, Some, None, option_map, Result}
+use Rattle.std.specs.Prelude.{◌≡◌, ◌⊎◌, ◌+◌, ◌≤◌, min, ℕ, Bool, true, List, [], ◌∷◌, ◌++◌, length, map, Option, Some, None, option_map, Result}
 use Rattle.fault_base.specs.Counts.{Rose}
 use Rattle.call_types.specs.declared.feed.Cut.{Cut}
 use Rattle.desk_base.specs.Answering.{Task}
 use Rattle.desk_base.specs.Telling.{Telling}
+use Rattle.io_base.specs.declared.sink.Sink.{Ghosts as SinkGhosts}
+use Rattle.io_base.specs.declared.source.Source.{Ghosts as SourceGhosts}
+use Rattle.http_wire.specs.Taking.{SourceView, source_view}
 use Rattle.serve_loop.specs.Deeds.{Wires, wires}
+use Rattle.serve_loop.specs.Sending.{SinkView, sink_view}
 use Rattle.serve_loop.specs.Session.{Session}
 use Rattle.serve_loop.specs.declared.doors.DoorEnd.{DoorEnd}
 use Rattle.serve_loop.specs.declared.doors.DoorEnd.TheVariants.{Over, DoorFailed}
 use Rattle.serve_loop.specs.declared.ends.ConnectionEnd.{ConnectionEnd}
+use Rattle.serve_loop.specs.declared.ends.ConnectionEnd.TheVariants.{NoMemory}
 
--- how the ends of connections are seen: what of a source was not taken, what was given to a sink, and their counts of faults
+-- how the ends of connections are seen: a source with its takes, a sink with its gives, and their counts of faults
 pub record Sight (S T : Type 0) : Type 0 where
-  pub left : S → Option (List ℕ)
+  pub source : S → SourceView
   pub reads : S → ℕ
-  pub given : T → Option (List ℕ)
+  pub sink : T → SinkView
   pub writes : T → ℕ
 
--- a sight, from its parts
-abbrev pub sight : {S T : Type 0} → (S → Option (List ℕ)) → (S → ℕ) → (T → Option (List ℕ)) → (T → ℕ) → Sight S T
-sight left reads given writes = record { left = left; reads = reads; given = given; writes = writes }
+-- a sight, by what sources and sinks tell
+abbrev pub sight : {S T : Type 0} → SourceGhosts S → SinkGhosts T → Sight S T
+sight source sink = record { source = source_view source; reads = source.faults; sink = sink_view sink; writes = sink.faults }
 
 -- the wires between two ends
 abbrev pub wires_by : {S T : Type 0} → Sight S T → S → T → Wires
-wires_by seen source sink = wires (seen.left source) (seen.given sink) (seen.reads source) (seen.writes sink)
+wires_by seen source sink = wires (seen.source source) (seen.sink sink) (seen.reads source) (seen.writes sink)
 
 -- what is seen of a door: whether no connection will come any more, the pairs that it gave and those that came back, told or not, and its count
 -- of faults
@@ -52,6 +57,20 @@ given_of visit = (visit.source, visit.sink)
 -- the pair that came back
 abbrev pub returned_of : {S T : Type 0} → Visit S T → S × T
 returned_of visit = (visit.source_after, visit.sink_after)
+
+-- a connection that ended for want of memory counts as one
+abbrev pub want_in : ConnectionEnd → ℕ
+want_in NoMemory = 1
+want_in other = 0
+
+-- how many of these connections did
+abbrev pub wants_in : {S T : Type 0} → List (Visit S T) → ℕ
+wants_in [] = 0
+wants_in (visit ∷ visits) = want_in visit.end + wants_in visits
+
+-- a count that stays at its greatest value
+abbrev pub capped : ℕ → ℕ
+capped count = min count 18446744073709551615
 
 -- what is known, and behind it these
 abbrev pub told_all : {X : Type 0} → Option (List X) → List X → Option (List X)
@@ -108,13 +127,15 @@ module _ {M R S T : Type 0} (answers : Task → M → M → List ℕ → List Te
     pub passed : GaveVisits visits before after
     pub ends : DoorEndsSo end before after
 
-  -- connections were served over a pass since it was so, one after another, and each of them came back; what the pass holds is what it held
-  pub record ServedSince {H : Type 0} (holds : M → H) (old now : M) (start here : DoorView S T) : Type 0 where
+  -- connections were served over a pass since it was so, one after another, and each of them came back; what the pass holds is what it held, and so many of them
+  -- ended for want of memory
+  pub record ServedSince {H : Type 0} (holds : M → H) (old now : M) (start here : DoorView S T) (starved : ℕ) : Type 0 where
     pub holds_still : holds now ≡ holds old
     pub visits : List (Visit S T)
     pub visited : AreVisited old visits now
     pub passed : GaveVisits visits start here
     pub shut : start.over ≡ true → here.over ≡ true
+    pub counted : starved ≡ capped (wants_in visits)
 
   -- one connection was served
   pub record ServesOne (old new : M) (before after : DoorView S T) : Type 0 where

@@ -4,6 +4,7 @@ pub mod Doors
 pub mod Exchanges
 pub mod Intakes
 pub mod Seen
+pub mod Sending
 pub mod Session
 pub mod Telling
 pub mod Turns

@@ -1,9 +1,6 @@
 -- What a reply's teller does with what it is told.
-use Rattle.std.specs.Prelude.{◌≡◌, ◌<◌, ◌≤◌, ℕ, Bool, IsTrue, List, [], ◌++◌, length, take, true, Option, Some, None, Result, Ok, Err}
-use Rattle.std.specs.Borrow.{Bor}
-use Rattle.std.specs.Io.KnownBytes.{append_known}
+use Rattle.std.specs.Prelude.{◌≡◌, ℕ, Bool, IsTrue, List, [], ◌++◌, take, true, Some, None, Result, Ok, Err}
 use Rattle.fault_base.specs.Counts.{Rose}
-use Rattle.io_base.specs.Sink.{GaveFront}
 use Rattle.http_wire.specs.Parts.{HeadParts}
 use Rattle.call_types.specs.declared.feed.Cut.{Cut}
 use Rattle.call_types.specs.declared.feed.Cut.TheVariants as cut
@@ -13,7 +10,7 @@ use Rattle.desk_base.specs.Telling.{Telling}
 use Rattle.desk_base.specs.declared.call.Call.{Call}
 use Rattle.s3_reply.specs.Replies.{reply_bytes}
 use Rattle.serve_loop.specs.Exchanges.{tale_text, telling_text}
-use Rattle.serve_loop.specs.declared.ends.ConnectionEnd.{ConnectionEnd}
+use Rattle.serve_loop.specs.Sending.{Sent, SentFront, SinkView}
 use Rattle.serve_loop.specs.declared.ends.ConnectionEnd.TheVariants.{Over, Closed, InputCut, ReadFault, WriteFault, ReplyCut, NoMemory}
 use Rattle.serve_loop.specs.declared.ends.Turn.{Turn}
 use Rattle.serve_loop.specs.declared.ends.Turn.TheVariants.{Answered, Ended}
@@ -26,10 +23,10 @@ pub record Replying : Type 0 where
   pub close : Bool
   pub waits : Bool
 
--- what is seen of a teller: the reply, what was given to the sink, told or not, and what is held back
+-- what is seen of a teller: the reply, its sink, and what is held back
 pub record Told : Type 0 where
   pub reply : Replying
-  pub given : Option (List ℕ)
+  pub sink : SinkView
   pub held : List ℕ
 
 -- the text of one telling
@@ -44,7 +41,7 @@ tale_in reply tale = tale_text (Some reply.head) (Some reply.call) reply.now rep
 pub record TakesText (text : List ℕ) (old new : Told) : Type 0 where
   pub same : new.reply ≡ old.reply
   pub more : List ℕ
-  pub gave : new.given ≡ append_known old.given more
+  pub gave : Sent more old.sink new.sink
   pub split : more ++ new.held ≡ old.held ++ text
   pub waits : IsTrue old.reply.waits → more ≡ []
 
@@ -52,7 +49,7 @@ pub record TakesText (text : List ℕ) (old new : Told) : Type 0 where
 pub record BreaksText (text : List ℕ) (old new : Told) : Type 0 where
   pub same : new.reply ≡ old.reply
   pub count : ℕ
-  pub front : new.given ≡ append_known old.given (take count (old.held ++ text))
+  pub front : Sent (take count (old.held ++ text)) old.sink new.sink
   pub waits : ¬ (IsTrue old.reply.waits)
 
 -- the text of the refusal of a head, behind which the connection closes
@@ -62,41 +59,41 @@ refusal_text why now = reply_bytes (record { head = None; call = None; reply = R
 -- what is held back was given, or a front of it where the sink failed
 abbrev pub FlushesText : {U : Type 0} → Result U Cut → (old new : Told) → (faults faults_after : ℕ) → Type 0
 FlushesText (Ok _) old new faults faults_after =
-    (new.reply ≡ old.reply) × (new.held ≡ []) × (new.given ≡ append_known old.given old.held) × (faults_after ≡ faults)
+    (new.reply ≡ old.reply) × (new.held ≡ []) × Sent old.held old.sink new.sink × (faults_after ≡ faults)
 FlushesText (Err cut.WriteFault) old new faults faults_after =
-    (new.reply ≡ old.reply) × GaveFront old.held old.given new.given × Rose faults faults_after
+    (new.reply ≡ old.reply) × SentFront old.held old.sink new.sink × Rose faults faults_after
 FlushesText (Err cut.ReadFault) old new faults faults_after = ⊥
 FlushesText (Err (cut.BodyCut _ _)) old new faults faults_after = ⊥
 FlushesText (Err (cut.ShardCut _)) old new faults faults_after = ⊥
 FlushesText (Err cut.NoMemory) old new faults faults_after = ⊥
 
 -- a give of a text failed behind a front of it
-abbrev pub GivesFront : Cut → List ℕ → (old new : Option (List ℕ)) → (faults faults_after : ℕ) → Type 0
+abbrev pub GivesFront : Cut → List ℕ → (old new : SinkView) → (faults faults_after : ℕ) → Type 0
 GivesFront cut.ReadFault text old new faults faults_after = ⊥
 GivesFront (cut.BodyCut _ _) text old new faults faults_after = ⊥
-GivesFront cut.WriteFault text old new faults faults_after = GaveFront text old new × Rose faults faults_after
+GivesFront cut.WriteFault text old new faults faults_after = SentFront text old new × Rose faults faults_after
 GivesFront (cut.ShardCut _) text old new faults faults_after = ⊥
 GivesFront cut.NoMemory text old new faults faults_after = ⊥
 
 -- what a give of a text, or of nothing, leaves
-abbrev pub GivesText : {U : Type 0} → Result U Cut → List ℕ → (old new : Option (List ℕ)) → (faults faults_after : ℕ) → Type 0
-GivesText (Ok _) text old new faults faults_after = (new ≡ append_known old text) × (faults_after ≡ faults)
+abbrev pub GivesText : {U : Type 0} → Result U Cut → List ℕ → (old new : SinkView) → (faults faults_after : ℕ) → Type 0
+GivesText (Ok _) text old new faults faults_after = Sent text old new × (faults_after ≡ faults)
 GivesText (Err why) text old new faults faults_after = GivesFront why text old new faults faults_after
 
 -- what a give of a text that is made first leaves
-abbrev pub MakesText : {U : Type 0} → Result U Cut → List ℕ → (old new : Option (List ℕ)) → (faults faults_after : ℕ) → Type 0
-MakesText (Ok _) text old new faults faults_after = (new ≡ append_known old text) × (faults_after ≡ faults)
-MakesText (Err cut.WriteFault) text old new faults faults_after = GaveFront text old new × Rose faults faults_after
+abbrev pub MakesText : {U : Type 0} → Result U Cut → List ℕ → (old new : SinkView) → (faults faults_after : ℕ) → Type 0
+MakesText (Ok _) text old new faults faults_after = Sent text old new × (faults_after ≡ faults)
+MakesText (Err cut.WriteFault) text old new faults faults_after = SentFront text old new × Rose faults faults_after
 MakesText (Err cut.ReadFault) text old new faults faults_after = ⊥
 MakesText (Err (cut.BodyCut _ _)) text old new faults faults_after = ⊥
 MakesText (Err (cut.ShardCut _)) text old new faults faults_after = ⊥
 MakesText (Err cut.NoMemory) text old new faults faults_after = (new ≡ old) × (faults_after ≡ faults)
 
 -- the refusal of a head was given and the connection closes, or it was cut
-abbrev pub RefusesHead : Turn → Refusal → (now : ℕ) → (old new : Option (List ℕ)) → (faults faults_after : ℕ) → Type 0
+abbrev pub RefusesHead : Turn → Refusal → (now : ℕ) → (old new : SinkView) → (faults faults_after : ℕ) → Type 0
 RefusesHead Answered why now old new faults faults_after = ⊥
-RefusesHead (Ended Closed) why now old new faults faults_after = (new ≡ append_known old (refusal_text why now)) × (faults_after ≡ faults)
-RefusesHead (Ended WriteFault) why now old new faults faults_after = GaveFront (refusal_text why now) old new × Rose faults faults_after
+RefusesHead (Ended Closed) why now old new faults faults_after = Sent (refusal_text why now) old new × (faults_after ≡ faults)
+RefusesHead (Ended WriteFault) why now old new faults faults_after = SentFront (refusal_text why now) old new × Rose faults faults_after
 RefusesHead (Ended NoMemory) why now old new faults faults_after = (new ≡ old) × (faults_after ≡ faults)
 RefusesHead (Ended Over) why now old new faults faults_after = ⊥
 RefusesHead (Ended InputCut) why now old new faults faults_after = ⊥

@@ -1,8 +1,6 @@
 -- What one request leads to.
 use Rattle.std.specs.Prelude.{◌≡◌, ◌⊎◌, ◌+◌, ◌<◌, ◌≤◌, ℕ, Bool, List, [], ◌∷◌, ◌++◌, length, Option, Some, Result, Ok, Err}
-use Rattle.std.specs.Io.KnownBytes.{prepend_known, append_known, IsAtEnd}
 use Rattle.fault_base.specs.Counts.{Rose}
-use Rattle.io_base.specs.Sink.{GaveFront}
 use Rattle.call_types.specs.declared.feed.Cut.{Cut}
 use Rattle.call_types.specs.declared.feed.Cut.TheVariants as cut
 use Rattle.desk_base.specs.Answering.{Task}
@@ -13,10 +11,12 @@ use Rattle.desk_base.specs.Telling.Telling.{Head}
 use Rattle.desk_base.specs.declared.call.Call.{Call}
 use Rattle.http_wire.specs.Answers.{Wired}
 use Rattle.http_wire.specs.Parts.{HeadParts}
-use Rattle.serve_loop.specs.Deeds.{Wires, Moved, Answered, CameTo, IsCutBy, IsCutOff, IsFront, IsMade, IsServed, TellsShort}
+use Rattle.http_wire.specs.Taking.{HasEnded, SourceView, Taken}
+use Rattle.serve_loop.specs.Deeds.{Wires, CountsStay, Moved, Answered, CameTo, IsCutBy, IsCutOff, IsFront, IsMade, IsServed, MetEnd, TellsShort}
 use Rattle.serve_loop.specs.Exchanges.{Ask, asked, Exchange, bytes_of, size_of, tale_text, text_of}
 use Rattle.serve_loop.specs.Intakes.{PassedOver, PassedPart, CutsOver, unread_of}
-use Rattle.serve_loop.specs.Session.{EndsSo}
+use Rattle.serve_loop.specs.Sending.{Sent, SentFront}
+use Rattle.serve_loop.specs.Session.{CountsSo, EndsSo}
 use Rattle.serve_loop.specs.Telling.{Told}
 use Rattle.serve_loop.specs.declared.ends.ConnectionEnd.{ConnectionEnd}
 use Rattle.serve_loop.specs.declared.ends.ConnectionEnd.TheVariants.{Over, Closed, InputCut, ReadFault, WriteFault, ReplyCut, NoMemory}
@@ -45,41 +45,41 @@ turn_for (Ok _) manner = turn_after manner
 turn_for (Err why) manner = turn.Ended (end_for why)
 
 -- the rest of a body was read, and then what was held back of a reply was given
-abbrev pub Finishes : {U : Type 0} → Result U Cut → (old new : Wired) → (left after : Option (List ℕ)) → (reads reads_after : ℕ)
+abbrev pub Finishes : {U : Type 0} → Result U Cut → (old new : Wired) → (source after : SourceView) → (reads reads_after : ℕ)
     → (told told_after : Told) → (writes writes_after : ℕ) → Type 0
-Finishes (Ok _) old new left after reads reads_after told told_after writes writes_after =
-    PassedOver old new left after reads reads_after × (told_after.given ≡ append_known told.given told.held) × (writes_after ≡ writes)
-Finishes (Err cut.WriteFault) old new left after reads reads_after told told_after writes writes_after =
-    PassedOver old new left after reads reads_after × GaveFront told.held told.given told_after.given × Rose writes writes_after
-Finishes (Err cut.ReadFault) old new left after reads reads_after told told_after writes writes_after =
-    PassedPart old new left after × Rose reads reads_after × (told_after.given ≡ told.given) × (writes_after ≡ writes)
-Finishes (Err (cut.BodyCut _ _)) old new left after reads reads_after told told_after writes writes_after =
-    PassedPart old new left after × IsAtEnd (unread_of new after) × (reads_after ≡ reads) × (told_after.given ≡ told.given) × (writes_after ≡ writes)
-Finishes (Err (cut.ShardCut _)) old new left after reads reads_after told told_after writes writes_after = ⊥
-Finishes (Err cut.NoMemory) old new left after reads reads_after told told_after writes writes_after = ⊥
+Finishes (Ok _) old new source after reads reads_after told told_after writes writes_after =
+    PassedOver old new source after reads reads_after × Sent told.held told.sink told_after.sink × (writes_after ≡ writes)
+Finishes (Err cut.WriteFault) old new source after reads reads_after told told_after writes writes_after =
+    PassedOver old new source after reads reads_after × SentFront told.held told.sink told_after.sink × Rose writes writes_after
+Finishes (Err cut.ReadFault) old new source after reads reads_after told told_after writes writes_after =
+    PassedPart old new source after × Rose reads reads_after × (told_after.sink ≡ told.sink) × (writes_after ≡ writes)
+Finishes (Err (cut.BodyCut _ _)) old new source after reads reads_after told told_after writes writes_after =
+    PassedPart old new source after × HasEnded (unread_of new after) × (reads_after ≡ reads) × (told_after.sink ≡ told.sink) × (writes_after ≡ writes)
+Finishes (Err (cut.ShardCut _)) old new source after reads reads_after told told_after writes writes_after = ⊥
+Finishes (Err cut.NoMemory) old new source after reads reads_after told told_after writes writes_after = ⊥
 
 -- a call was cut, and what was held back of a reply was given where its body was cut
 abbrev pub BreaksOff : {U : Type 0} → Cut → Result U Cut → (told told_after : Told) → (writes writes_after : ℕ) → Type 0
 BreaksOff (cut.ShardCut whys) (Ok _) told told_after writes writes_after = ⊥
 BreaksOff (cut.ShardCut whys) (Err why) told told_after writes writes_after =
-    ((why ≡ cut.ShardCut whys) × (told_after.given ≡ append_known told.given told.held) × (writes_after ≡ writes))
-    ⊎ ((why ≡ cut.WriteFault) × GaveFront told.held told.given told_after.given × Rose writes writes_after)
+    ((why ≡ cut.ShardCut whys) × Sent told.held told.sink told_after.sink × (writes_after ≡ writes))
+    ⊎ ((why ≡ cut.WriteFault) × SentFront told.held told.sink told_after.sink × Rose writes writes_after)
 BreaksOff other (Ok _) told told_after writes writes_after = ⊥
-BreaksOff other (Err why) told told_after writes writes_after = (why ≡ other) × (told_after.given ≡ told.given) × (writes_after ≡ writes)
+BreaksOff other (Err why) told told_after writes writes_after = (why ≡ other) × (told_after.sink ≡ told.sink) × (writes_after ≡ writes)
 
 -- the body waits for a call that takes one, and was read before a call that takes none
-pub record IsReady (long stated : ℕ) (old new : Wired) (left after : Option (List ℕ)) (reads reads_after : ℕ) : Type 0 where
+pub record IsReady (long stated : ℕ) (old new : Wired) (source after : SourceView) (reads reads_after : ℕ) : Type 0 where
   pub rest : List ℕ
-  pub took : unread_of old left ≡ prepend_known rest (unread_of new after)
+  pub took : Taken rest (unread_of old source) (unread_of new after)
   pub all : length rest + new.body_left ≡ old.body_left
   pub states : stated ≡ long
   pub fresh : new.body_left ≡ long
   pub one : (rest ≡ []) ⊎ (long ≡ 0)
   pub counted : reads_after ≡ reads
 
-abbrev pub Readies : {U : Type 0} → Result U Cut → (long stated : ℕ) → (old new : Wired) → (left after : Option (List ℕ)) → (reads reads_after : ℕ) → Type 0
-Readies (Ok _) long stated old new left after reads reads_after = IsReady long stated old new left after reads reads_after
-Readies (Err why) long stated old new left after reads reads_after = CutsOver why old new left after reads reads_after
+abbrev pub Readies : {U : Type 0} → Result U Cut → (long stated : ℕ) → (old new : Wired) → (source after : SourceView) → (reads reads_after : ℕ) → Type 0
+Readies (Ok _) long stated old new source after reads reads_after = IsReady long stated old new source after reads reads_after
+Readies (Err why) long stated old new source after reads reads_after = CutsOver why old new source after reads reads_after
 
 -- a reply to a call, and how much of a body was still to be read
 pub record Asking : Type 0 where
@@ -95,7 +95,7 @@ asking_text asking tale = tale_text (Some asking.head) (Some asking.call) asking
 
 -- what was given of the reply where the call was cut, and why
 abbrev pub AskCutSo : Cut → Asking → List Telling → (read out : List ℕ) → Wires → Wires → Type 0
-AskCutSo (cut.BodyCut _ _) asking tale read out old new = (length read < asking.long) × IsAtEnd new.left × (out ≡ [])
+AskCutSo (cut.BodyCut _ _) asking tale read out old new = (length read < asking.long) × MetEnd new × (out ≡ [])
 AskCutSo cut.ReadFault asking tale read out old new = Rose old.read_faults new.read_faults × IsFront out (asking_text asking tale)
 AskCutSo cut.WriteFault asking tale read out old new = Rose old.write_faults new.write_faults × IsFront out (asking_text asking tale)
 AskCutSo (cut.ShardCut _) asking tale read out old new =
@@ -110,12 +110,14 @@ rest_of ask now manner body tale = record { ask = ask; front = []; body = body; 
 pub record IsWhole (x : Exchange) (before after : Wires) : Type 0 where
   pub whole : length x.body ≡ size_of x.ask
   pub moved : Moved x.body (text_of x) before after
+  pub still : CountsStay before after
 
 -- the rest of a request was cut
 pub record IsShort (why : Cut) (x : Exchange) (before after : Wires) : Type 0 where
   pub out : List ℕ
   pub cut_off : IsCutOff why x [] out before after
   pub moved : Moved x.body out before after
+  pub counts : CountsSo (end_for why) before after
 
 -- a refusal of the server's, behind what was read of the body
 abbrev pub refusal_rest : Ask → Refusal → (now : ℕ) → Manner → (body : List ℕ) → Exchange
@@ -140,6 +142,7 @@ module _ {M R : Type 0} (answers : Task → M → M → List ℕ → List Tellin
     pub served : IsServed answers asking.call asking.now read tale (Ok receipt) old new
     pub whole : length read ≡ asking.long
     pub moved : Moved read (asking_text asking tale) before after
+    pub still : CountsStay before after
 
   -- the desk was asked, and the reply was cut
   pub record AsksShort (why : Cut) (asking : Asking) (old new : M) (before after : Wires) : Type 0 where
@@ -152,6 +155,7 @@ module _ {M R : Type 0} (answers : Task → M → M → List ℕ → List Tellin
     pub silent : length read < asking.long → out ≡ []
     pub cause : AskCutSo why asking tale read out before after
     pub moved : Moved read out before after
+    pub counts : CountsSo (end_for why) before after
 
   -- what the asking of a desk comes to
   abbrev pub AskGoes : {U : Type 0} → Result U Cut → Asking → (old new : M) → (before after : Wires) → Type 0
@@ -173,6 +177,7 @@ module _ {M R : Type 0} (answers : Task → M → M → List ℕ → List Tellin
     pub part : List ℕ
     pub is : bytes_of x ≡ front ++ part
     pub moved : Moved part (text_of x) before after
+    pub still : CountsStay before after
 
   -- the end of the connection, in this request
   pub record TurnEnds (clock : Option ℕ) (end : ConnectionEnd) (number : ℕ) (front : List ℕ) (old new : M) (before after : Wires) : Type 0 where
@@ -181,6 +186,7 @@ module _ {M R : Type 0} (answers : Task → M → M → List ℕ → List Tellin
     pub is : taken ≡ front ++ part
     pub out : List ℕ
     pub moved : Moved part out before after
+    pub counts : CountsSo end before after
     pub ends : EndsSo answers clock end number old new taken out before after
 
   -- What one request leads to: `going` are the wires where the next may be read, and `shut` those at an end.

@@ -1,4 +1,5 @@
 -- What is seen of the work of serving a door.
+use Rattle.std.specs.Prelude.{ℕ}
 use Rattle.desk_base.specs.declared.desk.Desk.{Ghosts as DeskGhosts}
 use Rattle.io_base.specs.declared.clock.Clock.{Ghosts as ClockGhosts}
 use Rattle.io_base.specs.declared.door.Door.{Ghosts as DoorGhosts}
@@ -25,3 +26,7 @@ module _ {R K O C P X S T : Type 0} {desk : DeskGhosts K P X} {door : DoorGhosts
 
   abbrev pub door_of : ServeWork R K O C P X S T desk door source sink clock → O
   door_of work = work.door
+
+  -- how many connections ended for want of memory
+  abbrev pub starved_of : ServeWork R K O C P X S T desk door source sink clock → ℕ
+  starved_of work = work.starved

@@ -2,10 +2,10 @@
 
 ghost use Rattle.std.specs.Prelude.{◌≡◌, ◌↔◌, ℕ, [], IsTrue};
 ghost use Rattle.call_types.specs.declared.refusal.Refusal.{Refusal};
-ghost use Rattle.serve_loop.specs.Deeds.{wires};
 ghost use Rattle.serve_loop.specs.Exchanges.{last_number};
 ghost use Rattle.serve_loop.specs.Intakes.{IsAtRest};
-ghost use Rattle.serve_loop.specs.Seen.{open_wires, shut_wires, wire_of};
+ghost use Rattle.serve_loop.specs.Seen.{open_wires, shut_wires, wire_of, wires_of};
+ghost use Rattle.serve_loop.specs.Sending.{sink_view};
 ghost use Rattle.serve_loop.specs.Session.{Session};
 ghost use Rattle.serve_loop.specs.Telling.{RefusesHead};
 ghost use Rattle.serve_loop.specs.Turns.{OnAnswered, Turns};
@@ -42,7 +42,7 @@ fn refuse_head<R: Eprint, T: Sink>(
     sink: &mut T,
     why: Refusal,
 ) -> Turn
-    ensures { RefusesHead result why now (T.given sink.old) (T.given sink.new) (T.faults sink.old) (T.faults sink.new) }
+    ensures { RefusesHead result why now (sink_view T.Sink sink.old) (sink_view T.Sink sink.new) (T.faults sink.old) (T.faults sink.new) }
 {
     turn_of(
         give_refusal(rt, alloc, sink, None, why, now, true),
@@ -64,8 +64,8 @@ fn serve_one<R: Eprint, K: Desk, S: Source + Drop, T: Sink, C: Clock>(
     requires fits { K.fits desk.now (K.holds pass.old) }
     requires rests { IsAtRest (wire_of intake.old) }
     ensures turn { (number : ℕ) → IsTrue is_last ↔ (number ≡ last_number) → Turns (K.answers desk.now) (C.moment clock.now) result number []
-        pass.old pass.new (open_wires S.left S.faults T.given T.faults intake.old sink.old)
-        (open_wires S.left S.faults T.given T.faults intake.new sink.new) (shut_wires S.left S.faults T.given T.faults intake.new sink.new) }
+        pass.old pass.new (open_wires S.Source T.Sink intake.old sink.old)
+        (open_wires S.Source T.Sink intake.new sink.new) (shut_wires S.Source T.Sink intake.new sink.new) }
     ensures rests { OnAnswered result (IsAtRest (wire_of intake.new)) }
     ensures holds { K.holds pass.new ≡ K.holds pass.old }
 {
@@ -116,7 +116,7 @@ fn serve_all<R: Eprint, K: Desk, S: Source + Drop, T: Sink, C: Clock>(
     requires fits { K.fits desk.now (K.holds pass.old) }
     requires rests { IsAtRest (wire_of intake.old) }
     ensures session { Session (K.answers desk.now) (C.moment clock.now) pass.old pass.new result
-        (open_wires S.left S.faults T.given T.faults intake.old sink.old) (shut_wires S.left S.faults T.given T.faults intake.new sink.new) }
+        (open_wires S.Source T.Sink intake.old sink.old) (shut_wires S.Source T.Sink intake.new sink.new) }
     ensures holds { K.holds pass.new ≡ K.holds pass.old }
 {
     for number in 0..MOST_REQUESTS {
@@ -141,8 +141,8 @@ pub fn serve_connection<R: Eprint, K: Desk, S: Source + Drop, T: Sink, C: Clock>
 ) -> Served<S>
     requires fits { K.fits desk.now (K.holds pass.old) }
     ensures session { Session (K.answers desk.now) (C.moment clock.now) pass.old pass.new result.end
-        (wires (S.left source) (T.given sink.old) (S.faults source) (T.faults sink.old))
-        (wires (S.left result.source) (T.given sink.new) (S.faults result.source) (T.faults sink.new)) }
+        (wires_of S.Source T.Sink source sink.old)
+        (wires_of S.Source T.Sink result.source sink.new) }
     ensures holds { K.holds pass.new ≡ K.holds pass.old }
 {
     match Wire::new(alloc, source) {

@@ -1,6 +1,7 @@
 //! How connections and turns end.
 
-ghost use Rattle.std.specs.Prelude.{◌≡◌};
+ghost use Rattle.std.specs.Prelude.{◌≡◌, ◌+◌};
+ghost use Rattle.serve_loop.specs.Doors.{capped, want_in};
 ghost use Rattle.serve_loop.specs.Turns.{end_for, turn_for};
 
 use crate::manner::Manner;
@@ -44,6 +45,16 @@ pub(crate) fn end_of(cut: Cut) -> ConnectionEnd
         Cut::WriteFault => ConnectionEnd::WriteFault,
         Cut::ShardCut(whys) => ConnectionEnd::ReplyCut(*whys),
         Cut::NoMemory => ConnectionEnd::NoMemory,
+    }
+}
+
+/// A count of connections that ended for want of memory, behind one more connection. It stays at its greatest value.
+pub(crate) fn count_want(starved: u64, end: &ConnectionEnd) -> u64
+    ensures { result ≡ capped (starved + want_in end.now) }
+{
+    match end {
+        ConnectionEnd::NoMemory => starved.saturating_add(1),
+        _ => starved,
     }
 }
 

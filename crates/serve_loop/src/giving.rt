@@ -6,6 +6,7 @@ ghost use Rattle.s3_reply.specs.Asked.{asked_of};
 ghost use Rattle.s3_reply.specs.Replies.{reply_bytes};
 ghost use Rattle.serve_loop.specs.Asks.{expects_continue};
 ghost use Rattle.serve_loop.specs.Exchanges.{greeting};
+ghost use Rattle.serve_loop.specs.Sending.{sink_view};
 ghost use Rattle.serve_loop.specs.Telling.{GivesText, MakesText};
 
 use crate::asks::expects_continue;
@@ -19,7 +20,7 @@ use std::io::Eprint;
 
 /// Gives a text.
 pub(crate) fn give<T: Sink>(sink: &mut T, text: &[u8]) -> Result<(), Cut>
-    ensures { GivesText result text.now (T.given sink.old) (T.given sink.new) (T.faults sink.old) (T.faults sink.new) }
+    ensures { GivesText result text.now (sink_view T.Sink sink.old) (sink_view T.Sink sink.new) (T.faults sink.old) (T.faults sink.new) }
 {
     match sink.give(text) {
         Ok(()) => Ok(()),
@@ -29,7 +30,7 @@ pub(crate) fn give<T: Sink>(sink: &mut T, text: &[u8]) -> Result<(), Cut>
 
 /// Says that the body is awaited, where the head asks for that; the body has so many bytes.
 pub(crate) fn greet<T: Sink>(sink: &mut T, head: &Head, size: u64) -> Result<(), Cut>
-    ensures { GivesText result (greeting (expects_continue head.now size)) (T.given sink.old) (T.given sink.new)
+    ensures { GivesText result (greeting (expects_continue head.now size)) (sink_view T.Sink sink.old) (sink_view T.Sink sink.new)
         (T.faults sink.old) (T.faults sink.new) }
 {
     if expects_continue(head, size) {
@@ -48,7 +49,7 @@ pub(crate) fn give_refusal<R: Eprint, T: Sink>(
     now: u64,
     close: bool,
 ) -> Result<(), Cut>
-    ensures { MakesText result (reply_bytes (asked_of head.entry None (Refused why)) now close) (T.given sink.old) (T.given sink.new)
+    ensures { MakesText result (reply_bytes (asked_of head.entry None (Refused why)) now close) (sink_view T.Sink sink.old) (sink_view T.Sink sink.new)
         (T.faults sink.old) (T.faults sink.new) }
 {
     tell_refused(rt, alloc, None, &why);

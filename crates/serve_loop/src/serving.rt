@@ -7,7 +7,7 @@ ghost use Rattle.s3_request.specs.Bodies.{StatesLength};
 ghost use Rattle.serve_loop.specs.Asks.{leaves_body};
 ghost use Rattle.serve_loop.specs.Exchanges.{IsHead, asked, closes, last_number, refused};
 ghost use Rattle.serve_loop.specs.Intakes.{IsAtRest};
-ghost use Rattle.serve_loop.specs.Seen.{open_wires, shut_wires, told_of, wire_of};
+ghost use Rattle.serve_loop.specs.Seen.{from_of, open_wires, shut_wires, told_of, wire_of};
 ghost use Rattle.serve_loop.specs.Turns.{AskGoes, BreaksOff, Finishes, Goes, OnAnswered, Readies, RefuseGoes, Turns};
 ghost use Rattle.serve_loop.specs.declared.manner.Manner.{Manner};
 ghost use Rattle.io_base.specs.Clock.{year_10000};
@@ -48,7 +48,7 @@ fn ask<R: Eprint, K: Desk, S: Source + Drop, T: Sink>(
     requires fresh { intake.old.wire.body_left ≡ intake.old.stated }
     ensures goes { AskGoes (K.answers desk.now) result
         (record { head = head.now; call = call.now; now = now; close = close; long = intake.old.wire.body_left }) pass.old pass.new
-        (open_wires S.left S.faults T.given T.faults intake.old sink.old) (open_wires S.left S.faults T.given T.faults intake.new sink.new) }
+        (open_wires S.Source T.Sink intake.old sink.old) (open_wires S.Source T.Sink intake.new sink.new) }
     ensures rests { OnOk result (IsAtRest (wire_of intake.new)) }
     ensures holds { K.holds pass.new ≡ K.holds pass.old }
 {
@@ -76,8 +76,8 @@ fn finish<R, S: Source + Drop, T: Sink>(
     teller: &mut ReplyTeller<'_, R, T>,
 ) -> Result<(), Cut>
     ensures name { teller.new.sink.ghost_name ≡ teller.old.sink.ghost_name }
-    ensures finishes { Finishes result (wire_of intake.old) (wire_of intake.new) (S.left intake.old.wire.source) (S.left intake.new.wire.source)
-        (S.faults intake.old.wire.source) (S.faults intake.new.wire.source) (told_of T.given teller.old) (told_of T.given teller.new)
+    ensures finishes { Finishes result (wire_of intake.old) (wire_of intake.new) (from_of intake.old) (from_of intake.new)
+        (S.faults intake.old.wire.source) (S.faults intake.new.wire.source) (told_of T.Sink teller.old) (told_of T.Sink teller.new)
         (T.faults teller.old.sink.now) (T.faults teller.new.sink.now) }
 {
     intake.pass_over()?;
@@ -87,7 +87,7 @@ fn finish<R, S: Source + Drop, T: Sink>(
 /// Gives what was told of a reply whose body was cut, and nothing where the call was cut otherwise.
 fn break_off<R, T: Sink>(cut: Cut, teller: &mut ReplyTeller<'_, R, T>) -> Result<(), Cut>
     ensures name { teller.new.sink.ghost_name ≡ teller.old.sink.ghost_name }
-    ensures breaks { BreaksOff cut result (told_of T.given teller.old) (told_of T.given teller.new)
+    ensures breaks { BreaksOff cut result (told_of T.Sink teller.old) (told_of T.Sink teller.new)
         (T.faults teller.old.sink.now) (T.faults teller.new.sink.now) }
 {
     if let Cut::ShardCut(_) = &cut {
@@ -100,8 +100,8 @@ fn break_off<R, T: Sink>(cut: Cut, teller: &mut ReplyTeller<'_, R, T>) -> Result
 fn ready<S: Source + Drop>(call: &Call, intake: &mut Intake<S>) -> Result<(), Cut>
     requires fresh { intake.old.wire.body_left ≡ intake.old.stated }
     requires states { StatesLength intake.old.stated call.now }
-    ensures readies { Readies result (stated_length call.now) intake.new.stated (wire_of intake.old) (wire_of intake.new) (S.left intake.old.wire.source)
-        (S.left intake.new.wire.source) (S.faults intake.old.wire.source) (S.faults intake.new.wire.source) }
+    ensures readies { Readies result (stated_length call.now) intake.new.stated (wire_of intake.old) (wire_of intake.new) (from_of intake.old)
+        (from_of intake.new) (S.faults intake.old.wire.source) (S.faults intake.new.wire.source) }
 {
     if call.stated_length() == 0 {
         intake.pass_over()?;
@@ -129,8 +129,8 @@ fn serve_call<R: Eprint, K: Desk, S: Source + Drop, T: Sink>(
     requires states { StatesLength intake.old.stated call.now }
     requires fresh { intake.old.wire.body_left ≡ intake.old.stated }
     ensures goes { (manner : Manner) → close ≡ closes manner → Goes (K.answers desk.now) result (asked head.now intake.old.stated call.now) now manner
-        pass.old pass.new (open_wires S.left S.faults T.given T.faults intake.old sink.old)
-        (open_wires S.left S.faults T.given T.faults intake.new sink.new) }
+        pass.old pass.new (open_wires S.Source T.Sink intake.old sink.old)
+        (open_wires S.Source T.Sink intake.new sink.new) }
     ensures rests { OnOk result (IsAtRest (wire_of intake.new)) }
     ensures holds { K.holds pass.new ≡ K.holds pass.old }
 {
@@ -153,7 +153,7 @@ fn refuse_call<R: Eprint, S: Source + Drop, T: Sink>(
     requires reads { leaves_body why ≡ false }
     requires fresh { intake.old.wire.body_left ≡ intake.old.stated }
     ensures goes { (manner : Manner) → close ≡ closes manner → RefuseGoes result (refused head.now intake.old.stated why) why now manner
-        (open_wires S.left S.faults T.given T.faults intake.old sink.old) (open_wires S.left S.faults T.given T.faults intake.new sink.new) }
+        (open_wires S.Source T.Sink intake.old sink.old) (open_wires S.Source T.Sink intake.new sink.new) }
     ensures rests { OnOk result (IsAtRest (wire_of intake.new)) }
 {
     greet(sink, head, intake.body_left())?;
@@ -174,7 +174,7 @@ fn refuse<R: Eprint, S: Source + Drop, T: Sink>(
 ) -> Result<(), Cut>
     requires fresh { intake.old.wire.body_left ≡ intake.old.stated }
     ensures goes { (manner : Manner) → close ≡ closes manner → RefuseGoes result (refused head.now intake.old.stated why) why now manner
-        (open_wires S.left S.faults T.given T.faults intake.old sink.old) (open_wires S.left S.faults T.given T.faults intake.new sink.new) }
+        (open_wires S.Source T.Sink intake.old sink.old) (open_wires S.Source T.Sink intake.new sink.new) }
     ensures rests { leaves_body why ≡ false → OnOk result (IsAtRest (wire_of intake.new)) }
 {
     if leaves_body(&why) {
@@ -201,8 +201,8 @@ pub(crate) fn serve_head<R: Eprint, K: Desk, S: Source + Drop, T: Sink>(
     requires fresh { intake.old.wire.body_left ≡ intake.old.stated }
     ensures turn { (clock : Option ℕ) (number : ℕ) (front : List ℕ) → IfSome clock (λ told. now ≡ told) → IsTrue is_last ↔ (number ≡ last_number)
         → IsHead front head.now intake.old.stated → Turns (K.answers desk.now) clock result number front pass.old pass.new
-        (open_wires S.left S.faults T.given T.faults intake.old sink.old) (open_wires S.left S.faults T.given T.faults intake.new sink.new)
-        (shut_wires S.left S.faults T.given T.faults intake.new sink.new) }
+        (open_wires S.Source T.Sink intake.old sink.old) (open_wires S.Source T.Sink intake.new sink.new)
+        (shut_wires S.Source T.Sink intake.new sink.new) }
     ensures rests { OnAnswered result (IsAtRest (wire_of intake.new)) }
     ensures holds { K.holds pass.new ≡ K.holds pass.old }
 {

@@ -41,7 +41,7 @@ impl<R, T: Sink> ReplyTeller<'_, R, T> {
     /// Gives what is held.
     pub(crate) fn flush(&mut self) -> Result<(), Cut>
         ensures name { self.new.sink.ghost_name ≡ self.old.sink.ghost_name }
-        ensures gives { FlushesText result (told_of T.given self.old) (told_of T.given self.new)
+        ensures gives { FlushesText result (told_of T.Sink self.old) (told_of T.Sink self.new)
             (T.faults self.old.sink.now) (T.faults self.new.sink.now) }
     {
         if self.held.is_empty() {
@@ -60,10 +60,10 @@ impl<R, T: Sink> ReplyTeller<'_, R, T> {
 
 impl<R: Eprint, T: Sink> Teller for ReplyTeller<'_, R, T> {
     ghost takes = { λ old telling new. (new.sink.ghost_name ≡ old.sink.ghost_name)
-        × TakesText (text_in (told_of T.given old).reply telling) (told_of T.given old) (told_of T.given new) };
+        × TakesText (text_in (told_of T.Sink old).reply telling) (told_of T.Sink old) (told_of T.Sink new) };
 
     ghost breaks = { λ old telling new. (new.sink.ghost_name ≡ old.sink.ghost_name)
-        × BreaksText (text_in (told_of T.given old).reply telling) (told_of T.given old) (told_of T.given new) };
+        × BreaksText (text_in (told_of T.Sink old).reply telling) (told_of T.Sink old) (told_of T.Sink new) };
 
     ghost faults = { λ t. T.faults t.sink.now };
 

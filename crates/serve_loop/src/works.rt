@@ -5,6 +5,7 @@ ghost use Rattle.serve_loop.specs.Doors.{DoorServed, IsServedOut, ServedSince, W
 ghost use Rattle.serve_loop.specs.declared.doors.DoorEnd.{DoorEnd};
 
 use crate::connection::serve_connection;
+use crate::ends::count_want;
 use desk_base::Desk;
 use io_base::{Clock, Door, Work};
 use std::alloc::Global;
@@ -26,17 +27,19 @@ pub struct ServeWork<'a, R: Drop, K: Desk<Pass: Drop>, O: Door + Drop, C: Clock>
     entrance: Snapshot<O>,
     /// The door's count of faults then.
     before: u64,
+    /// How many connections ended for want of memory since.
+    starved: u64,
     ghost begun: { before ≡ O.faults entrance.value },
     ghost counted: { before ≤ O.faults door },
-    ghost served: { ∥ ServedSince (K.answers desk.now) (C.moment clock.now) (sight O.In.left O.In.faults O.Out.given O.Out.faults) K.holds first.value pass
-        (door_view O.over O.gave O.returned O.faults entrance.value) (door_view O.over O.gave O.returned O.faults door) ∥₁ },
+    ghost served: { ∥ ServedSince (K.answers desk.now) (C.moment clock.now) (sight O.In.Source O.Out.Sink) K.holds first.value pass
+        (door_view O.over O.gave O.returned O.faults entrance.value) (door_view O.over O.gave O.returned O.faults door) starved ∥₁ },
     ghost fits: { K.fits desk.now (K.holds pass) } by { K.fits_is_fact desk.now (K.holds pass) },
 }
 
 impl<'a, R: Drop, K: Desk<Pass: Drop>, O: Door + Drop, C: Clock> ServeWork<'a, R, K, O, C> {
     ghost use Rattle.std.specs.Prelude.{IsTrue};
     ghost use Rattle.fault_base.specs.Counts.{Rose};
-    ghost use Rattle.serve_loop.specs.Works.{began_of, desk_of, door_of, entrance_of, pass_of};
+    ghost use Rattle.serve_loop.specs.Works.{began_of, desk_of, door_of, entrance_of, pass_of, starved_of};
 
     /// A work that was not begun. It takes no memory.
     pub fn new(
@@ -51,6 +54,7 @@ impl<'a, R: Drop, K: Desk<Pass: Drop>, O: Door + Drop, C: Clock> ServeWork<'a, R
         ensures began { began_of result ≡ work_began desk.now clock.now pass door }
         ensures pass { pass_of result ≡ pass }
         ensures door { door_of result ≡ door }
+        ensures starved { starved_of result ≡ 0 }
     {
         let first = Snapshot::of(&pass);
         let entrance = Snapshot::of(&door);
@@ -65,6 +69,7 @@ impl<'a, R: Drop, K: Desk<Pass: Drop>, O: Door + Drop, C: Clock> ServeWork<'a, R
             first,
             entrance,
             before,
+            starved: 0,
         }
     }
 
@@ -76,6 +81,13 @@ impl<'a, R: Drop, K: Desk<Pass: Drop>, O: Door + Drop, C: Clock> ServeWork<'a, R
     {
         let now = self.door.faults();
         self.before < now || now == u64::MAX
+    }
+
+    /// How many connections ended for want of memory since the work was made. The count stays at its greatest value.
+    pub fn starved(&self) -> u64
+        ensures { result ≡ starved_of self.now }
+    {
+        self.starved
     }
 
     /// The pass and the door.
@@ -94,6 +106,7 @@ impl<'a, R: Drop, K: Desk<Pass: Drop>, O: Door + Drop, C: Clock> ServeWork<'a, R
             first: _,
             entrance: _,
             before: _,
+            starved: _,
         } = self;
         (pass, door)
     }
@@ -110,31 +123,33 @@ impl<
     ghost kept = { λ w. work_began w.desk.now w.clock.now w.first.value w.entrance.value };
 
     ghost over = { λ w. IsServedOut (O.over w.door) (O.faults w.entrance.value) (O.faults w.door)
-        × ∥ ServedSince (K.answers w.desk.now) (C.moment w.clock.now) (sight O.In.left O.In.faults O.Out.given O.Out.faults) K.holds w.first.value w.pass
-        (door_view O.over O.gave O.returned O.faults w.entrance.value) (door_view O.over O.gave O.returned O.faults w.door) ∥₁ };
+        × ∥ ServedSince (K.answers w.desk.now) (C.moment w.clock.now) (sight O.In.Source O.Out.Sink) K.holds w.first.value w.pass
+        (door_view O.over O.gave O.returned O.faults w.entrance.value) (door_view O.over O.gave O.returned O.faults w.door) w.starved ∥₁ };
 
     /// Serves the connections of the door one after another, and hands each of them back, however it ended, until no more will come or the door fails. It may wait
     /// for connections without an end.
     fn work(&mut self)
         ensures over { IsServedOut (O.over self.new.door) (O.faults self.new.entrance.value) (O.faults self.new.door)
-            × ∥ ServedSince (K.answers self.new.desk.now) (C.moment self.new.clock.now) (sight O.In.left O.In.faults O.Out.given O.Out.faults)
+            × ∥ ServedSince (K.answers self.new.desk.now) (C.moment self.new.clock.now) (sight O.In.Source O.Out.Sink)
             K.holds self.new.first.value self.new.pass
-            (door_view O.over O.gave O.returned O.faults self.new.entrance.value) (door_view O.over O.gave O.returned O.faults self.new.door) ∥₁ }
+            (door_view O.over O.gave O.returned O.faults self.new.entrance.value) (door_view O.over O.gave O.returned O.faults self.new.door) self.new.starved ∥₁ }
         ensures kept { work_began self.new.desk.now self.new.clock.now self.new.first.value self.new.entrance.value
             ≡ work_began self.old.desk.now self.old.clock.now self.old.first.value self.old.entrance.value }
         ensures served { (end : DoorEnd) × DoorServed (K.answers self.old.desk.now) (C.moment self.old.clock.now)
-            (sight O.In.left O.In.faults O.Out.given O.Out.faults) end self.old.pass self.new.pass
+            (sight O.In.Source O.Out.Sink) end self.old.pass self.new.pass
             (door_view O.over O.gave O.returned O.faults self.old.door) (door_view O.over O.gave O.returned O.faults self.new.door) }
     {
         let (alloc, desk, clock) = (self.alloc, self.desk, self.clock);
         let pass = &mut self.pass;
         let door = &mut self.door;
+        let starved = &mut self.starved;
         'rounds: for _ in self.rt.forever() {
             match door.next() {
                 Ok(Some((source, mut sink))) => {
                     let served = serve_connection(
                         &self.rt, alloc, desk, pass, source, &mut sink, clock,
                     );
+                    *starved = count_want(*starved, &served.end);
                     door.back(served.source, sink);
                 }
                 Ok(None) => return,
@@ -157,6 +172,7 @@ impl<R: Drop, K: Desk<Pass: Drop>, O: Door + Drop, C: Clock> Drop for ServeWork<
             first: _,
             entrance: _,
             before: _,
+            starved: _,
         } = self;
     }
 }

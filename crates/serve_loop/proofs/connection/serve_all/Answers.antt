@@ -1,4 +1,6 @@
-use Rattle.std.proofs.Common.{refl, arith, ◌∙◌, ◌≡◌}
+use Rattle.std.proofs.Common.{refl, arith, ◌∙◌}
+use Rattle.serve_loop.specs.Seen.{unread}
+use Rattle.serve_loop.specs.Sending.{sink_view}
 use Rattle.serve_loop.proofs.SessionLemmas.{few_more, session_ended, so_far_more, so_far_none}
 use Rattle.serve_loop.proofs.connection.serve_all.Goals as goal
 
@@ -7,7 +9,7 @@ loop-number-init g c = record {
   rests = c.requires.rests;
   few = omega arith;
   holds = refl;
-  so_far = so_far_none (g.K.Desk.answers c.args.desk.now) (g.C.Clock.moment c.args.clock.now) c.args.pass.now _ _ _ _;
+  so_far = so_far_none (g.K.Desk.answers c.args.desk.now) (g.C.Clock.moment c.args.clock.now) c.args.pass.now (unread c.args.intake.now) (sink_view g.T.Sink c.args.sink.now) _ _;
 }
 
 pub returns-in-Ended-clause-session : goal.returns-in-Ended-clause-session

@@ -11,6 +11,6 @@ invariant-loop-number g l = record {
   few : l.number ≤ 999999;
   holds : g.K.Desk.holds l.pass ≡ g.K.Desk.holds l.fn.pass;
   so_far : SoFar (g.K.Desk.answers l.fn.desk) (g.C.Clock.moment l.fn.clock) l.number l.fn.pass l.pass
-      (open_wires g.S.Source.left g.S.Source.faults g.T.Sink.given g.T.Sink.faults l.fn.intake l.fn.sink)
-      (open_wires g.S.Source.left g.S.Source.faults g.T.Sink.given g.T.Sink.faults l.intake l.sink);
+      (open_wires g.S.Source g.T.Sink l.fn.intake l.fn.sink)
+      (open_wires g.S.Source g.T.Sink l.intake l.sink);
 }

@@ -1,7 +1,8 @@
 use Rattle.std.proofs.Common.{refl, sym, ◌∙◌}
 use Rattle.serve_loop.specs.Exchanges.{asked, refused}
 use Rattle.serve_loop.specs.Intakes.{IsAtRest}
-use Rattle.serve_loop.specs.Seen.{wire_of}
+use Rattle.serve_loop.specs.Seen.{from_of, wire_of}
+use Rattle.serve_loop.specs.Sending.{sink_view}
 use Rattle.serve_loop.proofs.TurnLemmas.{refused_goes, rests_so, starved, turned}
 use Rattle.serve_loop.proofs.serving.serve_head.Goals as goal
 
@@ -9,14 +10,14 @@ pub returns-in-Ok-clause-turn : goal.returns-in-Ok-clause-turn
 returns-in-Ok-clause-turn g c clock number front told last head =
     let ask = asked c.args.head.now c.args.intake.now.stated c.in-Ok.call in
     turned (g.K.Desk.answers c.args.desk.now) clock c.turn_of.result c.serve_call-answer.result ask c.args.now c.manner_of-manner.result number front c.args.pass.now c.serve_call-answer.new.pass _
-    (wire_of c.serve_call-answer.new.intake) _ _ _ _ c.turn_of.ensures (head, c.in-Ok.ensures.reads) told c.requires.moment
+    (wire_of c.serve_call-answer.new.intake) (from_of c.serve_call-answer.new.intake) (sink_view g.T.Sink c.serve_call-answer.new.sink) _ _ c.turn_of.ensures c.serve_call-answer.new.intake.last (head, c.in-Ok.ensures.reads) told c.requires.moment
     (c.manner_of-manner.ensures.manner number ask last refl refl) (c.serve_call-answer.ensures.goes c.manner_of-manner.result c.closes-close.ensures)
 
 pub returns-in-Err-Refused-clause-turn : goal.returns-in-Err-Refused-clause-turn
 returns-in-Err-Refused-clause-turn g c clock number front told last head =
     let ask = refused c.args.head.now c.args.intake.now.stated c.in-Err-Refused.why in
     turned (g.K.Desk.answers c.args.desk.now) clock c.turn_of-in-Err-Refused.result c.refuse-answer.result ask c.args.now c.manner_of-manner-in-Err-Refused.result number front c.args.pass.now c.args.pass.now _
-    (wire_of c.refuse-answer.new.intake) _ _ _ _ c.turn_of-in-Err-Refused.ensures (head, rw c.in-Err-Refused.field-0-is at c.in-Err-Refused.ensures.reads) told c.requires.moment
+    (wire_of c.refuse-answer.new.intake) (from_of c.refuse-answer.new.intake) (sink_view g.T.Sink c.refuse-answer.new.sink) _ _ c.turn_of-in-Err-Refused.ensures c.refuse-answer.new.intake.last (head, rw c.in-Err-Refused.field-0-is at c.in-Err-Refused.ensures.reads) told c.requires.moment
     (c.manner_of-manner-in-Err-Refused.ensures.manner number ask last refl (sym c.leaves_body.ensures))
     (refused_goes (g.K.Desk.answers c.args.desk.now) clock c.refuse-answer.result _ _ _ _ _ c.args.pass.now _ _ (c.refuse-answer.ensures.goes c.manner_of-manner-in-Err-Refused.result c.closes-close-in-Err-Refused.ensures))
 
@@ -27,4 +28,4 @@ returns-in-Err-Refused-clause-rests g c =
 
 pub returns-in-Err-NoMemory-clause-turn : goal.returns-in-Err-NoMemory-clause-turn
 returns-in-Err-NoMemory-clause-turn g c clock number front told last head =
-    starved (g.K.Desk.answers c.args.desk.now) clock number front c.args.pass.now (wire_of c.args.intake.now) _ _ _ _
+    starved (g.K.Desk.answers c.args.desk.now) clock number front c.args.pass.now (wire_of c.args.intake.now) (from_of c.args.intake.now) (sink_view g.T.Sink c.args.sink.now) _ _ c.args.intake.now.last

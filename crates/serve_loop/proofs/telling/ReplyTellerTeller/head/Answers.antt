@@ -10,4 +10,4 @@ returns-then-self-clause-tells g c = (refl, takes_held _ _ _ refl (c.in-Ok-behin
 -- src/telling.rt:67:5
 pub returns-clause-tells : goal.returns-clause-tells
 returns-clause-tells g c =
-    tells_flushed (told_of g.T.Sink.given) (λ t. t.sink.ghost_name) _ c.flush.result _ _ _ _ _ c.flush.ensures.name refl refl (c.in-Ok-behind.ensures ∙ ap (λ l. l ++ c.in-Ok.text.items) c.deref.ensures.value ∙ ap (λ l. c.args.self.now.held.now.items ++ l) c.in-Ok.ensures) c.if-self.false c.flush.ensures.gives
+    tells_flushed (told_of g.T.Sink) (λ t. t.sink.ghost_name) _ c.flush.result _ _ _ _ _ c.flush.ensures.name refl refl (c.in-Ok-behind.ensures ∙ ap (λ l. l ++ c.in-Ok.text.items) c.deref.ensures.value ∙ ap (λ l. c.args.self.now.held.now.items ++ l) c.in-Ok.ensures) c.if-self.false c.flush.ensures.gives

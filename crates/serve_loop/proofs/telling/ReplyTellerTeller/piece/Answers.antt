@@ -6,4 +6,4 @@ use Rattle.serve_loop.proofs.telling.ReplyTellerTeller.piece.Goals as goal
 -- src/telling.rt:89:5
 pub returns-clause-tells : goal.returns-clause-tells
 returns-clause-tells g c =
-    tells_given (told_of g.T.Sink.given) (λ t. t.sink.ghost_name) _ c.give.result _ _ _ _ _ _ c.in_ok-flush.ensures.name c.in_ok-flush.ensures.gives refl refl c.if-self.false c.give.ensures
+    tells_given (told_of g.T.Sink) (λ t. t.sink.ghost_name) _ c.give.result _ _ _ _ _ _ c.in_ok-flush.ensures.name c.in_ok-flush.ensures.gives refl refl c.if-self.false c.give.ensures
