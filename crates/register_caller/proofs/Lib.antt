@@ -1,4 +1,5 @@
 pub mod CallingLemmas
+pub mod KeptLemmas
 pub mod LeavingLemmas
 pub mod LiveLemmas
 pub mod ServingLemmas

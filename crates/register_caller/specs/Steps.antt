@@ -1,9 +1,13 @@
 -- Both writes of a change and the look before them: what each call answered, and what it left of the drives, whatever these tell.
-use Rattle.std.specs.Prelude.{◌≡◌, ◌⊎◌, ◌<◌, ℕ, Bool, IsTrue, List, length, slice_index_or, Option, Result, Ok, Err}
+use Rattle.std.specs.Prelude.{◌≡◌, ◌⊎◌, ◌<◌, ℕ, Bool, IsTrue, List, length, slice_index_or, Option, Some, Result, Ok, Err, string_bytes}
+use Rattle.std.specs.Result.{IfOk}
 use Rattle.call_types.specs.declared.why.Why.{Why}
+use Rattle.call_types.specs.declared.why.Why.TheVariants.{Good}
 use Rattle.drive_base.specs.Files.{Files}
 use Rattle.drive_base.specs.declared.plan.SetPlan.{SetPlan}
 use Rattle.register_core.specs.Looking.{Looks}
+use Rattle.register_core.specs.Loops.{TellsStay, letter_at}
+use Rattle.register_core.specs.OnLanes.{AllTell, AreUnused}
 use Rattle.register_core.specs.Proposing.{Marks, Proposes}
 use Rattle.register_core.specs.declared.drafts.Draft.{Draft}
 use Rattle.register_core.specs.declared.faults.QuorumFault.{QuorumFault}
@@ -15,7 +19,13 @@ module _ {D : Type 0} (tells : D → Bool) (files : D → Files) (count : D → 
   FilesStay old new = (k : ℕ) (d : D) → k < length old → IsTrue (tells (slice_index_or old k d))
       → files (slice_index_or new k d) ≡ files (slice_index_or old k d)
 
-  -- enough lanes took the first file of a draft, and the mark after it answered
+  -- each lane whose letter is good keeps these bytes under a name
+  abbrev pub GoodKeep : List ℕ → List ℕ → List Why → List D → Type 0
+  GoodKeep name bytes whys lanes = (k : ℕ) (d : D) → k < length lanes → letter_at whys k ≡ Good
+      → (files (slice_index_or lanes k d)).kept name ≡ Some bytes
+
+  -- enough lanes took the first file of a draft, and the mark after it answered. Each lane tells as before; and where those in use tell and later loose names
+  -- are unused, these are so after it too, and where it succeeded each lane whose letter is good keeps the last file
   pub record MarksTaken (draft : Draft) (out term from to : ℕ) (result : Result (List Why) QuorumFault) (old new : List D) : Type 0 where
     pub took : Prepared
     pub middle : ℕ
@@ -23,6 +33,12 @@ module _ {D : Type 0} (tells : D → Bool) (files : D → Files) (count : D → 
     pub later : Draft
     pub proposes : Proposes tells files count draft out term from middle (Ok took) old mid
     pub marks : Marks tells files count draft took term middle to result later mid new
+    pub long : length old ≡ draft.set.drives
+    pub tell_mid : TellsStay tells files count old mid
+    pub tell_new : TellsStay tells files count mid new
+    pub unused : AllTell tells out old → AreUnused files out term from old → AreUnused files out term to new
+    pub keep : AllTell tells out old → AreUnused files out term from old
+        → IfOk result (λ whys. GoodKeep (string_bytes draft.name) draft.last.items whys new)
 
   -- what both writes of a draft answer: where they are refused, the proposal was or the mark
   abbrev pub WritesBoth : Draft → ℕ → ℕ → ℕ → ℕ → Result (List Why) QuorumFault → List D → List D → Type 0

@@ -1,5 +1,5 @@
 -- What lanes stand for after a change that a look found pending was written again: the same state, or that after its late step.
-use Rattle.std.proofs.Common.{◌≡◌, ◌⊎◌, ◌≤◌, ◌∙◌, ℕ, List, [], ◌∷◌, Contains, sym, ap, subst, refl, inl, inr, arith}
+use Rattle.std.proofs.Common.{◌≡◌, ◌⊎◌, ◌≤◌, ◌∙◌, ℕ, List, [], ◌∷◌, Contains, false, bytes_eq, sym, ap, subst, refl, inl, inr, arith}
 use Rattle.vote_core.specs.Lane.{Next}
 use Rattle.vote_core.specs.Laws.{DrawingKeeps, FreshIsCalm}
 use Rattle.register_caller.specs.Leaving.{LeavesLanes, Written, written_of}
@@ -44,6 +44,7 @@ pub record Forwarded (s : Write) : Type 0 where
   pub carried : (p : Waiting) → Contains lates p → IsOnItsWay s.old s.state p
   pub rests : OnlyTheOld s.old s.state s.new moved
   pub register_is : moved.registers s.name ≡ record { change = s.now; content = s.shows }
+  pub others : (other : List ℕ) → bytes_eq s.name other ≡ false → moved.registers other ≡ s.state.registers other
   pub goes_on : (slot : ℕ) (disks : Disks) (hands : Hands) → DataStands s.set slot s.last s.old s.state s.holding disks hands
       → DataStands s.set slot s.later s.new moved s.holding disks hands
 
@@ -80,6 +81,7 @@ own_forwarded drawing s a own =
       carried = λ p there. absurd (nil_none p there);
       rests = own_again_rests s o;
       register_is = same_register (stood s) s.now s.shows stays.0 stays.1;
+      others = λ other differs. refl;
       goes_on = own_again_data s o;
     }
 
@@ -122,6 +124,7 @@ live_forwarded drawing fresh s a live =
           | inl same_value ↦ same_value.1
           | inr moved ↦ absurd (moved.2 (sym moved.0 ∙ stays.0))
         ]);
+        others = λ other differs. refl;
         goes_on = λ slot disks hands d. again_stays_data s.set slot s.last s.later s.old s.new s.state s.holding disks hands p s.x s.after s.now s.shows
             a.up a.stands way change_is content_is adds_is a.left a.writes stays.0 d;
       }
@@ -139,6 +142,7 @@ live_forwarded drawing fresh s a live =
               | inl same_value ↦ absurd (differs (sym moves.0 ∙ same_value.0))
               | inr was ↦ was.1 ∙ content_is
             ]);
+            others = late.changes.stays;
             goes_on = λ slot disks hands d. again_is_late_data s.set slot s.last s.later s.old s.new s.state moved s.holding disks hands p s.x s.after s.now s.shows
                 a.up a.stands way change_is content_is adds_is a.left a.writes moves.0 late d;
           }

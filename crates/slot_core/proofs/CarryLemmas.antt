@@ -1,5 +1,5 @@
 -- What carrying out a plan leaves of lanes that stood for a state.
-use Rattle.std.proofs.Common.{◌≡◌, ◌⊎◌, ◌∙◌, ℕ, List, [], ◌++◌, Option, None, Some, ap, subst, sym, refl, inl, inr}
+use Rattle.std.proofs.Common.{◌≡◌, ◌⊎◌, ◌∙◌, ℕ, List, [], ◌++◌, Option, None, Some, ap, subst, subst₂, sym, refl, inl, inr}
 use Rattle.std.specs.Prelude.{Bool}
 use Rattle.std.proofs.lemmas.List.{append-nil}
 use Rattle.call_types.specs.declared.refusal.KeyRefusal.{KeyRefusal}
@@ -9,13 +9,15 @@ use Rattle.stamp_id.specs.declared.stamp.ChangeId.{ChangeId}
 use Rattle.stamp_id.specs.declared.version.VersionId.{VersionId}
 use Rattle.audit_trail.specs.declared.entry.Deed.{Deed}
 use Rattle.audit_trail.specs.declared.entry.Deed.TheVariants.{Done as DoneDeed, Refused as RefusedDeed, Kept as KeptDeed}
+use Rattle.vote_core.specs.Calm.{IsCalm}
+use Rattle.vote_core.specs.Lane.{Lane}
 use Rattle.register_core.specs.Records.{next_of}
 use Rattle.register_core.specs.declared.faults.QuorumFault.{QuorumFault}
 use Rattle.register_caller.specs.Leaving.{written_of}
 use Rattle.slot_history.specs.Doing.{Does}
 use Rattle.slot_history.proofs.TakenLemmas.{none_there}
-use Rattle.slot_history.specs.Laws.{MadeIsLate, with_waiting}
-use Rattle.slot_history.specs.Moving.{Deeds, IsLast}
+use Rattle.slot_history.specs.Laws.{IsMade, MadeIsLate, with_waiting}
+use Rattle.slot_history.specs.Moving.{Deeds, IsLast, drawn_by}
 use Rattle.slot_history.specs.Sections.{SectionMoves}
 use Rattle.slot_history.specs.Standing.{Flying, Records}
 use Rattle.slot_history.specs.State.{Register, State}
@@ -33,14 +35,16 @@ use Rattle.slot_rules.specs.declared.site.Drawn.{Drawn}
 use Rattle.slot_rules.specs.declared.site.Site.{Site}
 use Rattle.slot_rules.specs.declared.telling.Tale.{Tale}
 use Rattle.slot_rules.specs.declared.telling.Told.{Told}
+use Rattle.slot_core.specs.Calming.{IsCalmUnder, OnlyLooked}
 use Rattle.slot_core.specs.Carrying.{DeedLeaves, EntryLeaves, Lands, answer_of, entry_at, kept_with}
 use Rattle.slot_core.specs.Committing.{DeedTrash, MayCommitData, ShowsTrash}
 use Rattle.slot_core.specs.Settling.{Settled, numbers_at}
 use Rattle.slot_core.specs.Standing.{LanesHave, SlotStands}
-use Rattle.slot_core.specs.Views.{last_of}
+use Rattle.slot_core.specs.Views.{last_of, quorum_of}
+use Rattle.slot_core.proofs.CalmingLemmas.{entry_calms, idle_calms, wrote_stays}
 use Rattle.slot_core.proofs.DeedLemmas.{deed_gone}
 use Rattle.slot_core.proofs.LandLemmas.{LandLaws, land_data, land_stands}
-use Rattle.slot_core.proofs.LaneLemmas.{lanes_stay, with_lanes}
+use Rattle.slot_core.proofs.LaneLemmas.{lanes_stay, with_lanes, with_lanes_writes}
 use Rattle.slot_core.proofs.OwnWriteLemmas.{OwnMade, OwnWaits}
 use Rattle.slot_core.proofs.WritingLemmas.{IsWriting, Writing, behind, deemed, done_deed, drawn_own, is_deemed, kept_gone, own_data, owned, stood_is, waits_deed}
 
@@ -55,15 +59,30 @@ deed_trash (Key at mode act) before after content new gone old trash first secon
 deed_trash (MakeBucket bucket) before after content new gone old trash first second is added state later was now = added ∙ (ap (λ (g : List VersionId). old ++ g) is ∙ append-nil old)
 deed_trash (SetMode bucket mode) before after content new gone old trash first second is added state later was now = added ∙ (ap (λ (g : List VersionId). old ++ g) is ∙ append-nil old)
 
+-- the register of an own change that was made is calm
+made_calm : (s : Writing) (w : IsWriting s) (made : State) → IsMade (name_of s.deed) (written_of (next_of s.next)) s.state made
+    → IsCalm (quorum_of (numbers_at s.site s.mid)) s.after (next_of s.next).change
+    → IsCalmUnder (quorum_of (numbers_at s.site s.mid)) (with_lanes (name_of s.deed) s.after s.records) made (name_of s.deed)
+made_calm s w made is calm =
+    subst₂ (λ (l : List Lane) (c : ℕ). IsCalm (quorum_of (numbers_at s.site s.mid)) l c) (sym (with_lanes_writes (name_of s.deed) s.after s.records).is)
+    (sym (ap (λ (r : Register). r.change) is.changes.is)) calm
+
+-- a deed of an own change drew one
+own_not_looked : (s : Writing) (w : IsWriting s) → OnlyLooked (DoneDeed s.tale.audit.call s.tale.audit.reply) → ⊥
+own_not_looked s w looked =
+    let drawn : drawn_by s.tale.audit.call ≡ Some s.own.change = ap (λ (t : Told). drawn_by t.call) w.tale_is.audit ∙ drawn_own s.deed (Some s.own.change) s.now in
+    absurd (let both : None ≡ Some s.own.change = sym looked ∙ drawn in cc)
+
 module _ {D : Type 0} (tells : D → Bool) (files : D → Files) where
   -- an own change that was done
   pub done_leaves : GoneIdsAreGone → (s : Writing) (w : IsWriting s) (old trash : List VersionId) (new : List D) → s.tale.refused ≡ None → s.holding.trash ≡ old → trash ≡ old ++ s.gone
-      → LanesHave tells files (numbers_at s.site s.later) new (with_lanes (name_of s.deed) s.after s.records) → OwnMade (owned s w)
+      → LanesHave tells files (numbers_at s.site s.later) new (with_lanes (name_of s.deed) s.after s.records) → (made : OwnMade (owned s w))
+      → IsCalm (quorum_of (numbers_at s.site s.mid)) s.after (next_of s.next).change
       → DeedLeaves tells files (numbers_at s.site s.mid) (numbers_at s.site s.later) s.holding (kept_with s.holding s.rest trash) (name_of s.deed)
       (DoneDeed s.tale.audit.call s.tale.audit.reply) new
       (λ before after. ShowsTrash s.deed (answer_of s.tale s.tale.refused) old trash before after)
       (λ disks hands less. MayCommitData s.deed (kept_with s.holding s.rest trash) disks hands less) s.records s.state
-  done_leaves gone_law s w old trash new served was added have made = record {
+  done_leaves gone_law s w old trash new served was added have made calm = record {
     after = with_lanes (name_of s.deed) s.after s.records;
     now = made.made;
     stands = record { have = have; stands = made.stands };
@@ -72,6 +91,11 @@ module _ {D : Type 0} (tells : D → Bool) (files : D → Files) where
     deed_is = done_deed s w made;
     own = inl refl;
     rests = λ p way. inl (made.rests p way);
+    calm = record {
+      made = λ change is. made_calm s w made.made made.is calm;
+      stays = λ name looks. wrote_stays (name_of s.deed) s.after s.records s.state made.made name made.is.changes.stays
+          (λ same. absurd (own_not_looked s w (looks same)));
+    };
     shows = subst (λ (o : Option KeyRefusal). ShowsTrash s.deed (answer_of s.tale o) old trash s.state made.made) (sym served)
         (deed_trash s.deed (s.state.registers (name_of s.deed)).content (made.made.registers (name_of s.deed)).content s.content s.next.content s.gone old trash
         (stood_is s w) (ap (λ (r : Register). r.content) made.is.changes.is) w.gone_is added s.state made.made refl refl);
@@ -101,6 +125,11 @@ module _ {D : Type 0} (tells : D → Bool) (files : D → Files) where
           | inl was_so ↦ inl was_so
           | inr own ↦ inr (own ∙ ap change_of (sym w.is.change_is))
         ];
+        calm = record {
+          made = λ change is. absurd is;
+          stays = λ name looks. wrote_stays (name_of s.deed) s.after s.records s.state (with_waiting s.state (name_of s.deed) (written_of (next_of s.next))) name
+              (λ other differs. refl) (λ same. looks same);
+        };
         shows = tt;
         holds = λ disks hands less may d. subst (λ (h : Holding). DataStands s.site.set s.site.index (behind s w) (with_lanes (name_of s.deed) s.after s.records)
             (with_waiting s.state (name_of s.deed) (written_of (next_of s.next))) h disks less)
@@ -119,6 +148,10 @@ module _ {D : Type 0} (tells : D → Bool) (files : D → Files) where
         deed_is = waits_deed s w made.is_new;
         own = inr (own.0, own.1 ∙ ap change_of (sym w.is.change_is), own.2);
         rests = λ p way. inl (made.rests p way);
+        calm = record {
+          made = λ change is. absurd is;
+          stays = λ name looks. wrote_stays (name_of s.deed) s.after s.records s.state made.made name made.is.changes.stays (λ same. looks same);
+        };
         shows = tt;
         holds = λ disks hands less may d. subst (λ (h : Holding). DataStands s.site.set s.site.index (behind s w) (with_lanes (name_of s.deed) s.after s.records) made.made h disks less)
             (kept_gone s.holding s.rest [] old trash was added)
@@ -149,6 +182,8 @@ module _ {D : Type 0} (tells : D → Bool) (files : D → Files) where
     }));
     own = inl refl;
     rests = λ p way. inl way;
+    calm = idle_calms (quorum_of (numbers_at site mid)) (name_of deed) (DoneDeed tale.audit.call tale.audit.reply) records state
+        (subst (λ (t : Told). OnlyLooked (DoneDeed t.call t.reply)) (sym told.audit) (drawn_own deed None now));
     shows = shows tale.refused;
     holds = λ disks hands less may d. kept_data disks hands less may d;
   }
@@ -184,6 +219,7 @@ module _ {D : Type 0} (tells : D → Bool) (files : D → Files) where
         deed_is = refl;
         own = inl refl;
         rests = λ p way. inl way;
+        calm = idle_calms (quorum_of (numbers_at site mid)) (name_of deed) KeptDeed records state tt;
         shows = tt;
         holds = λ disks hands less may d. subst (λ (h : Holding). DataStands site.set site.index (last_of (numbers_at site mid)) records state h disks less) kept
             (land_data laws site.set site.index (last_of (numbers_at site mid)) holding rest records state put disks hands less lands s.stands
@@ -217,5 +253,6 @@ module _ {D : Type 0} (tells : D → Bool) (files : D → Files) where
         stands = d.stands;
         stay = λ name k is_out. d.stay name k is_out ∙ s.stay name k is_out;
         moves = (moves, d.shows);
+        calm = entry_calms (quorum_of (numbers_at site drawn)) ticket name late deed records state s.after s.now d.after d.now s.calm d.calm;
         holds = λ disks hands less may stood. d.holds disks hands less may (s.goes_on disks hands stood);
       }

@@ -1,5 +1,5 @@
 -- From which calls the outcome of a commit of a register comes.
-use Rattle.std.proofs.Common.{◌≡◌, ◌⊎◌, ◌≤◌, ◌+◌, ◌∙◌, ℕ, List, Option, None, Some, Result, Ok, Err, ap, subst, sym, refl, inl, inr, arith}
+use Rattle.std.proofs.Common.{◌≡◌, ◌⊎◌, ◌≤◌, ◌+◌, ◌∙◌, ℕ, List, Option, None, Some, Result, Ok, Err, length, ap, subst, sym, refl, inl, inr, arith}
 use Rattle.std.specs.Prelude.{Bool, IfSome, MatchOption}
 use Rattle.call_types.specs.Refusals.{refusal_of}
 use Rattle.call_types.specs.declared.refusal.KeyRefusal.{KeyRefusal}
@@ -11,6 +11,7 @@ use Rattle.stamp_id.specs.declared.stamp.ChangeId.{ChangeId}
 use Rattle.stamp_id.specs.declared.version.VersionId.{VersionId}
 use Rattle.register_file.specs.declared.record.Next.{Next}
 use Rattle.register_core.specs.Found.{content_of}
+use Rattle.register_core.specs.Loops.{TellsStay}
 use Rattle.register_core.specs.declared.drafts.Draft.{Draft}
 use Rattle.register_core.specs.declared.faults.QuorumFault.{QuorumFault}
 use Rattle.register_caller.specs.Steps.{FilesStay, WritesBoth}
@@ -88,11 +89,12 @@ module _ {D : Type 0} (tells : D → Bool) (files : D → Files) (count : D → 
   own_written : (site : Site) (drawn later : Drawn) (name : List ℕ) (rule : List ℕ → Option ℕ) (longest : ℕ) (ready : Ready) (late : Option ChangeId) (own : Own) (next : Next)
       (result : Result (List Why) QuorumFault) (old mid new disks disks_after : List D)
       → IsReady tells files count site drawn name rule longest ready old mid disks disks_after → FilesStay tells files count old mid
+      → length mid ≡ length old → TellsStay tells files count old mid
       → IsOwnDraft ready.looked ready.first next own.draft
       → CallsOwn tells files count site drawn later ready.first late own result mid new
       → OwnIsWritten tells files count (numbers_at site drawn) (numbers_at site later) name rule longest (content_of ready.looked.base ready.looked.pending) next result
       old new disks disks_after
-  own_written site drawn later name rule longest ready None own next result old mid new disks disks_after is stay drafted calls =
+  own_written site drawn later name rule longest ready None own next result old mid new disks disks_after is stay long told drafted calls =
       let none : ready.first ≡ None = calls.forward.0 in
       let here : calls.between ≡ mid = calls.forward.1 in
       let count_is : calls.middle.count ≡ drawn.count = ap (λ (d : Drawn). d.count) calls.forward.2 in
@@ -100,6 +102,8 @@ module _ {D : Type 0} (tells : D → Bool) (files : D → Files) (count : D → 
         looked = ready.looked;
         mid = mid;
         concluded = record { looks = is.looks; stay = stay };
+        long = long;
+        tell = told;
         settled = first_none ready.looked ready.looked.pending is.ballot ready.first is.first none;
         content_is = refl;
         draft = own.draft;
@@ -107,13 +111,15 @@ module _ {D : Type 0} (tells : D → Bool) (files : D → Files) (count : D → 
         writes = subst (λ (l : List D). WritesBoth tells files count own.draft site.set.out site.term drawn.count later.count result l new) here
             (subst (λ (n : ℕ). WritesBoth tells files count own.draft site.set.out site.term n later.count result calls.between new) count_is calls.writes);
       })
-  own_written site drawn later name rule longest ready (Some change) own next result old mid new disks disks_after is stay drafted calls =
+  own_written site drawn later name rule longest ready (Some change) own next result old mid new disks disks_after is stay long told drafted calls =
       let first = calls.forward.1 in
       let found = first_found ready.looked ready.looked.pending is.ballot ready.first first.draft is.first first.is in
       inr (record {
         looked = ready.looked;
         mid = mid;
         concluded = record { looks = is.looks; stay = stay };
+        long = long;
+        tell = told;
         found = found.0;
         pending = found.1;
         content_is = refl;
@@ -132,7 +138,7 @@ module _ {D : Type 0} (tells : D → Bool) (files : D → Files) (count : D → 
   module _ (site : Site) (drawn later : Drawn) (ready : Ready) (deed : Commit) (put : Option VersionId) (now : ℕ) (rule : List ℕ → Option ℕ) (longest : ℕ)
       (old mid new disks disks_after : List D) (rule_is : IsRuleOf (numbers_at site drawn) deed put rule longest)
       (is : IsReady tells files count site drawn (name_of deed) rule longest ready old mid disks disks_after) (stay : FilesStay tells files count old mid)
-      (plan : Plan) (planned : IsPlan site (drawn.seq + again_takes ready.first) ready deed put now plan) where
+      (long : length mid ≡ length old) (tells_on : TellsStay tells files count old mid) (plan : Plan) (planned : IsPlan site (drawn.seq + again_takes ready.first) ready deed put now plan) where
     abbrev last : ℕ
     last = drawn.seq + again_takes ready.first
 
@@ -179,7 +185,7 @@ module _ {D : Type 0} (tells : D → Bool) (files : D → Files) (count : D → 
           own = plans.is.next;
           is_own = subst (λ (t : Tale). IsOwnChangeOf (numbers_at site drawn) (numbers_at site later) deed put now content t.reply plans.is.next) (sym same)
               (own_change_of site drawn later ready deed put now plan.tale.reply own plans.is calls.seq);
-          written = own_written site drawn later (name_of deed) rule longest ready late own plans.is.next result old mid new disks disks_after is stay plans.is.drafted calls;
+          written = own_written site drawn later (name_of deed) rule longest ready late own plans.is.next result old mid new disks disks_after is stay long tells_on plans.is.drafted calls;
           deed_is = told ∙ ap (λ (c : ChangeId). own_deed deed now c tale.reply result) plans.is.change_is;
         }
 
@@ -242,10 +248,10 @@ module _ {D : Type 0} (tells : D → Bool) (files : D → Files) (count : D → 
   pub finish_cause : (site : Site) (drawn later : Drawn) (ready : Ready) (deed : Commit) (put : Option VersionId) (now : ℕ) (rule : List ℕ → Option ℕ) (longest : ℕ)
       (old mid new disks disks_after : List D) → IsRuleOf (numbers_at site drawn) deed put rule longest
       → IsReady tells files count site drawn (name_of deed) rule longest ready old mid disks disks_after → FilesStay tells files count old mid
-      → (outcome : Outcome) → FinishCalls tells files count site drawn later ready deed put now outcome mid new
+      → length mid ≡ length old → TellsStay tells files count old mid → (outcome : Outcome) → FinishCalls tells files count site drawn later ready deed put now outcome mid new
       → CommitCause tells files count (numbers_at site drawn) (numbers_at site later) deed put now (answer_told outcome) (deed_told outcome) old new disks disks_after
-  finish_cause site drawn later ready deed put now rule longest old mid new disks disks_after rule_is is stay outcome (inl lacks) =
+  finish_cause site drawn later ready deed put now rule longest old mid new disks disks_after rule_is is stay long told outcome (inl lacks) =
       subst (λ (o : Outcome). CommitCause tells files count (numbers_at site drawn) (numbers_at site later) deed put now (answer_told o) (deed_told o) old new disks disks_after) (sym lacks.0)
       (subst (λ (l : List D). FilesStay tells files count old l) (sym lacks.1) stay)
-  finish_cause site drawn later ready deed put now rule longest old mid new disks disks_after rule_is is stay outcome (inr p) =
-      carry_cause site drawn later ready deed put now rule longest old mid new disks disks_after rule_is is stay p.plan p.is outcome p.calls
+  finish_cause site drawn later ready deed put now rule longest old mid new disks disks_after rule_is is stay long told outcome (inr p) =
+      carry_cause site drawn later ready deed put now rule longest old mid new disks disks_after rule_is is stay long told p.plan p.is outcome p.calls

@@ -25,6 +25,7 @@ use Rattle.slot_rules.specs.declared.site.Drawn.{Drawn}
 use Rattle.slot_rules.specs.declared.site.Site.{Site}
 use Rattle.slot_core.specs.Carrying.{EntryLeaves, FitsPut, Lands, answer_told, entry_at, entry_told, kept_with}
 use Rattle.slot_core.specs.CommitCauses.{CommitCause}
+use Rattle.slot_core.specs.Calming.{SectionCalms}
 use Rattle.slot_core.specs.Committing.{ChecksFlight, CommitHolds, GoneByAnswer, MayCommitData, NothingBegun, SaysCommit, ShowsTrash}
 use Rattle.slot_core.specs.Finishing.{CommitLeaves}
 use Rattle.slot_core.specs.Landing.{ChecksLanding}
@@ -35,7 +36,7 @@ use Rattle.slot_core.specs.Settling.{numbers_at}
 use Rattle.slot_core.specs.Standing.{SlotStands}
 use Rattle.slot_core.specs.Stubs.{AuditCounts, Says, StubOfEntry, entry_of}
 use Rattle.slot_core.specs.Turning.{EntryMoves, Leaves, TurnLeaves}
-use Rattle.slot_core.specs.Views.{SlotNumbers, last_of}
+use Rattle.slot_core.specs.Views.{SlotNumbers, last_of, quorum_of}
 use Rattle.slot_core.specs.declared.carrying.Outcome.{Outcome}
 use Rattle.slot_core.specs.declared.fault.SlotFault.{SlotFault}
 use Rattle.slot_core.specs.declared.fault.SlotFault.TheVariants.{AuditFailed, NoMemory as LacksMemory, NotInFlight, SeqSpent}
@@ -43,6 +44,7 @@ use Rattle.slot_core.specs.declared.pen.ReserveFault.{ReserveFault}
 use Rattle.slot_core.specs.declared.pen.ReserveFault.TheVariants.{Failed, NoMemory}
 use Rattle.slot_core.specs.declared.stub.Stub.{Stub}
 use Rattle.slot_core.specs.declared.stub.Turn.{Turn}
+use Rattle.slot_core.proofs.CalmingLemmas.{none_calms}
 use Rattle.slot_core.proofs.CarryLemmas.{entry_leaves, kept_leaves}
 use Rattle.slot_core.proofs.ConcludeLemmas.{audit_has, missing_stub, written_entry_of}
 use Rattle.slot_core.proofs.LandLemmas.{LandLaws, land_data, land_stands}
@@ -135,6 +137,7 @@ module _ {D : Type 0} (tells : D → Bool) (files : D → Files) (count : D → 
     stands = leaves.stands;
     stay = leaves.stay;
     moves = subst (λ (e : Option Entry). EntryMoves numbers.index e Shows records state leaves.after leaves.now) (sym is) leaves.moves;
+    calm = subst (λ (e : Option Entry). SectionCalms (quorum_of numbers) e records state leaves.after leaves.now) (sym is) leaves.calm;
     holds = leaves.holds;
   }
 
@@ -151,6 +154,7 @@ module _ {D : Type 0} (tells : D → Bool) (files : D → Files) (count : D → 
         stands = record { have = s.have; stands = land_stands laws site.set (last_of (numbers_at site drawn)) holding rest records state put lands s.stands };
         stay = λ name k is_out. refl;
         moves = subst (λ (e : Option Entry). EntryMoves site.index e Shows records state records state) (sym none) (refl, refl);
+        calm = none_calms (quorum_of (numbers_at site drawn)) (entry_of stub) records state none;
         holds = λ disks hands less may d. subst (λ (h : Holding). DataStands site.set site.index (last_of (numbers_at site drawn)) records state h disks less) kept
             (land_data laws site.set site.index (last_of (numbers_at site drawn)) holding rest records state put disks hands less lands s.stands
             (subst (λ (h : Holding). GoOn hands less h) (sym kept) may.goes_on) d);

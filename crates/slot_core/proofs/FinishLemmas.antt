@@ -57,9 +57,10 @@ use Rattle.slot_core.specs.Finishing.{CommitLeaves, IsKeptBy, ReadyFits}
 use Rattle.slot_core.specs.Looked.{DraftFits, FirstFits}
 use Rattle.slot_core.specs.Settling.{FirstIs, IsReady, numbers_at}
 use Rattle.slot_core.specs.Standing.{SlotStands}
-use Rattle.slot_core.specs.Views.{SlotNumbers, last_of}
+use Rattle.slot_core.specs.Views.{SlotNumbers, last_of, quorum_of}
 use Rattle.slot_core.specs.declared.carrying.Outcome.{Outcome}
 use Rattle.slot_core.specs.declared.carrying.Outcome.TheVariants.{Kept, LacksMemory}
+use Rattle.slot_core.proofs.CalmingLemmas.{none_calms}
 use Rattle.slot_core.proofs.CarryLemmas.{entry_leaves, kept_leaves}
 use Rattle.slot_core.proofs.LandLemmas.{LandLaws, land_data, land_stands}
 use Rattle.slot_core.proofs.SettlingLemmas.{first_found, looked_settled}
@@ -216,6 +217,7 @@ module _ {D : Type 0} (tells : D → Bool) (files : D → Files) (count : D → 
         };
         stay = λ name k is_out. refl;
         moves = (refl, refl);
+        calm = none_calms (quorum_of (numbers_at site drawn)) None records state refl;
         holds = λ disks hands less may d. subst (λ (h : Holding). DataStands site.set site.index (last_of (numbers_at site drawn)) records state h disks less) kept
             (land_data laws site.set site.index (last_of (numbers_at site drawn)) holding rest records state put disks hands less lands looked.stands
             (subst (λ (h : Holding). GoOn hands less h) (sym kept) may.goes_on) d);

@@ -22,13 +22,15 @@ use Rattle.slot_history.specs.State.{State}
 use Rattle.slot_data.specs.Disks.{Disks}
 use Rattle.slot_data.specs.Holding.{Hands, Holding}
 use Rattle.slot_data.specs.Standing.{DataStands}
+use Rattle.slot_core.proofs.CalmingLemmas.{all_stays, look_calms, none_calms}
 use Rattle.slot_core.proofs.QuietLemmas.{have_later, last_stays}
+use Rattle.slot_core.specs.Calming.{OnlyLooked}
 use Rattle.slot_core.specs.Hands.{HandsStay}
 use Rattle.slot_core.specs.Numbers.{NumbersMove}
 use Rattle.slot_core.specs.Standing.{LanesHave, SlotStands}
 use Rattle.slot_core.specs.Stubs.{entry_of}
 use Rattle.slot_core.specs.Turning.{EntryMoves, Leaves, TurnLeaves}
-use Rattle.slot_core.specs.Views.{SlotNumbers, last_of}
+use Rattle.slot_core.specs.Views.{SlotNumbers, last_of, quorum_of}
 use Rattle.slot_core.specs.declared.stub.Stub.{Stub}
 
 -- an entry of a section that did nothing, and completed nothing, moves a state to itself
@@ -93,6 +95,7 @@ kept_leaves tells files count old later held kept lanes new stub entry Shows mov
       stay = λ name k is_out. refl;
       moves = subst (λ (e : Option Entry). EntryMoves old.index e Shows records state records state) (sym is)
           (kept_moves old.index entry records records state late deed refl, shows records state standing);
+      calm = look_calms (quorum_of old) (entry_of stub) entry records state records state is (subst OnlyLooked (sym deed) tt) (λ name calm. all_stays records state name);
       holds = λ disks hands after may holds. subst (λ (h : Hands). DataStands old.set old.index (last_of later) records state held disks h) (sym may)
           (subst (λ (last : ℕ). DataStands old.set old.index last records state held disks hands) (last_stays old later moves drawn) holds);
     })
@@ -114,6 +117,7 @@ read_leaves tells files count old later held kept lanes new stub Shows moves dra
       };
       stay = λ name k is_out. refl;
       moves = subst (λ (e : Option Entry). EntryMoves old.index e Shows records state records state) (sym none) (refl, refl);
+      calm = none_calms (quorum_of old) (entry_of stub) records state none;
       holds = λ disks hands after may holds. subst (λ (h : Hands). DataStands old.set old.index (last_of later) records state held disks h) (sym may)
           (subst (λ (last : ℕ). DataStands old.set old.index last records state held disks hands) (last_stays old later moves drawn) holds);
     })

@@ -24,6 +24,7 @@ pub mod DeemingLemmas
 pub mod DeedLemmas
 pub mod LandLemmas
 pub mod WritingLemmas
+pub mod CalmingLemmas
 pub mod CarryLemmas
 pub mod CarryOutLemmas
 pub mod FinishLemmas

@@ -4,6 +4,7 @@ use Rattle.call_types.specs.declared.why.Why.{Why}
 use Rattle.drive_base.specs.Plan.{write_drives}
 use Rattle.drive_base.specs.declared.plan.SetPlan.{SetPlan}
 use Rattle.stamp_id.specs.declared.version.VersionId.{VersionId}
+use Rattle.vote_core.specs.Calm.{IsCalm}
 use Rattle.vote_core.specs.Lane.{Base, Lane, Next}
 use Rattle.vote_core.specs.Laws.{AboveLastIsFresh}
 use Rattle.vote_core.specs.Loops.{Stands as StandsOn}
@@ -161,6 +162,12 @@ own_done {T} {E} laws s m done both =
       | inl made ↦ made
       | inr waits ↦ absurd (own_differs s m waits.1.is_new (sym left.marked.0 ∙ waits.0))
     ]
+
+-- and its register is calm
+pub own_calm : {T E : Type 0} → OwnLaws → (s : Owned) → OwnMay s → (done : T)
+    → BothLeave {T = T} {E = E} (needed s) s.letters s.base s.own (Ok done) (s.old s.name) s.after → IsNew s.own.change s.state
+    → IsCalm (needed s) s.after s.own.change
+own_calm laws s m done both new = (both.value s.last s.later (was s).change (was s).content (own_proposed laws s m)).calm (own_differs s m new)
 
 -- where it was refused it was made, or waits
 pub own_begun : {T E : Type 0} → OwnLaws → (s : Owned) → OwnMay s → (fault : E)

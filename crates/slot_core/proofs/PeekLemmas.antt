@@ -33,6 +33,7 @@ module _ {D : Type 0} (tells : D → Bool) (files : D → Files) where
         stands = stands_turned tells files later turns held_new.flights new turn.after turn.now turn.stands;
         stay = turn.stay;
         moves = turn.moves;
+        calm = turn.calm;
         holds = turn.holds;
       }
 

@@ -19,6 +19,7 @@ use Rattle.slot_data.specs.Moves.{LanesStand, given_up, with_flight, with_pins, 
 use Rattle.slot_data.specs.Rows.{PinsAreFound, pinned_of}
 use Rattle.slot_data.specs.Standing.{DataStands}
 use Rattle.slot_data.specs.declared.rows.PinRow.{PinRow}
+use Rattle.slot_core.proofs.CalmingLemmas.{none_calms}
 use Rattle.slot_core.proofs.TakingLemmas.{taken_of_first}
 use Rattle.slot_core.specs.Hands.{HandsStay}
 use Rattle.slot_core.specs.Numbers.{NumbersMove}
@@ -66,6 +67,7 @@ quiet_leaves tells files old later held kept lanes stub Moves moves none stands 
   };
   stay = λ name k is_out. refl;
   moves = subst (λ (e : Option Entry). EntryMoves old.index e ShowsNoMore records state records state) (sym none) (refl, refl);
+  calm = none_calms (quorum_of old) (entry_of stub) records state none;
   holds = λ disks hands after may holds. keeps records state disks hands after standing.stands may holds;
 }
 

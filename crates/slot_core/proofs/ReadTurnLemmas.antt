@@ -48,7 +48,7 @@ use Rattle.slot_core.specs.Sections.{IsReadPin, ReadHolds, SaysRead, ShowsNoMore
 use Rattle.slot_core.specs.Settling.{IsReady, Settled, numbers_at}
 use Rattle.slot_core.specs.Stubs.{Says, completed_by, entry_of, late_in}
 use Rattle.slot_core.specs.Turning.{EntryMoves, TurnLeaves}
-use Rattle.slot_core.specs.Views.{SlotNumbers, last_of}
+use Rattle.slot_core.specs.Views.{SlotNumbers, last_of, quorum_of}
 use Rattle.slot_core.specs.declared.fault.SlotFault.{SlotFault}
 use Rattle.slot_core.specs.declared.fault.SlotFault.TheVariants.{Key as KeyFault}
 use Rattle.slot_core.specs.declared.finding.Planned.{Planned}
@@ -57,6 +57,7 @@ use Rattle.slot_core.specs.declared.reading.ReadPlan.TheVariants.{Gives, Refuses
 use Rattle.slot_core.specs.declared.reading.ReadStart.{ReadStart}
 use Rattle.slot_core.specs.declared.stub.Stub.{Stub}
 use Rattle.slot_core.specs.declared.stub.Turn.{Turn}
+use Rattle.slot_core.proofs.CalmingLemmas.{look_calms}
 use Rattle.slot_core.proofs.CauseLemmas.{gives_of}
 use Rattle.slot_core.proofs.TurnLemmas.{refused_turn, wrote_turn}
 
@@ -214,6 +215,9 @@ module _ {D : Type 0} (tells : D → Bool) (files : D → Files) where
             (λ after now. KnownRead site.turns at mode pick (Gives start row entries) late now) lanes site.turns entries.audit (entry_of turn.stub) records state s
             (told_entry site (has_late entries.audit late) None turn.stub begins.1) known.plans.1.entries_are.audit_is known.is_last
             (finds_read at mode pick (found_reply mode start.version) known.state (Ok found.place) s.now known.spells found.reads (start.version, found.there, refl));
+        calm = look_calms (quorum_of (numbers_at site drawn)) (entry_of turn.stub) (has_late (read_entry site.turns at mode pick (found_reply mode start.version)) late)
+            records state s.after s.now
+            (told_entry site (has_late entries.audit late) None turn.stub begins.1 ∙ ap (λ (e : Entry). Some (has_late e late)) known.plans.1.entries_are.audit_is) refl s.calm;
         holds = λ disks hands after same d.
             subst (λ (h : Hands). DataStands site.set site.index (last_of (numbers_at site later)) s.after s.now (with_pins holding pins) disks h) (sym same)
             (keeps site.set site.index (last_of (numbers_at site later)) s.after s.now holding disks hands p pins s.stands.stands may taken (s.goes_on disks hands d));
@@ -231,6 +235,9 @@ module _ {D : Type 0} (tells : D → Bool) (files : D → Files) where
             (λ after now. KnownRead site.turns at mode pick (Refuses why entries) late now) lanes site.turns entries.audit (entry_of turn.stub) records state s
             (told_entry site (has_late entries.audit late) (Some (KeyFault why)) turn.stub begins.1) known.plans.1.audit_is known.is_last
             (finds_read at mode pick (RefusedReply (refusal_of why)) known.state (Err why) s.now known.spells known.plans.0 refl);
+        calm = look_calms (quorum_of (numbers_at site drawn)) (entry_of turn.stub) (has_late (read_entry site.turns at mode pick (RefusedReply (refusal_of why))) late)
+            records state s.after s.now
+            (told_entry site (has_late entries.audit late) (Some (KeyFault why)) turn.stub begins.1 ∙ ap (λ (e : Entry). Some (has_late e late)) known.plans.1.audit_is) refl s.calm;
         holds = λ disks hands after same d.
             subst (λ (h : Hands). DataStands site.set site.index (last_of (numbers_at site later)) s.after s.now holding disks h) (sym same) (s.goes_on disks hands d);
       })

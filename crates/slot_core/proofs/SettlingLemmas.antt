@@ -49,10 +49,12 @@ use Rattle.slot_rules.specs.Rules.{IsRegisterName}
 use Rattle.slot_rules.specs.declared.ready.Ready.{Ready}
 use Rattle.slot_rules.specs.declared.site.Drawn.{Drawn}
 use Rattle.slot_rules.specs.declared.site.Site.{Site}
+use Rattle.slot_core.specs.Calming.{IsCalmUnder}
 use Rattle.slot_core.specs.Settling.{FirstIs, IsReady, Settled, SettledOn, SettlesAfter, numbers_at}
 use Rattle.slot_core.specs.Standing.{LanesHave, SlotStands}
 use Rattle.slot_core.specs.Views.{SlotNumbers, last_of, quorum_of}
 use Rattle.slot_core.proofs.AgainLemmas.{Forwarded, WroteAgain, forwarded}
+use Rattle.slot_core.proofs.CalmingLemmas.{all_stays, wrote_stays}
 use Rattle.slot_core.proofs.LaneLemmas.{have_after_look, have_after_write, lanes_stay, with_lanes, with_lanes_writes}
 use Rattle.slot_core.proofs.OwnAgainLemmas.{IsPlain, Write}
 
@@ -113,6 +115,10 @@ base_settled base first is = ap (λ (f : Option Draft). base_after base f) is
 register_of : (r : Register) (c : ℕ) (bytes : List ℕ) → c ≡ r.change → bytes ≡ r.content → r ≡ record { change = c; content = bytes }
 register_of r c bytes change content = λ i. record { change = sym change i; content = sym content i }
 
+-- what is pending isn't on calm lanes
+pending_not_calm : {Calm : Type 0} (looked : Looked) (found : Next) → looked.pending ≡ Some found → (Calm → looked.pending ≡ None) → Calm → ⊥
+pending_not_calm looked found is none calm = absurd (let both : None ≡ Some found = sym (none calm) ∙ is in cc)
+
 -- what is known after a forward that was marked
 marked_known : {T E : Type 0} (result : Result T E) (name : List ℕ) (draft : Draft) (again : Next) (content : List ℕ) (w last c now : ℕ) (value shows : List ℕ)
     (records : Records) (state : State)
@@ -145,6 +151,7 @@ module _ {D : Type 0} (tells : D → Bool) (files : D → Files) (count : D → 
     late_steps = refl;
     carried = λ p there. absurd (nil_none p there);
     rests = λ q way. way;
+    calm = λ name calm. all_stays records state name;
     known = known;
     goes_on = λ disks hands d. d;
   }
@@ -274,6 +281,9 @@ module _ {D : Type 0} (tells : D → Bool) (files : D → Files) (count : D → 
         late_steps = f.late_steps;
         carried = f.carried;
         rests = f.rests;
+        calm = λ other calm. wrote_stays name wrote.after records state f.moved other f.others
+            (λ same. pending_not_calm looked pending found.1 ((is.looks.seen lanes s.have.tell (s.have.honest name) (s.have.are name)).value last r.change r.content holds).calm
+            (subst (λ (n : List ℕ). IsCalmUnder w records state n) (sym same) calm));
         known = subst (λ (b : Base). IfOk result (λ done. SettledOn name b (content_of looked.base looked.pending) (Some draft.value.change)
             (with_lanes name wrote.after records) f.moved)) (sym base)
             (marked_known {T = T} {E = E} result name draft again (content_of looked.base looked.pending) w (rank_of is.ballot) r.change left.now r.content left.shows

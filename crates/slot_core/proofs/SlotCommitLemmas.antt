@@ -215,6 +215,8 @@ module _ {D : Type 0} (tells : D → Bool) (files : D → Files) (count : D → 
     looked = w.looked;
     mid = w.mid;
     concluded = w.concluded;
+    long = w.long;
+    tell = w.tell;
     settled = w.settled;
     content_is = w.content_is;
     draft = w.draft;
@@ -225,6 +227,8 @@ module _ {D : Type 0} (tells : D → Bool) (files : D → Files) (count : D → 
     looked = w.looked;
     mid = w.mid;
     concluded = w.concluded;
+    long = w.long;
+    tell = w.tell;
     found = w.found;
     pending = w.pending;
     content_is = w.content_is;

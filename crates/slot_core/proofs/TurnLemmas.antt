@@ -32,11 +32,12 @@ use Rattle.slot_core.specs.Settling.{Settled, SettledOn, numbers_at}
 use Rattle.slot_core.specs.Standing.{SlotStands}
 use Rattle.slot_core.specs.Stubs.{AuditHas, entry_of}
 use Rattle.slot_core.specs.Turning.{EntryMoves, TurnLeaves}
-use Rattle.slot_core.specs.Views.{SlotNumbers, last_of}
+use Rattle.slot_core.specs.Views.{SlotNumbers, last_of, quorum_of}
 use Rattle.slot_core.specs.declared.fault.SlotFault.{SlotFault}
 use Rattle.slot_core.specs.declared.fault.SlotFault.TheVariants.{Key as KeyFault}
 use Rattle.slot_core.specs.declared.peeking.Peeked.{Peeked}
 use Rattle.slot_core.specs.declared.stub.Stub.{Stub}
+use Rattle.slot_core.proofs.CalmingLemmas.{look_calms, none_calms}
 use Rattle.slot_core.proofs.CauseLemmas.{writes_have_memory}
 use Rattle.slot_core.proofs.LaneLemmas.{have_after_look}
 
@@ -67,6 +68,7 @@ module _ {D : Type 0} (tells : D → Bool) (files : D → Files) where
     late_steps = s.late_steps;
     carried = s.carried;
     rests = s.rests;
+    calm = s.calm;
     known = tell s.after s.now s.known;
     goes_on = s.goes_on;
   }
@@ -96,6 +98,7 @@ module _ {D : Type 0} (tells : D → Bool) (files : D → Files) where
         stands = s.stands;
         stay = s.stay;
         moves = subst (λ (e : Option Entry). EntryMoves numbers.index e Shows records state s.after s.now) (sym entry) (moves, shows s.after s.now s.known);
+        calm = look_calms (quorum_of numbers) (entry_of stub) (kept_entry ticket name late) records state s.after s.now entry tt s.calm;
         holds = λ disks hands rest same d. subst (λ (h : Hands). DataStands numbers.set numbers.index (last_of later) s.after s.now holding disks h) (sym same)
             (s.goes_on disks hands d);
       }
@@ -110,6 +113,7 @@ module _ {D : Type 0} (tells : D → Bool) (files : D → Files) where
     stands = s;
     stay = λ name k is_out. refl;
     moves = subst (λ (t : Option Stub). EntryMoves numbers.index (entry_of t) Shows records state records state) (sym none) (refl, refl);
+    calm = none_calms (quorum_of numbers) (entry_of stub) records state (ap entry_of none);
     holds = λ disks hands rest same d. subst (λ (h : Hands). DataStands numbers.set numbers.index (last_of later) records state holding disks h) (sym same)
         (numbers_are_drawn numbers.set numbers.index (last_of numbers) (last_of later) records state holding disks hands low d);
   }

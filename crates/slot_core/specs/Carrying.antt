@@ -33,11 +33,12 @@ use Rattle.slot_rules.specs.declared.plans.Plan.{Plan}
 use Rattle.slot_rules.specs.declared.site.Drawn.{Drawn}
 use Rattle.slot_rules.specs.declared.site.Site.{Site}
 use Rattle.slot_rules.specs.declared.telling.Tale.{Tale}
+use Rattle.slot_core.specs.Calming.{DeedCalms, SectionCalms}
 use Rattle.slot_core.specs.Committing.{GoneByAnswer}
 use Rattle.slot_core.specs.Looked.{CallsForward}
 use Rattle.slot_core.specs.Standing.{SlotStands}
 use Rattle.slot_core.specs.Turning.{EntryMoves}
-use Rattle.slot_core.specs.Views.{SlotNumbers, last_of}
+use Rattle.slot_core.specs.Views.{SlotNumbers, last_of, quorum_of}
 use Rattle.slot_core.specs.declared.carrying.Outcome.{Outcome}
 use Rattle.slot_core.specs.declared.carrying.Outcome.TheVariants.{Begun, Done, Kept, LacksMemory}
 use Rattle.slot_core.specs.declared.fault.SlotFault.{SlotFault}
@@ -118,6 +119,7 @@ module _ {D : Type 0} (tells : D → Bool) (files : D → Files) where
     pub deed_is : Deeds numbers.index name deed state middle
     pub own : OwnStep deed middle now
     pub rests : (p : Waiting) → IsOnItsWay after now p → IsOnItsWay records state p ⊎ IsRefusedIn deed p
+    pub calm : DeedCalms (quorum_of numbers) name deed records state after now
     pub shows : Shows state middle
     pub holds : (disks : Disks) (hands less : Hands) → Moves disks hands less
         → DataStands numbers.set numbers.index (last_of numbers) records state held disks hands
@@ -131,6 +133,7 @@ module _ {D : Type 0} (tells : D → Bool) (files : D → Files) where
     pub stands : SlotStands tells files later kept.flights lanes_new after now
     pub stay : (name : List ℕ) (k : ℕ) → IsBitSet numbers.set.out k → lane_at (after name) k ≡ lane_at (records name) k
     pub moves : EntryMoves numbers.index entry Shows records state after now
+    pub calm : SectionCalms (quorum_of numbers) entry records state after now
     pub holds : (disks : Disks) (hands less : Hands) → Moves disks hands less
         → DataStands numbers.set numbers.index (last_of numbers) records state held disks hands
         → DataStands numbers.set numbers.index (last_of later) after now kept disks less

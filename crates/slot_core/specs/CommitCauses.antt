@@ -1,5 +1,5 @@
 -- From which calls the answer of a commit comes, whatever the drives tell.
-use Rattle.std.specs.Prelude.{◌≡◌, ◌≢◌, ◌⊎◌, ◌<◌, ◌+◌, ℕ, Bool, List, Option, Some, None, Result, Ok, Err}
+use Rattle.std.specs.Prelude.{◌≡◌, ◌≢◌, ◌⊎◌, ◌<◌, ◌+◌, ℕ, Bool, List, Option, Some, None, Result, Ok, Err, length}
 use Rattle.audit_trail.specs.declared.entry.Deed.{Deed}
 use Rattle.audit_trail.specs.declared.entry.Deed.TheVariants.{Done, Kept as KeptDeed, Refused as RefusedDeed}
 use Rattle.audit_trail.specs.declared.entry.Entry.{Entry}
@@ -16,6 +16,7 @@ use Rattle.stamp_id.specs.declared.stamp.ChangeId.{ChangeId}
 use Rattle.stamp_id.specs.declared.version.VersionId.{VersionId}
 use Rattle.register_core.specs.Drafts.{IsDraftAfterDraft, IsDraftAfterLook}
 use Rattle.register_core.specs.Found.{content_of}
+use Rattle.register_core.specs.Loops.{TellsStay}
 use Rattle.register_core.specs.Records.{again_of}
 use Rattle.register_core.specs.declared.drafts.Draft.{Draft}
 use Rattle.register_core.specs.declared.faults.QuorumFault.{QuorumFault}
@@ -83,6 +84,8 @@ module _ {D : Type 0} (tells : D → Bool) (files : D → Files) (count : D → 
     pub looked : Looked
     pub mid : List D
     pub concluded : Concluded tells files count numbers name rule longest looked old mid disks disks_after
+    pub long : length mid ≡ length old
+    pub tell : TellsStay tells files count old mid
     pub settled : looked.pending ≡ None
     pub content_is : content ≡ content_of looked.base looked.pending
     pub draft : Draft
@@ -95,6 +98,8 @@ module _ {D : Type 0} (tells : D → Bool) (files : D → Files) (count : D → 
     pub looked : Looked
     pub mid : List D
     pub concluded : Concluded tells files count numbers name rule longest looked old mid disks disks_after
+    pub long : length mid ≡ length old
+    pub tell : TellsStay tells files count old mid
     pub found : Next
     pub pending : looked.pending ≡ Some found
     pub content_is : content ≡ content_of looked.base looked.pending

@@ -17,6 +17,7 @@ pub mod Peeking
 pub mod Pen
 pub mod Reading
 pub mod Settling
+pub mod Calming
 pub mod Carrying
 pub mod CarryingOut
 pub mod CommitCauses

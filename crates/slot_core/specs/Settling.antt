@@ -32,8 +32,9 @@ use Rattle.slot_rules.specs.Rules.{IsRegisterName}
 use Rattle.slot_rules.specs.declared.ready.Ready.{Ready}
 use Rattle.slot_rules.specs.declared.site.Drawn.{Drawn}
 use Rattle.slot_rules.specs.declared.site.Site.{Site}
+use Rattle.slot_core.specs.Calming.{IsCalmUnder, StaysUnder}
 use Rattle.slot_core.specs.Standing.{SlotStands}
-use Rattle.slot_core.specs.Views.{SlotNumbers, last_of}
+use Rattle.slot_core.specs.Views.{SlotNumbers, last_of, quorum_of}
 
 -- the numbers of a slot where a section is done, when so many were drawn
 abbrev pub numbers_at : Site → Drawn → SlotNumbers
@@ -53,7 +54,7 @@ pub record SettledOn (name : List ℕ) (base : Base) (content : List ℕ) (late 
 
 module _ {D : Type 0} (tells : D → Bool) (files : D → Files) where
   -- lanes that stood for a state go on to do so, perhaps after a late step, and of the state that they stand for then something is known. In the place of
-  -- a lane that is out the records are as they were
+  -- a lane that is out the records are as they were. Calm registers are left as they were
   pub record Settled (numbers later : SlotNumbers) (holding : Holding) (Known : Records → State → Type 0) (lanes_new : List D) (records : Records) (state : State) : Type 0 where
     pub after : Records
     pub now : State
@@ -63,6 +64,7 @@ module _ {D : Type 0} (tells : D → Bool) (files : D → Files) where
     pub late_steps : AreLate lates state now
     pub carried : (p : Waiting) → Contains lates p → IsOnItsWay records state p
     pub rests : OnlyTheOld records state after now
+    pub calm : (name : List ℕ) → IsCalmUnder (quorum_of numbers) records state name → StaysUnder records state after now name
     pub known : Known after now
     pub goes_on : (disks : Disks) (hands : Hands) → DataStands numbers.set numbers.index (last_of numbers) records state holding disks hands
         → DataStands numbers.set numbers.index (last_of later) after now holding disks hands

@@ -10,10 +10,11 @@ use Rattle.slot_history.specs.State.{State}
 use Rattle.slot_data.specs.Disks.{Disks}
 use Rattle.slot_data.specs.Holding.{Hands, Holding}
 use Rattle.slot_data.specs.Standing.{DataStands}
+use Rattle.slot_core.specs.Calming.{SectionCalms}
 use Rattle.slot_core.specs.Numbers.{AreSpent, NumbersMove}
 use Rattle.slot_core.specs.Standing.{SlotStands}
 use Rattle.slot_core.specs.Stubs.{AuditCounts, AuditHas, StubOfEntry, StubOfNone, entry_of}
-use Rattle.slot_core.specs.Views.{SlotNumbers, last_of}
+use Rattle.slot_core.specs.Views.{SlotNumbers, last_of, quorum_of}
 use Rattle.slot_core.specs.declared.fault.SlotFault.{SlotFault}
 use Rattle.slot_core.specs.declared.fault.SlotFault.TheVariants.{SeqSpent}
 use Rattle.slot_core.specs.declared.stub.Stub.{Stub}
@@ -65,6 +66,7 @@ module _ {D : Type 0} (tells : D → Bool) (files : D → Files) where
     pub stands : SlotStands tells files numbers_new held_new.flights lanes_new after now
     pub stay : (name : List ℕ) (k : ℕ) → IsBitSet numbers_old.set.out k → lane_at (after name) k ≡ lane_at (records name) k
     pub moves : EntryMoves numbers_old.index (entry_of stub) Shows records state after now
+    pub calm : SectionCalms (quorum_of numbers_old) (entry_of stub) records state after now
     pub holds : (disks : Disks) (hands later : Hands) → Moves disks hands later
         → DataStands numbers_old.set numbers_old.index (last_of numbers_old) records state held_old disks hands
         → DataStands numbers_old.set numbers_old.index (last_of numbers_new) after now held_new disks later

@@ -3,7 +3,6 @@
 ghost use Rattle.std.specs.Prelude.{◌≡◌, ⊤, ◌+◌, ◌<◌, ◌≤◌, ◌^◌, ◌++◌, Err, IfOk, List, None, OnOk, Some, length, string_bytes, vec_capacity, vec_len};
 ghost use Rattle.stamp_id.specs.declared.version.VersionId.{VersionId};
 ghost use Rattle.register_core.specs.Loops.{CountsRise, TellsStay};
-ghost use Rattle.register_caller.specs.Steps.{FilesStay};
 ghost use Rattle.version_list.specs.State.{IsMoment};
 ghost use Rattle.slot_history.specs.Standing.{Flying};
 ghost use Rattle.slot_data.specs.Holding.{Holding};
@@ -21,6 +20,7 @@ ghost use Rattle.slot_core.specs.Turning.{Leaves, Turns};
 ghost use Rattle.slot_core.specs.Views.{audit_of, holding_of, lanes_of, numbers_of};
 ghost use Rattle.slot_core.specs.declared.fault.SlotFault.TheVariants.{NotInFlight};
 ghost use Rattle.slot_core.specs.declared.landing.Landing.TheVariants.{Missing};
+ghost use Rattle.drive_base.specs.View.{AllOnlyRead, views};
 ghost use Rattle.drive_base.specs.declared.drive.TheConstants.{LONGEST_NAME};
 
 use crate::committing::commit_register;
@@ -76,9 +76,7 @@ impl<D: Drive, A: Audit> Slot<D, A> {
             (deed_in (entry_of result.stub)) (lanes_of self.old) (lanes_of self.new) disks.old disks.new }
         ensures tells { TellsStay D.tells D.files D.count (lanes_of self.old) (lanes_of self.new) }
         ensures counts { CountsRise D.tells D.files D.count (lanes_of self.old) (lanes_of self.new) }
-        ensures disk_files { FilesStay D.tells D.files D.count disks.old disks.new }
-        ensures disk_tells { TellsStay D.tells D.files D.count disks.old disks.new }
-        ensures disk_counts { CountsRise D.tells D.files D.count disks.old disks.new }
+        ensures disks_read { AllOnlyRead (views D.Drive disks.old) (views D.Drive disks.new) }
     {
         // The laws for the proof, that lanes and data go on to stand where a put ends. The calls do nothing.
         resting_laws();
@@ -214,9 +212,7 @@ fn commit_landed<D: Drive, A: Audit>(
     ensures room_stays { vec_len trash.new + spare ≤ vec_capacity trash.new }
     ensures tells { TellsStay D.tells D.files D.count lanes.old lanes.new }
     ensures counts { CountsRise D.tells D.files D.count lanes.old lanes.new }
-    ensures disk_files { FilesStay D.tells D.files D.count disks.old disks.new }
-    ensures disk_tells { TellsStay D.tells D.files D.count disks.old disks.new }
-    ensures disk_counts { CountsRise D.tells D.files D.count disks.old disks.new }
+    ensures disks_read { AllOnlyRead (views D.Drive disks.old) (views D.Drive disks.new) }
     ensures rises { drawn.old.count ≤ drawn.new.count }
     ensures few { drawn.new.count ≤ drawn.old.count + 64 }
     ensures seq_rises { drawn.old.seq ≤ drawn.new.seq }
@@ -285,9 +281,7 @@ fn commit_with<D: Drive, A: Audit>(
     ensures room_stays { vec_len trash.new + spare ≤ vec_capacity trash.new }
     ensures tells { TellsStay D.tells D.files D.count lanes.old lanes.new }
     ensures counts { CountsRise D.tells D.files D.count lanes.old lanes.new }
-    ensures disk_files { FilesStay D.tells D.files D.count disks.old disks.new }
-    ensures disk_tells { TellsStay D.tells D.files D.count disks.old disks.new }
-    ensures disk_counts { CountsRise D.tells D.files D.count disks.old disks.new }
+    ensures disks_read { AllOnlyRead (views D.Drive disks.old) (views D.Drive disks.new) }
     ensures rises { drawn.old.count ≤ drawn.new.count }
     ensures few { drawn.new.count ≤ drawn.old.count + 64 }
     ensures seq_rises { drawn.old.seq ≤ drawn.new.seq }
@@ -357,9 +351,7 @@ fn commit_missing<D: Drive, A: Audit>(
     ensures room_stays { vec_len trash.new + spare ≤ vec_capacity trash.new }
     ensures tells { TellsStay D.tells D.files D.count lanes.old lanes.new }
     ensures counts { CountsRise D.tells D.files D.count lanes.old lanes.new }
-    ensures disk_files { FilesStay D.tells D.files D.count disks.old disks.new }
-    ensures disk_tells { TellsStay D.tells D.files D.count disks.old disks.new }
-    ensures disk_counts { CountsRise D.tells D.files D.count disks.old disks.new }
+    ensures disks_read { AllOnlyRead (views D.Drive disks.old) (views D.Drive disks.new) }
     ensures rises { drawn.old.count ≤ drawn.new.count }
     ensures few { drawn.new.count ≤ drawn.old.count + 64 }
     ensures seq_rises { drawn.old.seq ≤ drawn.new.seq }

@@ -6,7 +6,6 @@ ghost use Rattle.bucket_book.specs.Step.{IsLawful as IsLawfulBucketAct};
 ghost use Rattle.call_types.specs.declared.names.Key.{Key};
 ghost use Rattle.register_core.specs.Found.{content_of};
 ghost use Rattle.register_core.specs.Loops.{CountsRise, TellsStay};
-ghost use Rattle.register_caller.specs.Steps.{FilesStay};
 ghost use Rattle.version_list.specs.Lawful.{IsLawful};
 ghost use Rattle.version_list.specs.NamesId.{names_id};
 ghost use Rattle.version_list.specs.State.{IsCanonical, IsMoment};
@@ -21,6 +20,7 @@ ghost use Rattle.slot_core.specs.CommitCauses.{CommitCause};
 ghost use Rattle.slot_core.specs.Committing.{GoneByAnswer};
 ghost use Rattle.slot_core.specs.Finishing.{CommitLeaves, FinishCalls, FinishLeaves, IsKeptBy, ReadyFits};
 ghost use Rattle.slot_core.specs.Settling.{numbers_at};
+ghost use Rattle.drive_base.specs.View.{AllOnlyRead, views};
 ghost use Rattle.drive_base.specs.declared.drive.TheConstants.{LONGEST_NAME};
 
 use crate::carrying::{Outcome, carry_out};
@@ -167,9 +167,7 @@ fn commit_key<D: Drive>(
     ensures room_stays { vec_len trash.new + spare ≤ vec_capacity trash.new }
     ensures tells { TellsStay D.tells D.files D.count lanes.old lanes.new }
     ensures counts_rise { CountsRise D.tells D.files D.count lanes.old lanes.new }
-    ensures disk_files { FilesStay D.tells D.files D.count disks.old disks.new }
-    ensures disk_tells { TellsStay D.tells D.files D.count disks.old disks.new }
-    ensures disk_counts { CountsRise D.tells D.files D.count disks.old disks.new }
+    ensures disks_read { AllOnlyRead (views D.Drive disks.old) (views D.Drive disks.new) }
     ensures rises { drawn.old.count ≤ drawn.new.count }
     ensures few { drawn.new.count ≤ drawn.old.count + 64 }
     ensures seq_rises { drawn.old.seq ≤ drawn.new.seq }
@@ -260,9 +258,7 @@ fn commit_bucket<D: Drive>(
     ensures room_stays { vec_len trash.new + spare ≤ vec_capacity trash.new }
     ensures tells { TellsStay D.tells D.files D.count lanes.old lanes.new }
     ensures counts_rise { CountsRise D.tells D.files D.count lanes.old lanes.new }
-    ensures disk_files { FilesStay D.tells D.files D.count disks.old disks.new }
-    ensures disk_tells { TellsStay D.tells D.files D.count disks.old disks.new }
-    ensures disk_counts { CountsRise D.tells D.files D.count disks.old disks.new }
+    ensures disks_read { AllOnlyRead (views D.Drive disks.old) (views D.Drive disks.new) }
     ensures rises { drawn.old.count ≤ drawn.new.count }
     ensures few { drawn.new.count ≤ drawn.old.count + 64 }
     ensures seq_rises { drawn.old.seq ≤ drawn.new.seq }
@@ -326,9 +322,7 @@ pub(crate) fn commit_register<D: Drive>(
     ensures room_stays { vec_len trash.new + spare ≤ vec_capacity trash.new }
     ensures tells { TellsStay D.tells D.files D.count lanes.old lanes.new }
     ensures counts_rise { CountsRise D.tells D.files D.count lanes.old lanes.new }
-    ensures disk_files { FilesStay D.tells D.files D.count disks.old disks.new }
-    ensures disk_tells { TellsStay D.tells D.files D.count disks.old disks.new }
-    ensures disk_counts { CountsRise D.tells D.files D.count disks.old disks.new }
+    ensures disks_read { AllOnlyRead (views D.Drive disks.old) (views D.Drive disks.new) }
     ensures rises { drawn.old.count ≤ drawn.new.count }
     ensures few { drawn.new.count ≤ drawn.old.count + 64 }
     ensures seq_rises { drawn.old.seq ≤ drawn.new.seq }

@@ -18,6 +18,7 @@ ghost use Rattle.slot_core.specs.Settling.{numbers_at};
 ghost use Rattle.slot_core.specs.Standing.{SlotStands};
 ghost use Rattle.slot_core.specs.Stubs.{Says, completed_by};
 ghost use Rattle.slot_core.specs.Turning.{Leaves};
+ghost use Rattle.drive_base.specs.View.{AllOnlyRead, views};
 ghost use Rattle.drive_base.specs.declared.drive.TheConstants.{LONGEST_NAME};
 
 use crate::fault::SlotFault;
@@ -70,11 +71,9 @@ fn look_and_plan<D: Drive>(
     ensures looks { LooksForRead D.tells D.files D.count site.now drawn.now name.now at.now mode pick.now result lanes.old lanes.new disks.old disks.new }
     ensures fits { IfOk result (λ planned. FirstFits site.now.set planned.ready.first) }
     ensures files { FilesStay D.tells D.files D.count lanes.old lanes.new }
-    ensures disk_files { FilesStay D.tells D.files D.count disks.old disks.new }
     ensures tells { TellsStay D.tells D.files D.count lanes.old lanes.new }
-    ensures disk_tells { TellsStay D.tells D.files D.count disks.old disks.new }
     ensures counts { CountsRise D.tells D.files D.count lanes.old lanes.new }
-    ensures disk_counts { CountsRise D.tells D.files D.count disks.old disks.new }
+    ensures disks_read { AllOnlyRead (views D.Drive disks.old) (views D.Drive disks.new) }
 {
     let mut rule = KeyRule {
         first: None,
@@ -132,9 +131,7 @@ fn read_register<D: Drive>(
         lanes.old lanes.new disks.old disks.new }
     ensures tells { TellsStay D.tells D.files D.count lanes.old lanes.new }
     ensures counts { CountsRise D.tells D.files D.count lanes.old lanes.new }
-    ensures disk_files { FilesStay D.tells D.files D.count disks.old disks.new }
-    ensures disk_tells { TellsStay D.tells D.files D.count disks.old disks.new }
-    ensures disk_counts { CountsRise D.tells D.files D.count disks.old disks.new }
+    ensures disks_read { AllOnlyRead (views D.Drive disks.old) (views D.Drive disks.new) }
     ensures rises { drawn.old.count ≤ drawn.new.count }
     ensures few { drawn.new.count ≤ drawn.old.count + 32 }
     ensures seq_rises { drawn.old.seq ≤ drawn.new.seq }
@@ -265,9 +262,7 @@ pub(crate) fn read_at<D: Drive, A: Audit>(
         lanes.old lanes.new disks.old disks.new }
     ensures tells { TellsStay D.tells D.files D.count lanes.old lanes.new }
     ensures counts { CountsRise D.tells D.files D.count lanes.old lanes.new }
-    ensures disk_files { FilesStay D.tells D.files D.count disks.old disks.new }
-    ensures disk_tells { TellsStay D.tells D.files D.count disks.old disks.new }
-    ensures disk_counts { CountsRise D.tells D.files D.count disks.old disks.new }
+    ensures disks_read { AllOnlyRead (views D.Drive disks.old) (views D.Drive disks.new) }
     ensures rises { drawn.old.count ≤ drawn.new.count }
     ensures few { drawn.new.count ≤ drawn.old.count + 32 }
     ensures seq_rises { drawn.old.seq ≤ drawn.new.seq }

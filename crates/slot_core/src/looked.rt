@@ -6,6 +6,7 @@ ghost use Rattle.register_core.specs.Looking.{HasRead};
 ghost use Rattle.register_caller.specs.Steps.{FilesStay};
 ghost use Rattle.slot_core.specs.Looked.{CallsForward, FirstFits, GoesOnReading, LooksAt, late_of};
 ghost use Rattle.slot_core.specs.Settling.{SettlesAfter};
+ghost use Rattle.drive_base.specs.View.{AllOnlyRead, views};
 ghost use Rattle.drive_base.specs.declared.drive.TheConstants.{LONGEST_NAME};
 
 use drive_base::Drive;
@@ -38,11 +39,9 @@ pub(crate) fn look_at<D: Drive, R: ContentRule>(
     ensures rule { R.fault_in rule.new ≡ R.fault_in rule.old }
     ensures most { R.most_bytes rule.new ≡ R.most_bytes rule.old }
     ensures files { FilesStay D.tells D.files D.count lanes.old lanes.new }
-    ensures disk_files { FilesStay D.tells D.files D.count disks.old disks.new }
     ensures tells { TellsStay D.tells D.files D.count lanes.old lanes.new }
-    ensures disk_tells { TellsStay D.tells D.files D.count disks.old disks.new }
     ensures counts { CountsRise D.tells D.files D.count lanes.old lanes.new }
-    ensures disk_counts { CountsRise D.tells D.files D.count disks.old disks.new }
+    ensures disks_read { AllOnlyRead (views D.Drive disks.old) (views D.Drive disks.new) }
 {
     let looked = match look(alloc, lanes, disks, site.set.out, site.set, name, rule) {
         Ok(looked) => looked,

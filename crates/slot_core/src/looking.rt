@@ -2,7 +2,6 @@
 
 ghost use Rattle.std.specs.Prelude.{◌≡◌, ◌+◌, ◌<◌, ◌≤◌, ◌^◌, IsUtf8, length};
 ghost use Rattle.register_core.specs.Loops.{CountsRise, TellsStay};
-ghost use Rattle.register_caller.specs.Steps.{FilesStay};
 ghost use Rattle.slot_history.specs.Names.{key_name};
 ghost use Rattle.slot_rules.specs.Rules.{IsRegisterName};
 ghost use Rattle.slot_core.specs.Causes.{PeekCause};
@@ -12,6 +11,7 @@ ghost use Rattle.slot_core.specs.Sections.{ReadHolds, SaysKept, SaysRead, ShowsC
 ghost use Rattle.slot_core.specs.Stubs.{Says, completed_by};
 ghost use Rattle.slot_core.specs.Turning.{Leaves, Turns};
 ghost use Rattle.slot_core.specs.Views.{audit_of, holding_of, lanes_of, numbers_of};
+ghost use Rattle.drive_base.specs.View.{AllOnlyRead, views};
 ghost use Rattle.drive_base.specs.declared.drive.TheConstants.{LONGEST_NAME};
 
 use crate::finding::read_at;
@@ -44,9 +44,7 @@ impl<D: Drive, A: Audit> Slot<D, A> {
             (lanes_of self.old) (lanes_of self.new) disks.old disks.new }
         ensures tells { TellsStay D.tells D.files D.count (lanes_of self.old) (lanes_of self.new) }
         ensures counts { CountsRise D.tells D.files D.count (lanes_of self.old) (lanes_of self.new) }
-        ensures disk_files { FilesStay D.tells D.files D.count disks.old disks.new }
-        ensures disk_tells { TellsStay D.tells D.files D.count disks.old disks.new }
-        ensures disk_counts { CountsRise D.tells D.files D.count disks.old disks.new }
+        ensures disks_read { AllOnlyRead (views D.Drive disks.old) (views D.Drive disks.new) }
     {
         let site = Site {
             set: self.set,
@@ -101,9 +99,7 @@ impl<D: Drive, A: Audit> Slot<D, A> {
             (lanes_of self.old) (lanes_of self.new) disks.old disks.new }
         ensures tells { TellsStay D.tells D.files D.count (lanes_of self.old) (lanes_of self.new) }
         ensures counts { CountsRise D.tells D.files D.count (lanes_of self.old) (lanes_of self.new) }
-        ensures disk_files { FilesStay D.tells D.files D.count disks.old disks.new }
-        ensures disk_tells { TellsStay D.tells D.files D.count disks.old disks.new }
-        ensures disk_counts { CountsRise D.tells D.files D.count disks.old disks.new }
+        ensures disks_read { AllOnlyRead (views D.Drive disks.old) (views D.Drive disks.new) }
     {
         let site = Site {
             set: self.set,

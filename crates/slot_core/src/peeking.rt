@@ -3,7 +3,6 @@
 ghost use Rattle.std.specs.Prelude.{◌≡◌, ◌+◌, ◌*◌, ◌<◌, ◌≤◌, ◌^◌, IfOk, length};
 ghost use Rattle.register_core.specs.Found.{content_of};
 ghost use Rattle.register_core.specs.Loops.{CountsRise, TellsStay};
-ghost use Rattle.register_caller.specs.Steps.{FilesStay};
 ghost use Rattle.slot_data.specs.Holding.{Holding};
 ghost use Rattle.slot_history.specs.Standing.{Records};
 ghost use Rattle.slot_history.specs.State.{State};
@@ -16,6 +15,7 @@ ghost use Rattle.slot_core.specs.Settling.{numbers_at};
 ghost use Rattle.slot_core.specs.Standing.{SlotStands};
 ghost use Rattle.slot_core.specs.Stubs.{Says, completed_by};
 ghost use Rattle.slot_core.specs.Turning.{Leaves};
+ghost use Rattle.drive_base.specs.View.{AllOnlyRead, views};
 ghost use Rattle.drive_base.specs.declared.drive.TheConstants.{LONGEST_NAME};
 
 use crate::fault::SlotFault;
@@ -102,9 +102,7 @@ fn peek_register<D: Drive>(
         lanes.old lanes.new disks.old disks.new }
     ensures tells { TellsStay D.tells D.files D.count lanes.old lanes.new }
     ensures counts { CountsRise D.tells D.files D.count lanes.old lanes.new }
-    ensures disk_files { FilesStay D.tells D.files D.count disks.old disks.new }
-    ensures disk_tells { TellsStay D.tells D.files D.count disks.old disks.new }
-    ensures disk_counts { CountsRise D.tells D.files D.count disks.old disks.new }
+    ensures disks_read { AllOnlyRead (views D.Drive disks.old) (views D.Drive disks.new) }
     ensures rises { drawn.old.count ≤ drawn.new.count }
     ensures few { drawn.new.count ≤ drawn.old.count + 32 }
     ensures seq_rises { drawn.old.seq ≤ drawn.new.seq }
@@ -159,9 +157,7 @@ pub(crate) fn peek_at<D: Drive, A: Audit>(
         lanes.old lanes.new disks.old disks.new }
     ensures tells { TellsStay D.tells D.files D.count lanes.old lanes.new }
     ensures counts { CountsRise D.tells D.files D.count lanes.old lanes.new }
-    ensures disk_files { FilesStay D.tells D.files D.count disks.old disks.new }
-    ensures disk_tells { TellsStay D.tells D.files D.count disks.old disks.new }
-    ensures disk_counts { CountsRise D.tells D.files D.count disks.old disks.new }
+    ensures disks_read { AllOnlyRead (views D.Drive disks.old) (views D.Drive disks.new) }
     ensures rises { drawn.old.count ≤ drawn.new.count }
     ensures few { drawn.new.count ≤ drawn.old.count + 32 }
     ensures seq_rises { drawn.old.seq ≤ drawn.new.seq }

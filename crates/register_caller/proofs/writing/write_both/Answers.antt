@@ -9,6 +9,7 @@ use Rattle.register_core.specs.declared.drafts.Draft.{Draft}
 use Rattle.register_core.specs.Proposing.{quorum_of}
 use Rattle.call_types.specs.declared.why.Whys.{Whys}
 use Rattle.register_core.specs.declared.faults.QuorumFault.{QuorumFault}
+use Rattle.register_caller.proofs.KeptLemmas.{mark_keeps}
 use Rattle.register_caller.proofs.LeavingLemmas.{leaves_both, leaves_refused}
 use Rattle.register_caller.proofs.LiveLemmas.{fresh_after_mark, fresh_after_prepare, live_after_both, live_refused}
 use Rattle.register_caller.proofs.CallingLemmas.{mark_few, propose_few, tell_after}
@@ -96,16 +97,38 @@ returns g c = record {
         };
       };
   value = ap (λ (d : Draft). d.value) c.mark.ensures.draft;
-  calls = both_taken g.D.Drive.tells g.D.Drive.files g.D.Drive.count c.args.draft.now c.args.out c.args.term c.args.count.now c.mark.new.count c.mark.result
-      c.args.lanes.now c.mark.new.lanes
+  calls = (let D : Type 0 = g.row.D.Denot in
+      let tells = g.D.Drive.tells in
+      let files = g.D.Drive.files in
+      let out = c.args.out in
+      let took = c.in-Ok.prepared in
+      let old : List D = c.args.lanes.now in
+      let mid : List D = c.propose.new.lanes in
+      let new : List D = c.mark.new.lanes in
+      let same : took.out ≡ out = c.in-Ok.ensures.outcome.0 in
+      let tell_mid = λ (told : AllTell tells out old). tell_after tells files out old mid (omega (arith, c.propose.auto.lanes)) c.in-Ok.ensures.tells told in
+      let told_took = λ (told : AllTell tells out old). subst (λ (o : ℕ). AllTell tells o mid) (sym same) (tell_mid told) in
+      let unused_took = λ (told : AllTell tells out old) (unused : AreUnused files out c.args.term c.args.count.now old).
+      subst (λ (o : ℕ). AreUnused files o c.args.term c.propose.new.count mid) (sym same) (c.in-Ok.ensures.drives told unused).unused in
+      both_taken tells files g.D.Drive.count c.args.draft.now out c.args.term c.args.count.now c.mark.new.count c.mark.result old new
       (record {
-        took = c.in-Ok.prepared;
+        took = took;
         middle = c.propose.new.count;
-        mid = c.propose.new.lanes;
+        mid = mid;
         later = c.mark.new.draft;
         proposes = c.in-Ok.ensures.outcome;
         marks = c.mark.ensures.outcome;
-      });
+        long = c.requires.drives;
+        tell_mid = c.in-Ok.ensures.tells;
+        tell_new = c.mark.ensures.tells;
+        unused = λ told unused. subst (λ (o : ℕ). AreUnused files o c.args.term c.mark.new.count new) same
+            (c.mark.ensures.drives (told_took told) (unused_took told unused)).unused;
+        keep = λ told unused. mark_keeps tells files g.D.Drive.count c.args.draft.now took c.args.term c.propose.new.count c.mark.new.count c.mark.result c.mark.new.draft mid new
+            (let few = mark_few tells files g.D.Drive.count c.args.draft.now took c.args.term c.propose.new.count c.mark.new.count c.mark.result c.mark.new.draft mid new
+            c.mark.ensures.outcome in let first = propose_few tells files g.D.Drive.count c.args.draft.now out c.args.term c.args.count.now c.propose.new.count (Ok took) old mid
+            c.in-Ok.ensures.outcome in let long = c.requires.drives in let same = c.propose.auto.lanes in omega arith)
+            (told_took told) (unused_took told unused) c.mark.ensures.outcome;
+      }));
   enough = λ serving serve many.
       let D : Type 0 = g.row.D.Denot in
       let tells = g.D.Drive.tells in

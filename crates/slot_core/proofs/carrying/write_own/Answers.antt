@@ -13,7 +13,7 @@ use Rattle.slot_rules.specs.declared.site.Drawn.{Drawn}
 use Rattle.slot_core.specs.Settling.{numbers_at}
 use Rattle.slot_core.proofs.CarryLemmas.{begun_leaves, done_leaves, entry_leaves}
 use Rattle.slot_core.proofs.LaneLemmas.{have_after_write}
-use Rattle.slot_core.proofs.OwnWriteLemmas.{OwnLaws, own_begun, own_done}
+use Rattle.slot_core.proofs.OwnWriteLemmas.{OwnLaws, own_begun, own_calm, own_done}
 use Rattle.slot_core.proofs.WritingLemmas.{IsWriting, Writing, owned, owned_may}
 use Rattle.slot_core.proofs.carrying.write_own.Goals as goal
 
@@ -77,8 +77,9 @@ returns-in-Ok-clause-leaves g c deed put now last base content next holding rest
     (records called) wrote.after =
     subst (λ (p : SetPlan). BothLeave {T = Whys} {E = QuorumFault} (write_drives p.drives p.parity) c.args.own.draft.letters (base_of base) (next_of next) (Ok c.in-Ok.field-0)
     (records called) wrote.after) c.requires.fits.set_is wrote.leaves in
+    let made = own_done {T = Whys} {E = QuorumFault} laws (owned w iw) (owned_may w iw) c.in-Ok.field-0 both in
     done_leaves {D = T} D.tells D.files c.own_data_laws.ensures.gone w iw c.args.trash.now.items c.add_gone.new.trash.items new c.requires.served was c.add_gone.ensures.items have
-    (own_done {T = Whys} {E = QuorumFault} laws (owned w iw) (owned_may w iw) c.in-Ok.field-0 both)
+    made (own_calm {T = Whys} {E = QuorumFault} laws (owned w iw) (owned_may w iw) c.in-Ok.field-0 both made.is_new)
 
 pub returns-clause-leaves : goal.returns-clause-leaves
 returns-clause-leaves g c deed put now last base content next holding rest records state low told is gone s known lands fits was =

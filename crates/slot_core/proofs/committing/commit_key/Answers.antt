@@ -121,7 +121,8 @@ returns-clause-cause g c =
     let site = c.args.site.now in
     let deed = c.args.deed.now in
     finish_cause {D = T} D.tells D.files D.count site drawn c.finish.new.drawn c.in-Ok.ready deed c.args.put c.args.now rule KEY_BYTES c.args.lanes.now
-    c.look_at.new.lanes c.finish.new.lanes c.args.disks.now c.look_at.new.disks (key_rule site drawn deed c.requires.deed.0 c.args.mode c.args.act.now c.args.put c.own_ids-ids.result c.requires.deed.1 c.own_ids-ids.ensures.alone c.own_ids-ids.ensures.after) ready c.in-Ok.ensures.files c.finish.result c.finish.ensures.calls
+    c.look_at.new.lanes c.finish.new.lanes c.args.disks.now c.look_at.new.disks (key_rule site drawn deed c.requires.deed.0 c.args.mode c.args.act.now c.args.put c.own_ids-ids.result c.requires.deed.1 c.own_ids-ids.ensures.alone c.own_ids-ids.ensures.after) ready c.in-Ok.ensures.files
+    (omega (arith, c.look_at.auto.lanes)) c.in-Ok.ensures.tells c.finish.result c.finish.ensures.calls
 
 pub returns-clause-tells : goal.returns-clause-tells
 returns-clause-tells g c =
