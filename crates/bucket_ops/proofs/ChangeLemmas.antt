@@ -29,7 +29,8 @@ use Rattle.slot_core.specs.Views.{SlotNumbers}
 use Rattle.slot_core.specs.declared.fault.SlotFault.{SlotFault}
 use Rattle.slot_core.specs.declared.fault.SlotFault.TheVariants.{AuditFailed, Key, NoMemory, NotInFlight, Quorum, SeqSpent}
 use Rattle.slot_core.specs.declared.stub.Stub.{Stub}
-use Rattle.receipts.specs.Bucketing.{BucketActOwes, ChangesBucket, RefusesBucket}
+use Rattle.receipts.specs.Bucketing.{BucketActOwes, bucket_target}
+use Rattle.receipts.specs.Committing.{MakesChange, RefusesChange}
 use Rattle.receipts.specs.Events.{Log, sections_of}
 use Rattle.receipts.specs.Events.Event.{Turned}
 use Rattle.receipts.specs.Events.Shown.{NoneShown}
@@ -40,7 +41,7 @@ use Rattle.op_steps.specs.Notes.{note_of, noted, refusal_by}
 use Rattle.bucket_ops.specs.Changes.{AfterCommit}
 use Rattle.bucket_ops.specs.declared.change_state.ChangeState.{ChangeState}
 use Rattle.bucket_ops.specs.declared.change_state.ChangeState.TheVariants.{Committing, Over, Reading, Telling}
-use Rattle.bucket_ops.proofs.DueLemmas.{found_due, wrote_due}
+use Rattle.bucket_ops.proofs.DueLemmas.{act_due, found_due, wrote_due}
 
 -- the reply that a call is about to tell, and whether it is over
 abbrev reply_in : ChangeState → Reply
@@ -97,10 +98,10 @@ one_section before k stub made none some =
     subst (λ s. sections_of (with_turn before k s) ≡ record { note = note_of made; shown = NoneShown } ∷ []) (sym some)
     (sections_join before (Turned k (Some (note_of made)) NoneShown ∷ []) ∙ ap (λ l. l ++ record { note = note_of made; shown = NoneShown } ∷ []) none)
 
-ends_so : (bucket : List ℕ) (done : BucketAct) (call : Option ChangeId → Brief) (now : ℕ) (reply : Reply) (before : Log) (k : ℕ) (stub : Option Stub) (made : Stub)
-    → sections_of before ≡ [] → stub ≡ Some made → ChangesBucket bucket done call now (note_of made) reply ⊎ RefusesBucket bucket call (note_of made) reply
-    → BucketActOwes bucket done call now reply (with_turn before k stub)
-ends_so bucket done call now reply before k stub made none some ends = inl (record {
+ends_so : (bucket : List ℕ) (call : Option ChangeId → Brief) (reply : Reply) (before : Log) (k : ℕ) (stub : Option Stub) (made : Stub) → sections_of before ≡ []
+    → stub ≡ Some made → MakesChange (bucket_target bucket call) (note_of made) reply ⊎ RefusesChange (bucket_target bucket call) (note_of made) reply
+    → BucketActOwes bucket call reply (with_turn before k stub)
+ends_so bucket call reply before k stub made none some ends = inl (record {
   own = record { note = note_of made; shown = NoneShown };
   sections = one_section before k stub made none some;
   ends = ends;
@@ -125,31 +126,37 @@ module _ {D : Type 0} (tells : D → Bool) (files : D → Files) (count : D → 
   -- the reply of an entry that says what was done
   found_owes : (answer : Result Committed SlotFault) (fault : Option SlotFault) (reply : Reply) → Commits numbers bucket deed now answer stub → Writes numbers fault stub
       → FoundSo tells files count numbers later deed None now reply (deed_in (entry_of stub)) old new disks disks_after
-      → BucketActOwes bucket done call now reply (with_turn before numbers.index stub)
-  found_owes answer fault reply x w found = ends_so bucket done call now reply before numbers.index stub w.0 none w.1 (inl (record {
+      → BucketActOwes bucket call reply (with_turn before numbers.index stub)
+  found_owes answer fault reply x w found = ends_so bucket call reply before numbers.index stub w.0 none w.1 (inl (record {
     change = None;
+    call = call None;
+    is_call = refl;
     entry = has_entry numbers bucket deed now answer stub w.0 w.2.0 fault (Done (call None) (Answer reply)) x w.1 w.2.1 w.2.2
         (sym (entered_is numbers stub w.0 w.2.0 fault w.1 w.2.2) ∙ found.deed_is);
-    due = found_due {D = D} tells files count one numbers later deed done None now reply (deed_in (entry_of stub)) old new disks disks_after kind found;
+    due = act_due deed done None now reply kind
+        (found_due {D = D} tells files count one numbers later deed done None now reply (deed_in (entry_of stub)) old new disks disks_after kind found);
   }))
 
   wrote_owes : (answer : Result Committed SlotFault) (fault : Option SlotFault) (reply : Reply) (result : Result (List Why) QuorumFault)
       → Commits numbers bucket deed now answer stub → Writes numbers fault stub
       → (x : WroteSo tells files count numbers later deed None now reply result (deed_in (entry_of stub)) old new disks disks_after)
       → own_deed deed now x.own.change reply result ≡ Done (call (Some x.own.change)) (Answer reply)
-      → BucketActOwes bucket done call now reply (with_turn before numbers.index stub)
-  wrote_owes answer fault reply result x w wrote is = ends_so bucket done call now reply before numbers.index stub w.0 none w.1 (inl (record {
+      → BucketActOwes bucket call reply (with_turn before numbers.index stub)
+  wrote_owes answer fault reply result x w wrote is = ends_so bucket call reply before numbers.index stub w.0 none w.1 (inl (record {
     change = Some wrote.own.change;
+    call = call (Some wrote.own.change);
+    is_call = refl;
     entry = has_entry numbers bucket deed now answer stub w.0 w.2.0 fault (Done (call (Some wrote.own.change)) (Answer reply)) x w.1 w.2.1 w.2.2
         (sym (entered_is numbers stub w.0 w.2.0 fault w.1 w.2.2) ∙ (wrote.deed_is ∙ is));
-    due = wrote_due {D = D} tells files count numbers later deed done None now reply result (deed_in (entry_of stub)) old new disks disks_after kind wrote;
+    due = act_due deed done (Some wrote.own.change) now reply kind
+        (wrote_due {D = D} tells files count numbers later deed done None now reply result (deed_in (entry_of stub)) old new disks disks_after kind wrote);
   }))
 
   -- a refusal after which nothing was done, or a change was begun
   idle_owes : (answer : Result Committed SlotFault) (fault : SlotFault) (why : Refusal) → Commits numbers bucket deed now answer stub → Writes numbers (Some fault) stub
       → refusal_by fault ≡ Some why → IsOfSection why → deed_in (entry_of stub) ≡ Kept
-      → BucketActOwes bucket done call now (told.Refused why) (with_turn before numbers.index stub)
-  idle_owes answer fault why x w by of kept = ends_so bucket done call now (told.Refused why) before numbers.index stub w.0 none w.1 (inr (record {
+      → BucketActOwes bucket call (told.Refused why) (with_turn before numbers.index stub)
+  idle_owes answer fault why x w by of kept = ends_so bucket call (told.Refused why) before numbers.index stub w.0 none w.1 (inr (record {
     refuses = refusal_told numbers bucket (Some w.2.0) fault w.0 why x.index w.2.2 by of;
     deed = inl (inr (has_entry numbers bucket deed now answer stub w.0 w.2.0 (Some fault) Kept x w.1 w.2.1 w.2.2
         (sym (entered_is numbers stub w.0 w.2.0 (Some fault) w.1 w.2.2) ∙ kept)));
@@ -157,19 +164,21 @@ module _ {D : Type 0} (tells : D → Bool) (files : D → Files) (count : D → 
 
   begun_owes : (answer : Result Committed SlotFault) (fault : SlotFault) (why : Refusal) (change : ChangeId) → Commits numbers bucket deed now answer stub
       → Writes numbers (Some fault) stub → refusal_by fault ≡ Some why → IsOfSection why → deed_in (entry_of stub) ≡ RefusedDeed change (call (Some change))
-      → BucketActOwes bucket done call now (told.Refused why) (with_turn before numbers.index stub)
-  begun_owes answer fault why change x w by of begun = ends_so bucket done call now (told.Refused why) before numbers.index stub w.0 none w.1 (inr (record {
+      → BucketActOwes bucket call (told.Refused why) (with_turn before numbers.index stub)
+  begun_owes answer fault why change x w by of begun = ends_so bucket call (told.Refused why) before numbers.index stub w.0 none w.1 (inr (record {
     refuses = refusal_told numbers bucket (Some w.2.0) fault w.0 why x.index w.2.2 by of;
     deed = inr (record {
       change = change;
+      call = call (Some change);
+      is_call = refl;
       entry = has_entry numbers bucket deed now answer stub w.0 w.2.0 (Some fault) (RefusedDeed change (call (Some change))) x w.1 w.2.1 w.2.2
           (sym (entered_is numbers stub w.0 w.2.0 (Some fault) w.1 w.2.2) ∙ begun);
     });
   }))
 
   bare_owes : (answer : Result Committed SlotFault) (fault : SlotFault) (why : Refusal) → Commits numbers bucket deed now answer stub → WritesNone numbers fault stub
-      → refusal_by fault ≡ Some why → IsOfSection why → BucketActOwes bucket done call now (told.Refused why) (with_turn before numbers.index stub)
-  bare_owes answer fault why x w by of = ends_so bucket done call now (told.Refused why) before numbers.index stub w.0 none w.1 (inr (record {
+      → refusal_by fault ≡ Some why → IsOfSection why → BucketActOwes bucket call (told.Refused why) (with_turn before numbers.index stub)
+  bare_owes answer fault why x w by of = ends_so bucket call (told.Refused why) before numbers.index stub w.0 none w.1 (inr (record {
     refuses = refusal_told numbers bucket None fault w.0 why x.index w.2 by of;
     deed = inl (inl w.2.entry_is);
   }))
@@ -177,7 +186,7 @@ module _ {D : Type 0} (tells : D → Bool) (files : D → Files) (count : D → 
   quorum_owes : (fault : QuorumFault) (why : Refusal) → Commits numbers bucket deed now (Err (Quorum fault)) stub
       → refusal_by (Quorum fault) ≡ Some why → IsOfSection why
       → CommitCause tells files count numbers later deed None now (Err (Quorum fault)) (deed_in (entry_of stub)) old new disks disks_after
-      → BucketActOwes bucket done call now (told.Refused why) (with_turn before numbers.index stub)
+      → BucketActOwes bucket call (told.Refused why) (with_turn before numbers.index stub)
   quorum_owes fault why x by of cause = elim cause.1 [
     | inl looked ↦ idle_owes (Err (Quorum fault)) (Quorum fault) why x x.stub_is by of looked.deed_is
     | inr wrote ↦ begun_owes (Err (Quorum fault)) (Quorum fault) why wrote.1.own.change x x.stub_is by of wrote.1.deed_is
@@ -192,32 +201,32 @@ module _ {D : Type 0} (tells : D → Bool) (files : D → Files) (count : D → 
   -- the reply or the refusal that an answer has is owed
   pub commit_owes : (answer : Result Committed SlotFault) (reply : Reply) → Commits numbers bucket deed now answer stub
       → CommitCause tells files count numbers later deed None now answer (deed_in (entry_of stub)) old new disks disks_after → AfterCommit answer (Telling reply)
-      → BucketActOwes bucket done call now reply (with_turn before numbers.index stub)
+      → BucketActOwes bucket call reply (with_turn before numbers.index stub)
   commit_owes (Ok made) reply x cause after =
-      subst (λ r. BucketActOwes bucket done call now r (with_turn before numbers.index stub)) (sym (ap reply_in after)) (elim cause [
+      subst (λ r. BucketActOwes bucket call r (with_turn before numbers.index stub)) (sym (ap reply_in after)) (elim cause [
         | inl found ↦ found_owes (Ok made) None made.done x x.stub_is found
         | inr wrote ↦ wrote_owes (Ok made) None made.done (Ok wrote.0) x x.stub_is wrote.1 refl
       ])
   commit_owes (Err (Key why)) reply x cause after =
-      subst (λ r. BucketActOwes bucket done call now r (with_turn before numbers.index stub)) (sym (ap reply_in after))
+      subst (λ r. BucketActOwes bucket call r (with_turn before numbers.index stub)) (sym (ap reply_in after))
       (found_owes (Err (Key why)) (Some (Key why)) (told.Refused (refusal_of why)) x x.stub_is cause)
   commit_owes (Err (Quorum (ReadQuorum whys))) reply x cause after =
-      subst (λ r. BucketActOwes bucket done call now r (with_turn before numbers.index stub)) (sym (ap reply_in after))
+      subst (λ r. BucketActOwes bucket call r (with_turn before numbers.index stub)) (sym (ap reply_in after))
       (quorum_owes (ReadQuorum whys) (refused.ReadQuorum whys) x refl tt cause)
   commit_owes (Err (Quorum (WriteQuorum whys))) reply x cause after =
-      subst (λ r. BucketActOwes bucket done call now r (with_turn before numbers.index stub)) (sym (ap reply_in after))
+      subst (λ r. BucketActOwes bucket call r (with_turn before numbers.index stub)) (sym (ap reply_in after))
       (quorum_owes (WriteQuorum whys) (refused.WriteQuorum whys) x refl tt cause)
   commit_owes (Err (Quorum (Undecided k u whys))) reply x cause after =
-      subst (λ r. BucketActOwes bucket done call now r (with_turn before numbers.index stub)) (sym (ap reply_in after))
+      subst (λ r. BucketActOwes bucket call r (with_turn before numbers.index stub)) (sym (ap reply_in after))
       (quorum_owes (Undecided k u whys) (refused.Undecided k u whys) x refl tt cause)
   commit_owes (Err (Quorum NoMemoryQuorum)) reply x cause after = absurd (cause.0 refl)
   commit_owes (Err SeqSpent) reply x cause after =
-      subst (λ r. BucketActOwes bucket done call now r (with_turn before numbers.index stub)) (sym (ap reply_in after))
+      subst (λ r. BucketActOwes bucket call r (with_turn before numbers.index stub)) (sym (ap reply_in after))
       (bare_owes (Err SeqSpent) SeqSpent refused.SeqSpent x x.stub_is refl tt)
   commit_owes (Err (AuditFailed b a)) reply x cause after =
-      subst (λ r. BucketActOwes bucket done call now r (with_turn before numbers.index stub)) (sym (ap reply_in after))
+      subst (λ r. BucketActOwes bucket call r (with_turn before numbers.index stub)) (sym (ap reply_in after))
       (bare_owes (Err (AuditFailed b a)) (AuditFailed b a) (refused.AuditFailed b a) x x.stub_is refl tt)
   commit_owes (Err NoMemory) reply x cause after = absurd (subst is_over (sym after) tt)
   commit_owes (Err (NotInFlight id)) reply x cause after =
-      subst (λ r. BucketActOwes bucket done call now r (with_turn before numbers.index stub)) (sym (ap reply_in after))
+      subst (λ r. BucketActOwes bucket call r (with_turn before numbers.index stub)) (sym (ap reply_in after))
       (idle_owes (Err (NotInFlight id)) (NotInFlight id) (refused.NotInFlight id) x x.stub_is refl tt (missing_kept id x x.stub_is))

@@ -77,11 +77,11 @@ whole_after sets document bucket deed before event may none =
 -- a call is owed what its change is
 owes_call : (set : SetPlan) (sets : Bool) (document : Document) (bucket : List ℕ) (now : ℕ) (deed : Commit) (reply : Reply) (before : Log) (event : Event)
     → MayCommit sets document bucket deed before → taken_in event ≡ []
-    → ((done : BucketAct) → IsBucketDeed deed done → BucketActOwes bucket done (λ change. call_of deed change now) now reply (before ++ event ∷ []))
+    → ((done : BucketAct) → IsBucketDeed deed done → BucketActOwes bucket (λ change. call_of deed change now) reply (before ++ event ∷ []))
     → OwesCall set (change_call sets (vec_len document.bytes) bucket) now reply (before ++ event ∷ [])
 owes_call set false document bucket now deed reply before event may none owes = (
   whole_after false document bucket deed before event may none,
-  subst (λ d. BucketActOwes bucket act.Make (λ change. call_of d change now) now reply (before ++ event ∷ [])) may.deed_is
+  subst (λ d. BucketActOwes bucket (λ change. call_of d change now) reply (before ++ event ∷ [])) may.deed_is
       (owes act.Make (subst (λ d. IsBucketDeed d act.Make) (sym may.deed_is) refl)),
 )
 owes_call set true document bucket now deed reply before event may none owes =
@@ -92,7 +92,7 @@ owes_call set true document bucket now deed reply before event may none owes =
         mode = mode;
         document = subst (λ bytes. IsDocument VersioningConfiguration bytes (Versioning mode))
             (sym (body_with before event ∙ (ap (λ l. body_of before ++ l) none ∙ (append-nil (body_of before) ∙ may.taken.body_is)))) may.deed_is.1;
-        owes = subst (λ d. BucketActOwes bucket (act.SetMode mode) (λ change. call_of d change now) now reply (before ++ event ∷ [])) is
+        owes = subst (λ d. BucketActOwes bucket (λ change. call_of d change now) reply (before ++ event ∷ [])) is
             (owes (act.SetMode mode) (subst (λ d. IsBucketDeed d (act.SetMode mode)) (sym is) refl));
       }),
     )

@@ -21,7 +21,7 @@ use Rattle.slot_rules.specs.declared.commit.Commit.TheVariants.{Key, MakeBucket,
 use Rattle.slot_rules.specs.declared.commit.Commit.{Commit}
 use Rattle.slot_core.specs.CommitCauses.{FoundSo, WroteSo}
 use Rattle.slot_core.specs.Views.{SlotNumbers}
-use Rattle.receipts.specs.Dues.{IsDueBucket}
+use Rattle.receipts.specs.Dues.{IsDueBucket, IsDueReply}
 
 -- one content under every name
 abbrev alone : List ℕ → Registers
@@ -54,6 +54,13 @@ does_bucket (MakeBucket bucket) done content new change now id reply is does =
 does_bucket (SetMode bucket mode) done content new change now id reply is does =
     subst (λ d. StepsBucket content new d now reply) (sym is)
     (steps_of (alone content) (name_of (SetMode bucket mode)) bucket content new (act.SetMode mode) now reply refl (does (alone content) refl))
+
+-- a reply to an act on a bucket is one to the call that the entry tells of
+pub act_due : (deed : Commit) (done : BucketAct) (change : Option ChangeId) (now : ℕ) (reply : Reply) → IsBucketDeed deed done → IsDueBucket done change now reply
+    → IsDueReply (call_of deed change now) reply
+act_due (Key at mode done_to) done change now reply is due = absurd is
+act_due (MakeBucket bucket) done change now reply is due = subst (λ d. IsDueBucket d change now reply) is due
+act_due (SetMode bucket mode) done change now reply is due = subst (λ d. IsDueBucket d change now reply) is due
 
 -- a change is there
 is_some : (change : ChangeId) → IsSome (Some change)

@@ -5,9 +5,9 @@ use Rattle.std.proofs.lemmas.List.Elements.{All-get_or}
 use Rattle.bucket_book.specs.Name.{IsBucketName}
 use Rattle.drive_base.specs.Names.{IsBefore, byte_order}
 use Rattle.std.specs.declared.cmp.Ordering.TheVariants.{Less}
-use Rattle.receipts.specs.BucketLists.{BucketsAreListed, IsAskedFor}
+use Rattle.receipts.specs.BucketLists.{BucketsAreListed}
 use Rattle.receipts.specs.Events.{Log, sections_of}
-use Rattle.receipts.specs.Paging.{ListsPage}
+use Rattle.receipts.specs.Paging.{IsAskedFor, ListsPage}
 use Rattle.receipts.specs.Registers.{bucket_register, bucket_slot}
 use Rattle.receipts.proofs.RegisterLemmas.{bucket_slot_below}
 use Rattle.bucket_ops.specs.Lists.{HasFound, IsAmong, IsAtPage, IsBehind, IsInPage, IsUpTo, LooksOnlyAt, WasLookedAt}
@@ -60,7 +60,8 @@ module _ (sheet : Sheet) (log : Log) (page : IsInPage sheet (length sheet.names)
 
   -- a bucket behind the begin of the page that the page reaches was asked for
   reached : (bucket : List ℕ) → IsBucketName bucket → bucket_slot bucket ≡ sheet.slot → IsBefore sheet.from (bucket_register bucket)
-      → (length sheet.names ≡ page_names → All (λ given. IsBefore given (bucket_register bucket)) sheet.names → ⊥) → IsAskedFor bucket (sections_of log)
+      → (length sheet.names ≡ page_names → All (λ given. IsBefore given (bucket_register bucket)) sheet.names → ⊥)
+      → IsAskedFor (bucket_slot bucket) (bucket_register bucket) (sections_of log)
   reached bucket lawful slot behind ends = record {
     page = record { from = sheet.from; most = page_names; names = sheet.names };
     before = page.before;
@@ -92,7 +93,7 @@ module _ (sheet : Sheet) (log : Log) (page : IsInPage sheet (length sheet.names)
 
   -- the buckets up to the last name of the page are done with
   asked_page : (d : List ℕ) → 0 < length sheet.names → (bucket : List ℕ) → IsBucketName bucket → IsBehind sheet.slot (last d) bucket
-      → IsAskedFor bucket (sections_of log)
+      → IsAskedFor (bucket_slot bucket) (bucket_register bucket) (sections_of log)
   asked_page d some bucket lawful (inl below) = page.asked.asked bucket lawful (inl below)
   asked_page d some bucket lawful (inr at) = elim (sides (bucket_register bucket) sheet.from) [
     | inl upto ↦ page.asked.asked bucket lawful (inr (at.0, upto))
@@ -119,14 +120,15 @@ module _ (sheet : Sheet) (log : Log) (page : IsInPage sheet (length sheet.names)
         found = subst (λ rows. HasFound rows log) (sym next.rows_are) page.found;
         asked = record {
           begins = subst (λ n. IsUpTo (codes "b/") n) from_is (begin_last [] next.some);
-          asked = subst₂ (λ s n. (bucket : List ℕ) → IsBucketName bucket → IsBehind s n bucket → IsAskedFor bucket (sections_of log)) slot_is from_is
-              (asked_page [] next.some);
+          asked = subst₂ (λ s n. (bucket : List ℕ) → IsBucketName bucket → IsBehind s n bucket
+              → IsAskedFor (bucket_slot bucket) (bucket_register bucket) (sections_of log)) slot_is from_is (asked_page [] next.some);
         };
         only = subst₂ (λ s n. LooksOnlyAt (IsBehind s n) log) slot_is from_is (only_page [] next.some);
       }
 
   -- where the slot's names end, its buckets are done with
-  asked_slot : EndsSlot sheet.names → (bucket : List ℕ) → IsBucketName bucket → bucket_slot bucket < sheet.slot + 1 → IsAskedFor bucket (sections_of log)
+  asked_slot : EndsSlot sheet.names → (bucket : List ℕ) → IsBucketName bucket → bucket_slot bucket < sheet.slot + 1
+      → IsAskedFor (bucket_slot bucket) (bucket_register bucket) (sections_of log)
   asked_slot ends bucket lawful below = elim (less_or_same (bucket_slot bucket) sheet.slot below) [
     | inl less ↦ page.asked.asked bucket lawful (inl less)
     | inr same ↦ elim (sides (bucket_register bucket) sheet.from) [

@@ -14,16 +14,16 @@ use Rattle.std.specs.declared.cmp.Ordering.TheVariants.{Less}
 use Rattle.std.proofs.lemmas.Map.Keys.{Less-from_sorted}
 use Rattle.std.proofs.lemmas.List.{get_or_default}
 use Rattle.drive_base.specs.declared.drive.TheConstants.{LONGEST_NAME}
-use Rattle.receipts.specs.BucketLists.{FindsRow, IsAskedFor, row_order}
+use Rattle.receipts.specs.BucketLists.{FindsRow, row_order}
 use Rattle.receipts.specs.Events.{IsUntold, Log, Note, Section, body_of, cuts_of, sections_of}
 use Rattle.receipts.specs.Events.Event.{Turned}
 use Rattle.receipts.specs.Events.{Shown}
 use Rattle.receipts.specs.Events.Shown.{ContentShown, NamesShown, NoneShown}
-use Rattle.receipts.specs.Looks.{HasEntry, LooksAt}
-use Rattle.receipts.specs.Paging.{DoesNothing}
+use Rattle.receipts.specs.Looks.{HasEntry}
+use Rattle.receipts.specs.Paging.{DoesNothing, IsAskedFor}
 use Rattle.receipts.specs.Registers.{bucket_register, bucket_slot}
 use Rattle.receipts.proofs.JoinLemmas.{bodies_join, cuts_join, sections_join}
-use Rattle.bucket_ops.specs.Lists.{HasAsked, HasFound, IsAmong, IsAtPage, IsBehind, IsInPage, LooksOnlyAt, WasLookedAt}
+use Rattle.bucket_ops.specs.Lists.{HasAsked, HasFound, IsAmong, IsAtPage, IsBehind, IsInPage, LooksAtBucket, LooksOnlyAt, WasLookedAt}
 use Rattle.bucket_ops.specs.Rows.{AddsRow, row_of}
 use Rattle.bucket_ops.specs.Seeking.{Sheet, page_names, with_names, with_rows}
 use Rattle.receipts.proofs.OrderLemmas.{behind_other, never_itself}
@@ -67,7 +67,8 @@ parts_more log k section before asked after parts =
 looked_still : (bucket : List ℕ) (sections : List Section) (section : Section) → WasLookedAt bucket sections → WasLookedAt bucket (sections ++ section ∷ [])
 looked_still bucket sections section was = (was.0, was.1, Contains-append_left sections (section ∷ []) was.1 was.2, was.3)
 
-asked_still : (log : Log) (k : ℕ) (section : Section) (bucket : List ℕ) → IsAskedFor bucket (sections_of log) → IsAskedFor bucket (sections_of (with_section log k section))
+asked_still : (log : Log) (k : ℕ) (section : Section) (bucket : List ℕ) → IsAskedFor (bucket_slot bucket) (bucket_register bucket) (sections_of log)
+    → IsAskedFor (bucket_slot bucket) (bucket_register bucket) (sections_of (with_section log k section))
 asked_still log k section bucket asked = record {
   page = asked.page;
   before = asked.before;
@@ -168,7 +169,7 @@ module _ (one : ContentIsInjective) (sheet : Sheet) (own : ℕ) (bucket content 
   abbrev look_section : Section
   look_section = record { note = note; shown = ContentShown content }
 
-  own_look : LooksAt bucket content look_section
+  own_look : LooksAtBucket bucket content look_section
   own_look = record {
     entry = subst (λ s. HasEntry s (bucket_register bucket) Kept note) (sym slot) entry;
     unrefused = unrefused;
@@ -176,11 +177,11 @@ module _ (one : ContentIsInjective) (sheet : Sheet) (own : ℕ) (bucket content 
   }
 
   -- a look's section looks at one bucket, and shows one content
-  one_bucket : (a seen : List ℕ) → LooksAt a seen look_section → a ≡ bucket
+  one_bucket : (a seen : List ℕ) → LooksAtBucket a seen look_section → a ≡ bucket
   one_bucket a seen looks =
       ap behind_two (sym looks.entry.name_is ∙ (ap name_in (sym looks.entry.entry_is ∙ entry.entry_is) ∙ entry.name_is))
 
-  one_content : (a seen : List ℕ) → LooksAt a seen look_section → seen ≡ content
+  one_content : (a seen : List ℕ) → LooksAtBucket a seen look_section → seen ≡ content
   one_content a seen looks = ap content_in (sym looks.shown)
 
   -- no look was at this bucket before
@@ -197,7 +198,7 @@ module _ (one : ContentIsInjective) (sheet : Sheet) (own : ℕ) (bucket content 
   not_among among = never_itself (bucket_register bucket) (subst₂ (λ a b. IsBefore a b) among.2 named
       (Less-from_sorted byte_order sheet.names among.0 own (bucket_register bucket) page.page.rising among.1 within))
 
-  none_before : (seen : List ℕ) (look : Section) → Contains (sections_of log) look → LooksAt bucket seen look → ⊥
+  none_before : (seen : List ℕ) (look : Section) → Contains (sections_of log) look → LooksAtBucket bucket seen look → ⊥
   none_before seen look there looks = elim (page.only bucket seen look there looks) [
     | inl behind ↦ not_behind behind
     | inr among ↦ not_among among.1
@@ -206,7 +207,7 @@ module _ (one : ContentIsInjective) (sheet : Sheet) (own : ℕ) (bucket content 
   none_named : (row : BucketRow) → Contains sheet.rows row → row.name ≢ bucket
   none_named row there same =
       let was : (look : Section) × Contains (sections_of log) look × FindsRow row look = All-contains (λ (r : BucketRow). (look : Section) × Contains (sections_of log) look × FindsRow r look) sheet.rows row page.found.found there in
-      none_before (content_of (Some was.2.there)) was.0 was.1 (subst (λ b. LooksAt b (content_of (Some was.2.there)) was.0) same was.2.looks)
+      none_before (content_of (Some was.2.there)) was.0 was.1 (subst (λ b. LooksAtBucket b (content_of (Some was.2.there)) was.0) same was.2.looks)
 
   -- the rows after it
   rows_rise : (there : Option BucketRecord) → AddsRow bucket there sheet.rows rows → IsStrictlySortedBy row_order rows
@@ -227,7 +228,7 @@ module _ (one : ContentIsInjective) (sheet : Sheet) (own : ℕ) (bucket content 
     record {
       there = there;
       canonical = canonical;
-      looks = subst (λ c. LooksAt bucket c look_section) is own_look;
+      looks = subst (λ c. LooksAtBucket bucket c look_section) is own_look;
       created = refl;
     },
   ) old_found
@@ -274,7 +275,7 @@ module _ (one : ContentIsInjective) (sheet : Sheet) (own : ℕ) (bucket content 
     | inr same ↦ (
         let names_same : bucket_register bucket ≡ bucket_register a = sym named ∙ (get_or_default sheet.names own (bucket_register bucket) (bucket_register a) within
         ∙ (ap (λ i. slice_index_or sheet.names i (bucket_register a)) (sym same) ∙ among.2)) in
-        inr (content, look_section, Contains-push page.after look_section, subst (λ b. LooksAt b content look_section) (ap behind_two names_same) own_look)
+        inr (content, look_section, Contains-push page.after look_section, subst (λ b. LooksAtBucket b content look_section) (ap behind_two names_same) own_look)
         )
   ]
 
@@ -286,7 +287,7 @@ module _ (one : ContentIsInjective) (sheet : Sheet) (own : ℕ) (bucket content 
       | inr among ↦ inr (among.0, (among.1.0, (let below = among.1.1 in omega (arith, below)), among.1.2))
     ]
     | inr same ↦ (
-        let is : a ≡ bucket = one_bucket a seen (subst (λ s. LooksAt a seen s) (sym same) looks) in
+        let is : a ≡ bucket = one_bucket a seen (subst (λ s. LooksAtBucket a seen s) (sym same) looks) in
         inr (ap bucket_slot is ∙ slot, (own, omega arith, subst (λ b. slice_index_or sheet.names own (bucket_register b) ≡ bucket_register b) (sym is) named))
         )
   ]

@@ -10,10 +10,10 @@ use Rattle.desk_base.specs.declared.call.Call.TheVariants.{ListBuckets}
 use Rattle.drive_base.specs.Names.{IsPage, byte_order}
 use Rattle.drive_base.specs.declared.drive.TheConstants.{LONGEST_NAME}
 use Rattle.drive_base.specs.declared.plan.SetPlan.{SetPlan}
-use Rattle.receipts.specs.BucketLists.{FindsRow, IsAskedFor, row_order}
+use Rattle.receipts.specs.BucketLists.{FindsRow, row_order}
 use Rattle.receipts.specs.Events.{IsUntold, Log, Section, body_of, cuts_of, sections_of}
 use Rattle.receipts.specs.Looks.{LooksAt}
-use Rattle.receipts.specs.Paging.{DoesNothing, ListsPage}
+use Rattle.receipts.specs.Paging.{DoesNothing, IsAskedFor, ListsPage}
 use Rattle.receipts.specs.Paying.{Pays}
 use Rattle.receipts.specs.Registers.{bucket_register, bucket_slot}
 use Rattle.op_steps.specs.Claims.{Claim, no_claim}
@@ -67,15 +67,20 @@ pub record HasFound (rows : List BucketRow) (log : Log) : Type 0 where
 -- the buckets that are done with were asked for
 pub record HasAsked (slot : ℕ) (from : List ℕ) (log : Log) : Type 0 where
   pub begins : IsUpTo (codes "b/") from
-  pub asked : (bucket : List ℕ) → IsBucketName bucket → IsBehind slot from bucket → IsAskedFor bucket (sections_of log)
+  pub asked : (bucket : List ℕ) → IsBucketName bucket → IsBehind slot from bucket
+      → IsAskedFor (bucket_slot bucket) (bucket_register bucket) (sections_of log)
+
+-- a section looked at a bucket, and was shown this content
+abbrev pub LooksAtBucket : (bucket content : List ℕ) → Section → Type 0
+LooksAtBucket bucket content section = LooksAt (bucket_slot bucket) (bucket_register bucket) content section
 
 -- each look so far was at a bucket of which this holds
 abbrev pub LooksOnlyAt : (List ℕ → Type 0) → Log → Type 0
-LooksOnlyAt Was log = (bucket content : List ℕ) (look : Section) → Contains (sections_of log) look → LooksAt bucket content look → Was bucket
+LooksOnlyAt Was log = (bucket content : List ℕ) (look : Section) → Contains (sections_of log) look → LooksAtBucket bucket content look → Was bucket
 
 -- a bucket was looked at by one of these sections
 abbrev pub WasLookedAt : List ℕ → List Section → Type 0
-WasLookedAt bucket sections = (content : List ℕ) × (look : Section) × Contains sections look × LooksAt bucket content look
+WasLookedAt bucket sections = (content : List ℕ) × (look : Section) × Contains sections look × LooksAtBucket bucket content look
 
 -- a list whose next page comes next
 pub record IsAtPage (sheet : Sheet) (log : Log) : Type 0 where

@@ -57,7 +57,7 @@ fn take_behind<F: Feed>(bytes: &mut Vec<u8>, taken: usize, feed: &mut F) -> Resu
     ensures long { vec_len bytes.new ≡ vec_len bytes.old }
     ensures front { take taken bytes.new.items ≡ take taken bytes.old.items }
     ensures gives { Gives result (drop taken bytes.new.items) (F.seen feed.old) (F.seen feed.new) }
-    ensures cause { GivesCause result (F.seen feed.old) (F.faults feed.old) (F.faults feed.new) }
+    ensures cause { GivesCause result (F.seen feed.new) (F.faults feed.old) (F.faults feed.new) }
 {
     feed.take(&mut bytes[taken..])
 }

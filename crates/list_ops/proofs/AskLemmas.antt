@@ -42,8 +42,10 @@ module _ (rule : PageRule) (bucket : List ℕ) (sheet : Sheet) (looked : List Ca
     asked = section;
     after = [];
     parts = refl;
-    lists = subst (λ s. ListsPage s (record { from = sheet.from; most = sheet.most; names = names }) section) (sym slot) lists;
-    reaches = page_reaches rule bucket sheet.from sheet.most LONGEST_NAME names sheet.bound key asked.some asked.begins page listed.wanted first within;
+    asks = record {
+      lists = subst (λ s. ListsPage s (record { from = sheet.from; most = sheet.most; names = names }) section) (sym slot) lists;
+      reaches = page_reaches rule bucket sheet.from sheet.most LONGEST_NAME names sheet.bound key asked.some asked.begins page listed.wanted first within;
+    };
     is_left = λ shown. Contains-append_right sheet.left kept (name_for bucket key)
         (in_filter (is_found rule bucket sheet.slot) names (name_for bucket key) shown (name_found rule bucket key sheet.slot listed slot));
   })

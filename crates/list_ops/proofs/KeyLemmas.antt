@@ -165,16 +165,18 @@ given_still rule bucket rows candidate key given = given_if rule bucket _ rows (
 pub asked_still : (bucket key : List ℕ) (looked later : List Candidate) (sections : List Section) (section : Section)
     → ((candidate : Candidate) → Contains looked candidate → Contains later candidate)
     → KeyIsAskedFor bucket key looked sections → KeyIsAskedFor bucket key later (sections ++ section ∷ [])
-asked_still bucket key looked later sections section grows asked = record {
-  page = asked.page;
-  before = asked.before;
-  asked = asked.asked;
-  after = asked.after ++ section ∷ [];
-  parts = ap (λ l. l ++ section ∷ []) asked.parts ∙ append_assoc asked.before (asked.asked ∷ asked.after) (section ∷ []);
-  lists = asked.lists;
-  reaches = asked.reaches;
-  looks = λ shown. let was = asked.looks shown in
-      (was.0, was.1, grows was.0 was.2, was.3, Contains-append_left asked.after (section ∷ []) was.3 was.4, was.5);
+asked_still bucket key looked later sections section grows was = record {
+  asked = record {
+    page = was.asked.page;
+    before = was.asked.before;
+    asked = was.asked.asked;
+    after = was.asked.after ++ section ∷ [];
+    parts = ap (λ l. l ++ section ∷ []) was.asked.parts ∙ append_assoc was.asked.before (was.asked.asked ∷ was.asked.after) (section ∷ []);
+    asks = was.asked.asks;
+    looks = λ shown. let look = was.asked.looks shown in
+        (look.0, look.1, Contains-append_left was.asked.after (section ∷ []) look.1 look.2, look.3);
+  };
+  given = λ shown. let one = was.given shown in (one.0, one.1, grows one.0 one.2, one.3);
 }
 
 pub pending_still : (bucket key : List ℕ) (left later : List (List ℕ)) (sections : List Section) (section : Section)
@@ -186,8 +188,7 @@ pending_still bucket key left later sections section keeps pending = record {
   asked = pending.asked;
   after = pending.after ++ section ∷ [];
   parts = ap (λ l. l ++ section ∷ []) pending.parts ∙ append_assoc pending.before (pending.asked ∷ pending.after) (section ∷ []);
-  lists = pending.lists;
-  reaches = pending.reaches;
+  asks = pending.asks;
   is_left = λ shown. keeps (pending.is_left shown);
 }
 
@@ -199,8 +200,7 @@ pending_with bucket key left later sections keeps pending = record {
   asked = pending.asked;
   after = pending.after;
   parts = pending.parts;
-  lists = pending.lists;
-  reaches = pending.reaches;
+  asks = pending.asks;
   is_left = λ shown. keeps (pending.is_left shown);
 }
 
@@ -208,14 +208,16 @@ pending_with bucket key left later sections keeps pending = record {
 pub pending_asked : (bucket key : List ℕ) (left : List (List ℕ)) (looked : List Candidate) (sections : List Section)
     → (Contains left (name_for bucket key) → ⊥) → IsPending bucket key left sections → KeyIsAskedFor bucket key looked sections
 pending_asked bucket key left looked sections none pending = record {
-  page = pending.page;
-  before = pending.before;
-  asked = pending.asked;
-  after = pending.after;
-  parts = pending.parts;
-  lists = pending.lists;
-  reaches = pending.reaches;
-  looks = λ shown. absurd (none (pending.is_left shown));
+  asked = record {
+    page = pending.page;
+    before = pending.before;
+    asked = pending.asked;
+    after = pending.after;
+    parts = pending.parts;
+    asks = pending.asks;
+    looks = λ shown. absurd (none (pending.is_left shown));
+  };
+  given = λ shown. absurd (none (pending.is_left shown));
 }
 
 pub settled_still : (rule : PageRule) (bucket key : List ℕ) (rows : List VersionRow) (looked : List Candidate) (sections : List Section) (section : Section)

@@ -138,7 +138,7 @@ module _ (set : SetPlan) (task : Task) (rule : PageRule) (bucket : List ℕ) (is
         let after : Log = log ++ Turned k (Some note) section.shown ∷ [] in
         let has_after : HasBucket bucket (rest ++ section ∷ []) after = has_more bucket rest log k section has (_, _, entry) in
         let viewed : ViewsKey bucket candidate section =
-        record { entry = entry; unrefused = unrefused; canonical = views.canonical; shown = ap ContentShown views.content_is } in
+        record { canonical = views.canonical; looks = record { entry = entry; unrefused = unrefused; shown = ap ContentShown views.content_is } } in
         elim views.goes [
           | inl over ↦ subst (λ s. HasPaged set task rule bucket s after) (sym over.1) (tells_ready set task rule bucket (rest ++ section ∷ []) _ after is_page has_after
               (inl (page_cut rule bucket sheet candidate rest section view.at viewed on_time over.0 (idle_rest bucket (rest ++ section ∷ []) after has_after))))

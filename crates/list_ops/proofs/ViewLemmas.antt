@@ -9,10 +9,13 @@ use Rattle.std.specs.declared.cmp.Ordering.TheVariants.{Less}
 use Rattle.call_types.specs.declared.reply.VersionRow.{VersionRow}
 use Rattle.desk_base.specs.Calls.{IsKey}
 use Rattle.drive_base.specs.Names.{IsBefore, byte_order}
+use Rattle.version_list.specs.Spelling.{spelling}
 use Rattle.receipts.specs.Events.{Section}
 use Rattle.receipts.specs.Listing.{IsDue, KeyIsAskedFor, KeysAreListed, ViewsKey, key_in, key_order}
+use Rattle.receipts.specs.Looks.{LooksAt}
 use Rattle.receipts.specs.Pages.{Candidate, PageRule, candidate_rows, group_in, is_before, is_behind, page_of, rows_of, with_candidate}
 use Rattle.receipts.specs.Paging.{DoesNothing}
+use Rattle.receipts.specs.Registers.{key_slot}
 use Rattle.receipts.proofs.OrderLemmas.{before_is_upto, never_itself, upto_before, upto_itself}
 use Rattle.receipts.proofs.RegisterLemmas.{key_slot_below}
 use Rattle.list_ops.specs.Names.{key_of}
@@ -119,14 +122,21 @@ module _ (rule : PageRule) (bucket : List ℕ) (sheet : Sheet) (candidate : Cand
   -- and the key itself is
   pending_viewed : (key : List ℕ) (left : List (List ℕ)) → candidate.key ≡ key → IsPending bucket key left sections → KeyIsAskedFor bucket key looked more
   pending_viewed key left same pending = record {
-    page = pending.page;
-    before = pending.before;
-    asked = pending.asked;
-    after = pending.after ++ section ∷ [];
-    parts = ap (λ l. l ++ section ∷ []) pending.parts ∙ append_assoc pending.before (pending.asked ∷ pending.after) (section ∷ []);
-    lists = pending.lists;
-    reaches = pending.reaches;
-    looks = λ shown. (candidate, same, Contains-push at.looked candidate, section, Contains-push pending.after section, views);
+    asked = record {
+      page = pending.page;
+      before = pending.before;
+      asked = pending.asked;
+      after = pending.after ++ section ∷ [];
+      parts = ap (λ l. l ++ section ∷ []) pending.parts ∙ append_assoc pending.before (pending.asked ∷ pending.after) (section ∷ []);
+      asks = pending.asks;
+      looks = λ shown. (
+        spelling candidate.state,
+        section,
+        Contains-push pending.after section,
+        subst (λ k. LooksAt (key_slot (key_in bucket k)) (name_for bucket k) (spelling candidate.state) section) same views.looks,
+      );
+    };
+    given = λ shown. (candidate, same, Contains-push at.looked candidate, views);
   }
 
   own_after : (key : List ℕ) → IsListed rule bucket key → candidate.key ≡ key

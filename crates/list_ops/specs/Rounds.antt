@@ -9,7 +9,7 @@ use Rattle.receipts.specs.Events.{IsUntold, Log, Section, body_of, cuts_of, sect
 use Rattle.receipts.specs.Listing.{KeyIsAskedFor, ViewsKey, key_in, key_order}
 use Rattle.receipts.specs.Looks.{FindsBucket}
 use Rattle.receipts.specs.Pages.{Candidate, PageRule, begins_with, group_in, group_of, is_before, is_behind, rows_of, wants}
-use Rattle.receipts.specs.Paging.{DoesNothing, ListsPage, Page, Reaches}
+use Rattle.receipts.specs.Paging.{AsksFor, DoesNothing, Page}
 use Rattle.receipts.specs.Registers.{key_register, key_slot}
 use Rattle.list_ops.specs.Names.{key_of}
 use Rattle.list_ops.specs.Sheets.{Sheet, is_within, range}
@@ -36,8 +36,7 @@ pub record IsPending (bucket key : List ℕ) (left : List (List ℕ)) (sections 
   pub asked : Section
   pub after : List Section
   pub parts : sections ≡ before ++ asked ∷ after
-  pub lists : ListsPage (key_slot (key_in bucket key)) page asked
-  pub reaches : Reaches page (name_for bucket key)
+  pub asks : AsksFor (key_slot (key_in bucket key)) (name_for bucket key) page asked
   pub is_left : Contains page.names (name_for bucket key) → Contains left (name_for bucket key)
 
 module _ (rule : PageRule) (bucket : List ℕ) where

@@ -1,7 +1,7 @@
 -- The act of a receipt is the call's.
 use Rattle.std.proofs.Common.{◌≡◌, ◌∙◌, ℕ, zero, suc, List, [], ◌∷◌, ◌++◌, map, Option, None, Contains, append-nil, ap, inl, inr, refl, subst, sym, arith}
 use Rattle.std.proofs.lemmas.List.{get_or-map, length-map}
-use Rattle.std.proofs.lemmas.List.Elements.{Contains-append_left}
+use Rattle.std.proofs.lemmas.List.Elements.{Contains-append_left, Contains-push}
 use Rattle.call_types.specs.declared.act.Act.{Act}
 use Rattle.call_types.specs.declared.act.Brief.{Brief}
 use Rattle.call_types.specs.declared.act.Brief.TheVariants as brief
@@ -13,7 +13,6 @@ use Rattle.call_types.specs.declared.refusal.Refusal.{Refusal}
 use Rattle.call_types.specs.declared.reply.BucketRow.{BucketRow}
 use Rattle.call_types.specs.declared.reply.Reply.{Reply}
 use Rattle.call_types.specs.declared.reply.Reply.TheVariants as reply_of
-use Rattle.bucket_book.specs.declared.step.BucketAct.{BucketAct}
 use Rattle.desk_base.specs.Telling.Telling.{Head as TheHead}
 use Rattle.desk_base.specs.declared.call.Call.{Call}
 use Rattle.desk_base.specs.declared.call.Call.TheVariants as call_of
@@ -21,8 +20,8 @@ use Rattle.drive_base.specs.declared.plan.SetPlan.{SetPlan}
 use Rattle.stamp_id.specs.declared.stamp.ChangeId.{ChangeId}
 use Rattle.version_list.specs.Answers.{IsServed}
 use Rattle.receipts.specs.BucketLists.{FindsRow}
-use Rattle.receipts.specs.Bucketing.{BucketActOwes}
-use Rattle.receipts.specs.Committing.{EndsAtCommit}
+use Rattle.receipts.specs.Bucketing.{BucketActOwes, bucket_target}
+use Rattle.receipts.specs.Committing.{EndsAtCommit, KeyIsCommitted, Target, act_target}
 use Rattle.receipts.specs.Deleting.{Deletes}
 use Rattle.receipts.specs.Events.{Log, Note, Section, body_of, notes_of, sections_of}
 use Rattle.receipts.specs.Events.Event.{Told}
@@ -53,42 +52,45 @@ second_note : (log : Log) (look own : Section) → sections_of log ≡ look ∷ 
 second_note log look own is =
     subst (λ sections. Contains (map (λ (section : Section). section.note) sections) own.note) (sym is) (suc zero, omega arith, refl)
 
--- what a commit of a key shows
-shows_change : (at : Key) (now : ℕ) (IsAct : Act → Type 0) (reply : Reply) (log : Log) → EndsAtCommit at now IsAct reply log → IsServed reply
-    → (done : Act) × IsAct done
-    × IsDoneIn (key_slot at) (key_register at) (λ call. (mode : Mode) × (change : Option ChangeId) × (call ≡ brief.Change at mode done change now)) reply (notes_of log)
-shows_change at now IsAct reply log x served = elim x.ends [
-  | inl made ↦ (
-    made.act,
-    made.is_act,
-    record {
-      note = x.own.note;
-      there = second_note log x.look x.own x.sections;
-      call = brief.Change at x.mode made.act made.change now;
-      is_call = (x.mode, made.change, refl);
-      entry = made.entry;
-    },
-  )
-  | inr refused ↦ absurd (unserved reply _ refused.refuses.told served)
-]
+-- the note of a section is among those of its log
+note_there : (sections : List Section) (x : Section) → Contains sections x → Contains (map (λ (section : Section). section.note) sections) x.note
+note_there sections x h =
+    let long = length-map sections (λ (section : Section). section.note) in
+    let lt = h.1 in
+    (h.0, omega (arith, long, lt), get_or-map (λ (section : Section). section.note) sections h.0 x x.note lt ∙ ap (λ (section : Section). section.note) h.2)
 
--- what a commit of a bucket shows
-shows_bucket : (bucket : List ℕ) (done : BucketAct) (call : Option ChangeId → Brief) (now : ℕ) (reply : Reply) (log : Log)
-    → BucketActOwes bucket done call now reply log → IsServed reply
-    → IsDoneIn (bucket_slot bucket) (bucket_register bucket) (λ told. (change : Option ChangeId) × (told ≡ call change)) reply (notes_of log)
-shows_bucket bucket done call now reply log (inl x) served = elim x.ends [
+-- what a commit shows
+shows_commit : (target : Target) (before : List Section) (reply : Reply) (log : Log) → EndsAtCommit target before reply log → IsServed reply
+    → IsDoneIn target.slot target.register (λ call. (change : Option ChangeId) × target.IsCall change call) reply (notes_of log)
+shows_commit target before reply log x served = elim x.ends [
   | inl made ↦ record {
     note = x.own.note;
-    there = one_note log x.own x.sections;
-    call = call made.change;
-    is_call = (made.change, refl);
+    there = note_there (sections_of log) x.own (subst (λ sections. Contains sections x.own) (sym x.sections) (Contains-push before x.own));
+    call = made.call;
+    is_call = (made.change, made.is_call);
     entry = made.entry;
   }
   | inr refused ↦ absurd (unserved reply _ refused.refuses.told served)
 ]
-shows_bucket bucket done call now reply log (inr x) served = absurd (unserved reply _ x.barred.told served)
 
-shows_delete : (set : SetPlan) (at : Key) (pick : Pick) (now : ℕ) (reply : Reply) (log : Log) → EndsAtCommit at now (Deletes pick) reply log → IsServed reply
+-- what a commit of a key shows
+shows_change : (at : Key) (now : ℕ) (IsAct : Act → Type 0) (reply : Reply) (log : Log) → KeyIsCommitted at now IsAct reply log → IsServed reply
+    → (done : Act) × IsAct done
+    × IsDoneIn (key_slot at) (key_register at) (λ call. (mode : Mode) × (change : Option ChangeId) × (call ≡ brief.Change at mode done change now)) reply (notes_of log)
+shows_change at now IsAct reply log x served =
+    let done = shows_commit (act_target at x.mode now IsAct) (x.look ∷ []) reply log x.commit served in (
+      done.is_call.1.0,
+      done.is_call.1.1,
+      record { note = done.note; there = done.there; call = done.call; is_call = (x.mode, done.is_call.0, done.is_call.1.2); entry = done.entry },
+    )
+
+-- what a commit of a bucket shows
+shows_bucket : (bucket : List ℕ) (call : Option ChangeId → Brief) (reply : Reply) (log : Log) → BucketActOwes bucket call reply log → IsServed reply
+    → IsDoneIn (bucket_slot bucket) (bucket_register bucket) (λ told. (change : Option ChangeId) × (told ≡ call change)) reply (notes_of log)
+shows_bucket bucket call reply log (inl x) served = shows_commit (bucket_target bucket call) [] reply log x served
+shows_bucket bucket call reply log (inr x) served = absurd (unserved reply _ x.barred.told served)
+
+shows_delete : (set : SetPlan) (at : Key) (pick : Pick) (now : ℕ) (reply : Reply) (log : Log) → KeyIsCommitted at now (Deletes pick) reply log → IsServed reply
     → ShowsAct set (call_of.Delete at pick) now (body_of log) reply (notes_of log)
 shows_delete set at pick now reply log x served =
     let change = shows_change at now (Deletes pick) reply log x served in
@@ -149,13 +151,6 @@ shows_head at pick matches (reply_of.Versions rows cut) reply log reads tells se
 shows_head at pick matches (reply_of.Opened id) reply log reads tells served = absurd tells
 shows_head at pick matches (reply_of.Completed etag id) reply log reads tells served = absurd tells
 
--- the note of a section is among those of its log
-note_there : (sections : List Section) (x : Section) → Contains sections x → Contains (map (λ (section : Section). section.note) sections) x.note
-note_there sections x h =
-    let long = length-map sections (λ (section : Section). section.note) in
-    let lt = h.1 in
-    (h.0, omega (arith, long, lt), get_or-map (λ (section : Section). section.note) sections h.0 x x.note lt ∙ ap (λ (section : Section). section.note) h.2)
-
 later_there : (first : Section) (more : List Section) (x : Section) → Contains more x → Contains (first ∷ more) x
 later_there first more x h =
     let lt = h.1 in
@@ -177,7 +172,7 @@ shows_key : (bucket : List ℕ) (candidate : Candidate) (log : Log) (look : Sect
 shows_key bucket candidate log look rest is x = record {
   note = x.0.note;
   there = note_there (sections_of log) x.0 (subst (λ sections. Contains sections x.0) (sym is) (later_there look rest x.0 x.1));
-  entry = x.2.entry;
+  entry = x.2.looks.entry;
 }
 
 shows_page : (rule : PageRule) (bucket : List ℕ) (reply : Reply) (log : Log) → PageOwes rule bucket reply log → IsServed reply
@@ -197,7 +192,7 @@ shows set call_of.ListBuckets now reply log x served = elim x.1 [
   | inr (inl refused) ↦ absurd (unserved reply _ refused.refuses.told served)
   | inr (inr barred) ↦ absurd (unserved reply _ barred.barred.told served)
 ]
-shows set (call_of.CreateBucket bucket) now reply log x served = shows_bucket bucket _ _ now reply log x.1 served
+shows set (call_of.CreateBucket bucket) now reply log x served = shows_bucket bucket _ reply log x.1 served
 shows set (call_of.HeadBucket bucket) now reply log x served = elim x.1 [
   | inl ended ↦ absurd (at_look bucket reply log ended served)
   | inr there ↦ record { note = there.1.look.note; there = one_note log there.1.look there.1.sections; entry = there.1.finds.looks.entry }
@@ -207,14 +202,14 @@ shows set (call_of.GetVersioning bucket) now reply log x served = elim x.1 [
   | inr there ↦ record { note = there.1.look.note; there = one_note log there.1.look there.1.sections; entry = there.1.finds.looks.entry }
 ]
 shows set (call_of.PutVersioning bucket long) now reply log x served = elim x.1 [
-  | inl set_so ↦ (set_so.mode, shows_bucket bucket _ _ now reply log set_so.owes served)
+  | inl set_so ↦ (set_so.mode, shows_bucket bucket _ reply log set_so.owes served)
   | inr malformed ↦ absurd (unserved reply _ malformed.told served)
 ]
 shows set (call_of.Put at kinds stated long) now reply log x served = elim x.1 [
   | inl ended ↦ absurd (at_look at.bucket reply log ended served)
   | inr (inl put) ↦
-      let change = shows_change at now (PutsBody set kinds (body_of log)) reply log put.commit served in
-      (change.0, change.1, x.0, change.2)
+      let change = shows_change at now (PutsBody set kinds (body_of log) put.id) reply log put.commit served in
+      (put.id, change.0, change.1, x.0, change.2)
   | inr (inr (inl barred)) ↦ absurd (unserved reply _ barred.barred.told served)
   | inr (inr (inr (inl begun))) ↦ absurd (unserved reply _ begun.refuses.told served)
   | inr (inr (inr (inr (inl differs)))) ↦ absurd (unserved reply _ differs.told served)
@@ -261,7 +256,7 @@ more_shows set (call_of.CreateBucket bucket) now body reply notes more x = more_
 more_shows set (call_of.HeadBucket bucket) now body reply notes more x = more_looked _ _ notes more x
 more_shows set (call_of.GetVersioning bucket) now body reply notes more x = more_looked _ _ notes more x
 more_shows set (call_of.PutVersioning bucket long) now body reply notes more x = (x.0, more_done _ _ _ reply notes more x.1)
-more_shows set (call_of.Put at kinds stated long) now body reply notes more x = (x.0, x.1, x.2, more_done _ _ _ reply notes more x.3)
+more_shows set (call_of.Put at kinds stated long) now body reply notes more x = (x.0, x.1, x.2, x.3, more_done _ _ _ reply notes more x.4)
 more_shows set (call_of.Get at pick ask matches) now body reply notes more x = (x.0, x.1, x.2, x.3, x.4, more_done _ _ _ _ notes more x.5)
 more_shows set (call_of.Head at pick matches) now body reply notes more x = more_done _ _ _ reply notes more x
 more_shows set (call_of.Delete at pick) now body reply notes more x = more_done _ _ _ reply notes more x

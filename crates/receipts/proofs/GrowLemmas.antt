@@ -1,8 +1,10 @@
--- Logs that grow by quiet events.
-use Rattle.std.proofs.Common.{◌≡◌, ◌∙◌, zero, suc, List, [], ◌∷◌, ◌++◌, All, Contains, map, slice_index_or, append-nil, append_assoc, ap, ap₂, refl, arith}
+-- Logs that grow by quiet events, and what their calls told.
+use Rattle.std.proofs.Common.{◌≡◌, ◌∙◌, ℕ, zero, suc, List, [], ◌∷◌, ◌++◌, All, Contains, map, slice_index_or, append-nil, append_assoc, ap, ap₂, refl, arith}
 use Rattle.std.specs.List.{flat_map}
 use Rattle.std.proofs.lemmas.List.Elements.{Contains-append_left}
-use Rattle.receipts.specs.Events.{Event, IsQuiet, IsUntold, Log, body_of, cut_in, cuts_of, section_in, sections_of, taken_in, tale_of, told_in}
+use Rattle.drive_base.specs.Calls.{Seen}
+use Rattle.receipts.specs.Events.{Event, IsQuiet, IsUntold, Log, Saw, body_of, cut_in, cuts_of, section_in, sections_of, taken_in, tale_of, told_in}
+use Rattle.receipts.specs.Events.Event.{Called}
 use Rattle.receipts.specs.Laws.{QuietKeepsNotes}
 use Rattle.receipts.proofs.JoinLemmas.{bodies_join, cuts_join, quiet_is_silent, sections_join, tales_join}
 
@@ -41,6 +43,13 @@ quiet_notes log more quiet = ap (map (λ section. section.note)) (quiet_sections
 
 pub quiet_untold : (more : Log) → All IsQuiet more → All IsUntold more
 quiet_untold more quiet k d l = (quiet_is_silent (slice_index_or more k d) (quiet k d l)).untold
+
+-- what a call told in a log it told in each that has the events of this one
+pub saw_grows : (log later : Log) (k : ℕ) (seen : Seen) → ((event : Event) → Contains log event → Contains later event) → Saw log k seen → Saw later k seen
+saw_grows log later k seen keeps x = record { made = x.made; called = keeps (Called k x.made) x.called; tells = x.tells }
+
+pub saw_more : (log more : Log) (k : ℕ) (seen : Seen) → Saw log k seen → Saw (log ++ more) k seen
+saw_more log more k seen x = saw_grows log (log ++ more) k seen (λ event h. Contains-append_left log more event h) x
 
 -- a log grows: its sections and what was taken stay, and what was called stays called, also in its last part, in which nothing more is told
 pub record Grows (log later : Log) : Type 0 where

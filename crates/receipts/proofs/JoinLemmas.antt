@@ -2,9 +2,9 @@
 use Rattle.std.proofs.Common.{◌≡◌, ◌∙◌, [], map, Some, None, ap, refl}
 use Rattle.std.proofs.lemmas.Grind.{flat_map-append}
 use Rattle.std.proofs.lemmas.List.{map-append}
-use Rattle.receipts.specs.Events.{Event, IsQuiet, IsUntold, Section, cut_in, section_in, sections_of, taken_in, told_in}
+use Rattle.receipts.specs.Events.{Event, IsQuiet, IsUntold, Section, called_in, cut_in, section_in, sections_of, taken_in, told_in}
 use Rattle.receipts.specs.Events.Event.{BarredFrom, Called, Fed, Told, Turned}
-use Rattle.receipts.specs.Laws.{BodiesJoin, CutsJoin, NotesJoin, SectionsJoin, TalesJoin}
+use Rattle.receipts.specs.Laws.{BodiesJoin, CallsJoin, CutsJoin, NotesJoin, SectionsJoin, TalesJoin}
 
 pub sections_join : SectionsJoin
 sections_join log more = flat_map-append section_in log more
@@ -22,6 +22,9 @@ tales_join log more = flat_map-append told_in log more
 pub cuts_join : CutsJoin
 cuts_join log more = flat_map-append cut_in log more
 
+pub calls_join : CallsJoin
+calls_join k log more = flat_map-append (called_in k) log more
+
 -- a quiet event adds to no reading
 pub record IsSilent (event : Event) : Type 0 where
   pub section : section_in event ≡ []
@@ -34,6 +37,6 @@ pub quiet_is_silent : (event : Event) → IsQuiet event → IsSilent event
 quiet_is_silent (Turned slot None shown) quiet = record { section = refl; taken = refl; told = refl; cut = refl; untold = tt }
 quiet_is_silent (Turned slot (Some made) shown) quiet = absurd quiet
 quiet_is_silent (BarredFrom slot why) quiet = record { section = refl; taken = refl; told = refl; cut = refl; untold = tt }
-quiet_is_silent (Called drive seen) quiet = record { section = refl; taken = refl; told = refl; cut = refl; untold = tt }
+quiet_is_silent (Called drive made) quiet = record { section = refl; taken = refl; told = refl; cut = refl; untold = tt }
 quiet_is_silent (Fed bytes cut) quiet = absurd quiet
 quiet_is_silent (Told telling cut) quiet = absurd quiet

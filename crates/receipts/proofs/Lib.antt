@@ -1,4 +1,5 @@
 pub mod ActLemmas
+pub mod AskingLemmas
 pub mod GrowLemmas
 pub mod JoinLemmas
 pub mod ListOweLemmas

@@ -1,5 +1,5 @@
 -- What is owed stays owed while a log grows.
-use Rattle.std.proofs.Common.{◌≡◌, ◌≢◌, ◌∙◌, ℕ, List, Option, All, Contains, length, slice_index_or, inl, inr, sym, ap, subst, ◌≤◌, ◌*◌}
+use Rattle.std.proofs.Common.{◌≡◌, ◌≢◌, ◌∙◌, ℕ, List, [], ◌∷◌, Option, Contains, length, slice_index_or, inl, inr, sym, ap, subst, ◌≤◌, ◌*◌}
 use Rattle.call_types.specs.declared.act.Act.{Act}
 use Rattle.call_types.specs.declared.act.Brief.{Brief}
 use Rattle.call_types.specs.declared.names.Key.{Key}
@@ -12,7 +12,6 @@ use Rattle.call_types.specs.declared.version.Version.{Version}
 use Rattle.call_types.specs.declared.why.FileKind.TheVariants as kind
 use Rattle.call_types.specs.declared.why.Why.{Why}
 use Rattle.call_types.specs.declared.why.Why.TheVariants.{Behind, Damaged, Failed, Good, Lacks}
-use Rattle.bucket_book.specs.declared.step.BucketAct.{BucketAct}
 use Rattle.drive_base.specs.declared.plan.SetPlan.{SetPlan}
 use Rattle.stamp_id.specs.declared.stamp.ChangeId.{ChangeId}
 use Rattle.stamp_id.specs.declared.version.VersionId.{VersionId}
@@ -21,8 +20,8 @@ use Rattle.shard_file.specs.Stripes.{stripe_size}
 use Rattle.std.specs.List.{flat_map}
 use Rattle.desk_base.specs.declared.call.Call.{Call}
 use Rattle.desk_base.specs.declared.call.Call.TheVariants as call_of
-use Rattle.receipts.specs.Bucketing.{BucketActOwes, BucketIsThere, GetVersioningOwes, HeadBucketOwes, PutVersioningOwes}
-use Rattle.receipts.specs.Committing.{EndsAtCommit, HasLooked, KeyIsBarred}
+use Rattle.receipts.specs.Bucketing.{BucketActOwes, BucketIsThere, GetVersioningOwes, HeadBucketOwes, PutVersioningOwes, bucket_target}
+use Rattle.receipts.specs.Committing.{EndsAtCommit, HasLooked, KeyIsBarred, KeyIsCommitted, Target, act_target}
 use Rattle.receipts.specs.Deleting.{DeleteOwes}
 use Rattle.md5.specs.Md5.{md5}
 use Rattle.call_types.specs.declared.refusal.Refusal.TheVariants.{BadDigest}
@@ -31,25 +30,32 @@ use Rattle.call_types.specs.declared.names.VersionName.{VersionName}
 use Rattle.s3_docs.specs.Documents.{IsDocument, IsPlace}
 use Rattle.s3_docs.specs.Machine.Value.{Versioning}
 use Rattle.s3_docs.specs.declared.prologue.Root.TheVariants.{VersioningConfiguration}
-use Rattle.receipts.specs.Events.{Event, Log, body_of}
+use Rattle.receipts.specs.Events.{Event, Log, Section, body_of}
 use Rattle.receipts.specs.Letters.{BlockLetter, CannotRead, FewBlocks, FewTook, IsBadManifest, IsBadShard, IsGoodBlock, ManifestLetter, NoneServes, ShowedAt, ShowedBlock, ShowedTable, StageLetter, Wanted, Wants, bytes_in}
 use Rattle.receipts.specs.Owes.{IsWhole, OwesCall}
 use Rattle.receipts.specs.Putting.{BodyIsNotTaken, DigestDiffers, IsAgreed, PutIsCommitted, PutIsNotBegun, PutOwes, PutsBody}
 use Rattle.receipts.specs.Reading.{BodyIsLost, EndsBeforeRead, GetOwes, HeadOwes, ReadsKey, SpanIsTold, TellsRead}
 use Rattle.receipts.specs.Pages.{keys_rule, versions_rule}
-use Rattle.receipts.proofs.GrowLemmas.{Grows}
+use Rattle.receipts.specs.Staging.{IsStaged}
+use Rattle.receipts.proofs.GrowLemmas.{Grows, saw_grows}
 use Rattle.receipts.proofs.ListOweLemmas.{ends_at_look, list_buckets_owes, page_owes, spent}
 
 -- the letters of a stage
 stage_letter : (set : SetPlan) (id : VersionId) (log later : Log) (k : ℕ) (why : Why) → Grows log later → StageLetter set id log k why → StageLetter set id later k why
 stage_letter set id log later k Good g h = h
-stage_letter set id log later k (Failed before after) g h = (h.0, g.calls _ h.1)
+stage_letter set id log later k (Failed before after) g h = (
+  h.0,
+  elim h.1 [
+    | inl shard ↦ inl (saw_grows log later k _ g.calls shard)
+    | inr manifest ↦ inr (saw_grows log later k _ g.calls manifest)
+  ],
+)
 stage_letter set id log later k (Damaged damage) g h = h
 stage_letter set id log later k (Behind ballot) g h = h
 stage_letter set id log later k (Lacks kind.Format) g h = h
 stage_letter set id log later k (Lacks kind.Register) g h = h
-stage_letter set id log later k (Lacks kind.Manifest) g h = (h.0, g.calls _ h.1)
-stage_letter set id log later k (Lacks kind.Shard) g h = (h.0, g.calls _ h.1)
+stage_letter set id log later k (Lacks kind.Manifest) g h = (h.0, saw_grows log later k _ g.calls h.1)
+stage_letter set id log later k (Lacks kind.Shard) g h = (h.0, saw_grows log later k _ g.calls h.1)
 
 few_took : (set : SetPlan) (slot : ℕ) (whys : List Why) (log later : Log) → Grows log later → FewTook set slot whys log → FewTook set slot whys later
 few_took set slot whys log later g x = record {
@@ -61,21 +67,21 @@ few_took set slot whys log later g x = record {
 
 -- those of manifests
 bad_manifest : (set : SetPlan) (wanted : Wanted) (log later : Log) (k : ℕ) → Grows log later → IsBadManifest set wanted log k → IsBadManifest set wanted later k
-bad_manifest set wanted log later k g (inl x) = inl (x.0, g.calls _ x.1, x.2)
+bad_manifest set wanted log later k g (inl x) = inl (x.0, saw_grows log later k _ g.calls x.1, x.2)
 bad_manifest set wanted log later k g (inr (inl x)) =
-    inr (inl (record { long = x.long; sized = g.calls _ x.sized; place = x.place; short = g.calls _ x.short }))
+    inr (inl (record { long = x.long; sized = saw_grows log later k _ g.calls x.sized; place = x.place; short = saw_grows log later k _ g.calls x.short }))
 bad_manifest set wanted log later k g (inr (inr x)) =
-    inr (inr (x.0, record { sized = g.calls _ x.1.sized; showed = g.calls _ x.1.showed; none = x.1.none }))
+    inr (inr (x.0, record { sized = saw_grows log later k _ g.calls x.1.sized; showed = saw_grows log later k _ g.calls x.1.showed; none = x.1.none }))
 
 manifest_letter : (set : SetPlan) (wanted : Wanted) (log later : Log) (k : ℕ) (why : Why) → Grows log later
     → ManifestLetter set wanted log k why → ManifestLetter set wanted later k why
 manifest_letter set wanted log later k Good g h = h
-manifest_letter set wanted log later k (Failed before after) g h = (h.0, g.calls _ h.1)
+manifest_letter set wanted log later k (Failed before after) g h = (h.0, saw_grows log later k _ g.calls h.1)
 manifest_letter set wanted log later k (Damaged damage) g h = (h.0, bad_manifest set wanted log later k g h.1)
 manifest_letter set wanted log later k (Behind ballot) g h = h
 manifest_letter set wanted log later k (Lacks kind.Format) g h = h
 manifest_letter set wanted log later k (Lacks kind.Register) g h = h
-manifest_letter set wanted log later k (Lacks kind.Manifest) g h = (h.0, g.calls _ h.1)
+manifest_letter set wanted log later k (Lacks kind.Manifest) g h = (h.0, saw_grows log later k _ g.calls h.1)
 manifest_letter set wanted log later k (Lacks kind.Shard) g h = h
 
 none_serves : (set : SetPlan) (wanted : Wanted) (whys : List Why) (log later : Log) → Grows log later → NoneServes set wanted whys log → NoneServes set wanted whys later
@@ -88,7 +94,7 @@ none_serves set wanted whys log later g x = record {
 showed_at : (log later : Log) (k : ℕ) (name : List ℕ) (place : ℕ) (bytes : List ℕ) → ((event : Event) → Contains log event → Contains later event)
     → ShowedAt log k name place bytes → ShowedAt later k name place bytes
 showed_at log later k name place bytes keeps x =
-    record { from = x.from; gap = x.gap; more = x.more; called = keeps _ x.called; place_is = x.place_is; piece = x.piece }
+    record { from = x.from; gap = x.gap; more = x.more; called = saw_grows log later k _ keeps x.called; place_is = x.place_is; piece = x.piece }
 
 showed_table : (wants : Wants) (log later : Log) (k : ℕ) (table : List ℕ) → ((event : Event) → Contains log event → Contains later event)
     → ShowedTable wants log k table → ShowedTable wants later k table
@@ -111,7 +117,7 @@ bad_shard wants log later since after k keeps goes_on (inr (inl x)) = inr (inl (
   differs = x.differs;
 }))
 bad_shard wants log later since after k keeps goes_on (inr (inr x)) =
-    inr (inr (record { place = x.place; long = x.long; ends = x.ends; asked = x.asked; short = goes_on _ x.short }))
+    inr (inr (record { place = x.place; long = x.long; ends = x.ends; asked = x.asked; short = saw_grows since after k _ goes_on x.short }))
 
 good_block : (wants : Wants) (log later since after : Log) (k : ℕ) → ((event : Event) → Contains log event → Contains later event)
     → ((event : Event) → Contains since event → Contains after event) → IsGoodBlock wants log since k → IsGoodBlock wants later after k
@@ -128,13 +134,13 @@ block_letter : (set : SetPlan) (wants : Wants) (log later since after : Log) (k 
     → ((event : Event) → Contains log event → Contains later event) → ((event : Event) → Contains since event → Contains after event)
     → BlockLetter set wants log since k why → BlockLetter set wants later after k why
 block_letter set wants log later since after k Good keeps goes_on h = (h.0, good_block wants log later since after k keeps goes_on h.1)
-block_letter set wants log later since after k (Failed before behind) keeps goes_on h = (h.0, goes_on _ h.1)
+block_letter set wants log later since after k (Failed before behind) keeps goes_on h = (h.0, saw_grows since after k _ goes_on h.1)
 block_letter set wants log later since after k (Damaged damage) keeps goes_on h = (h.0, bad_shard wants log later since after k keeps goes_on h.1)
 block_letter set wants log later since after k (Behind ballot) keeps goes_on h = h
 block_letter set wants log later since after k (Lacks kind.Format) keeps goes_on h = h
 block_letter set wants log later since after k (Lacks kind.Register) keeps goes_on h = h
 block_letter set wants log later since after k (Lacks kind.Manifest) keeps goes_on h = h
-block_letter set wants log later since after k (Lacks kind.Shard) keeps goes_on h = (h.0, goes_on _ h.1)
+block_letter set wants log later since after k (Lacks kind.Shard) keeps goes_on h = (h.0, saw_grows since after k _ goes_on h.1)
 
 pub few_blocks : (set : SetPlan) (wanted : Wanted) (next : ℕ) (whys : List Why) (log later : Log) → Grows log later
     → FewBlocks set wanted next whys log → FewBlocks set wanted next whys later
@@ -175,18 +181,35 @@ has_looked bucket log later g x = record { look = x.look; sections = g.sections 
 key_barred : (at : Key) (reply : Reply) (log later : Log) → Grows log later → KeyIsBarred at reply log → KeyIsBarred at reply later
 key_barred at reply log later g x = record { looked = has_looked at.bucket log later g x.looked; barred = spent _ reply log later g x.barred }
 
-ends_at_commit : (at : Key) (now : ℕ) (IsAct : Act → Type 0) (reply : Reply) (log later : Log) → Grows log later
-    → EndsAtCommit at now IsAct reply log → EndsAtCommit at now IsAct reply later
-ends_at_commit at now IsAct reply log later g x =
-    record { look = x.look; own = x.own; sections = g.sections ∙ x.sections; mode = x.mode; bucket = x.bucket; ends = x.ends }
+-- commits
+ends_at_commit : (target : Target) (before : List Section) (reply : Reply) (log later : Log) → Grows log later
+    → EndsAtCommit target before reply log → EndsAtCommit target before reply later
+ends_at_commit target before reply log later g x = record { own = x.own; sections = g.sections ∙ x.sections; ends = x.ends }
+
+key_committed : (at : Key) (now : ℕ) (IsAct : Act → Type 0) (reply : Reply) (log later : Log) → Grows log later
+    → KeyIsCommitted at now IsAct reply log → KeyIsCommitted at now IsAct reply later
+key_committed at now IsAct reply log later g x = record {
+  look = x.look;
+  mode = x.mode;
+  bucket = x.bucket;
+  commit = ends_at_commit (act_target at x.mode now IsAct) (x.look ∷ []) reply log later g x.commit;
+}
 
 -- puts and deletes
 put_committed : (set : SetPlan) (at : Key) (kinds : List ℕ) (stated : Option (List ℕ)) (now : ℕ) (reply : Reply) (log later : Log) → Grows log later
     → PutIsCommitted set at kinds stated now reply log → PutIsCommitted set at kinds stated now reply later
-put_committed set at kinds stated now reply log later g x = record {
-  agreed = subst (λ body. IsAgreed stated body) (sym g.body) x.agreed;
-  commit = subst (λ body. EndsAtCommit at now (PutsBody set kinds body) reply later) (sym g.body) (ends_at_commit at now _ reply log later g x.commit);
-}
+put_committed set at kinds stated now reply log later g x =
+    let grown = g.since x.front x.rest x.parts in
+    record {
+      agreed = subst (λ body. IsAgreed stated body) (sym g.body) x.agreed;
+      id = x.id;
+      front = x.front;
+      rest = grown.0;
+      parts = grown.1;
+      looked = x.looked;
+      staged = subst (λ body. IsStaged set at x.id body x.front) (sym g.body) x.staged;
+      commit = subst (λ body. KeyIsCommitted at now (PutsBody set kinds body x.id) reply later) (sym g.body) (key_committed at now _ reply log later g x.commit);
+    }
 
 put_not_begun : (at : Key) (reply : Reply) (log later : Log) → Grows log later → PutIsNotBegun at reply log → PutIsNotBegun at reply later
 put_not_begun at reply log later g x = record {
@@ -240,7 +263,7 @@ put_owes set at kinds stated now reply log later g (inr (inr (inr (inr (inr x)))
 delete_owes : (at : Key) (pick : Pick) (now : ℕ) (reply : Reply) (log later : Log) → Grows log later
     → DeleteOwes at pick now reply log → DeleteOwes at pick now reply later
 delete_owes at pick now reply log later g (inl x) = inl (ends_at_look at.bucket reply log later g x)
-delete_owes at pick now reply log later g (inr (inl x)) = inr (inl (ends_at_commit at now _ reply log later g x))
+delete_owes at pick now reply log later g (inr (inl x)) = inr (inl (key_committed at now _ reply log later g x))
 delete_owes at pick now reply log later g (inr (inr x)) = inr (inr (key_barred at reply log later g x))
 
 -- reads
@@ -317,10 +340,10 @@ get_versioning_owes : (bucket : List ℕ) (reply : Reply) (log later : Log) → 
 get_versioning_owes bucket reply log later g (inl x) = inl (ends_at_look bucket reply log later g x)
 get_versioning_owes bucket reply log later g (inr x) = inr (x.0, bucket_there bucket x.0 log later g x.1, x.2)
 
-bucket_act_owes : (bucket : List ℕ) (done : BucketAct) (call : Option ChangeId → Brief) (now : ℕ) (reply : Reply) (log later : Log) → Grows log later
-    → BucketActOwes bucket done call now reply log → BucketActOwes bucket done call now reply later
-bucket_act_owes bucket done call now reply log later g (inl x) = inl (record { own = x.own; sections = g.sections ∙ x.sections; ends = x.ends })
-bucket_act_owes bucket done call now reply log later g (inr x) =
+bucket_act_owes : (bucket : List ℕ) (call : Option ChangeId → Brief) (reply : Reply) (log later : Log) → Grows log later
+    → BucketActOwes bucket call reply log → BucketActOwes bucket call reply later
+bucket_act_owes bucket call reply log later g (inl x) = inl (ends_at_commit (bucket_target bucket call) [] reply log later g x)
+bucket_act_owes bucket call reply log later g (inr x) =
     inr (record { sections = g.sections ∙ x.sections; barred = spent _ reply log later g x.barred })
 
 put_versioning_owes : (bucket : List ℕ) (now : ℕ) (reply : Reply) (log later : Log) → Grows log later
@@ -328,7 +351,7 @@ put_versioning_owes : (bucket : List ℕ) (now : ℕ) (reply : Reply) (log later
 put_versioning_owes bucket now reply log later g (inl x) = inl (record {
   mode = x.mode;
   document = subst (λ body. IsDocument VersioningConfiguration body (Versioning x.mode)) (sym g.body) x.document;
-  owes = bucket_act_owes bucket _ _ now reply log later g x.owes;
+  owes = bucket_act_owes bucket _ reply log later g x.owes;
 })
 put_versioning_owes bucket now reply log later g (inr x) = inr (record {
   sections = g.sections ∙ x.sections;
@@ -344,7 +367,7 @@ pub call_owes : (set : SetPlan) (call : Call) (now : ℕ) (reply : Reply) (log l
     → OwesCall set call now reply log → OwesCall set call now reply later
 call_owes set call_of.ListBuckets now reply log later g x = (whole call_of.ListBuckets log later g x.0, list_buckets_owes reply log later g x.1)
 call_owes set (call_of.CreateBucket bucket) now reply log later g x =
-    (whole (call_of.CreateBucket bucket) log later g x.0, bucket_act_owes bucket _ _ now reply log later g x.1)
+    (whole (call_of.CreateBucket bucket) log later g x.0, bucket_act_owes bucket _ reply log later g x.1)
 call_owes set (call_of.HeadBucket bucket) now reply log later g x =
     (whole (call_of.HeadBucket bucket) log later g x.0, head_bucket_owes bucket reply log later g x.1)
 call_owes set (call_of.GetVersioning bucket) now reply log later g x =

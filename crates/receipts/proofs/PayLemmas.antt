@@ -23,15 +23,15 @@ use Rattle.receipts.specs.Laws.{QuietKeepsPay}
 use Rattle.receipts.specs.Paying.{BodyIsCut, ChangesNothing, DidNoMore, HeadBroke, IsTaleOf, Outcome, Owes, OwesCut, OwesPart, PieceBroke, TellingBroke, TellsFront, TellsOutcome, WasOwed}
 use Rattle.receipts.specs.Paying.Outcome.{CutOff, Replied}
 use Rattle.receipts.specs.Spans.{AreOfVersion, GivesBytes, GivesFound}
-use Rattle.receipts.proofs.GrowLemmas.{Grows, quiet_bodies, quiet_cuts, quiet_grows, quiet_sections, quiet_tales, quiet_untold}
+use Rattle.receipts.proofs.GrowLemmas.{Grows, quiet_bodies, quiet_cuts, quiet_grows, quiet_sections, quiet_tales, quiet_untold, saw_grows}
 use Rattle.receipts.proofs.OweLemmas.{few_blocks}
 
 -- a clash stays one
 met : (bytes : List ℕ) (log later : Log) → Grows log later → WasMet bytes log → WasMet bytes later
 met bytes log later g (inl x) =
-    inl (record { drive = x.drive; name = x.name; place = x.place; more = x.more; called = g.calls _ x.called; piece = x.piece })
+    inl (record { drive = x.drive; name = x.name; place = x.place; more = x.more; called = saw_grows log later x.drive _ g.calls x.called; piece = x.piece })
 met bytes log later g (inr x) =
-    inr (record { drive = x.drive; name = x.name; manifest = x.manifest; canonical = x.canonical; called = g.calls _ x.called; text = x.text })
+    inr (record { drive = x.drive; name = x.name; manifest = x.manifest; canonical = x.canonical; called = saw_grows log later x.drive _ g.calls x.called; text = x.text })
 
 clash_in : (set : SetPlan) (body print : List ℕ) (log later : Log) → Grows log later → ClashIn set body print log → ClashIn set body print later
 clash_in set body print log later g x = record { read = x.read; met = met x.read log later g x.met; clash = x.clash }

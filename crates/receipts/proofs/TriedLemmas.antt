@@ -39,7 +39,7 @@ pub tried_is_told : (log : Log) → NoneBroke (cuts_of log) → tried_of log ≡
 tried_is_told [] none = refl
 tried_is_told (Turned slot made shown ∷ log) none = tried_is_told log none
 tried_is_told (BarredFrom slot why ∷ log) none = tried_is_told log none
-tried_is_told (Called drive seen ∷ log) none = tried_is_told log none
+tried_is_told (Called drive made ∷ log) none = tried_is_told log none
 tried_is_told (Fed bytes None ∷ log) none = tried_is_told log none
 tried_is_told (Fed bytes (Some cut) ∷ log) none = tried_is_told log (none_rest cut (cuts_of log) none)
 tried_is_told (Told telling None ∷ log) none = ap (λ rest. telling ∷ rest) (tried_is_told log none)
@@ -53,7 +53,7 @@ pub told_none : (log : Log) → All IsUntold log → tale_of log ≡ []
 told_none [] none = refl
 told_none (Turned slot made shown ∷ log) none = told_none log (all_tail IsUntold _ log none)
 told_none (BarredFrom slot why ∷ log) none = told_none log (all_tail IsUntold _ log none)
-told_none (Called drive seen ∷ log) none = told_none log (all_tail IsUntold _ log none)
+told_none (Called drive made ∷ log) none = told_none log (all_tail IsUntold _ log none)
 told_none (Fed bytes cut ∷ log) none = told_none log (all_tail IsUntold _ log none)
 told_none (Told telling None ∷ log) none = absurd (all_head IsUntold (Told telling None) log none)
 told_none (Told telling (Some cut) ∷ log) none = told_none log (all_tail IsUntold _ log none)

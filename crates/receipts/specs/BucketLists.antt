@@ -1,5 +1,5 @@
 -- What a ListBuckets owes.
-use Rattle.std.specs.Prelude.{◌≡◌, ◌⊎◌, ℕ, List, ◌∷◌, ◌++◌, All, Contains, Some}
+use Rattle.std.specs.Prelude.{◌≡◌, ◌⊎◌, ℕ, List, All, Contains, Some}
 use Rattle.std.specs.List.Sorted.{IsStrictlySortedBy}
 use Rattle.std.specs.declared.cmp.Ordering.{Ordering}
 use Rattle.bucket_book.specs.Content.{content_of}
@@ -12,29 +12,14 @@ use Rattle.call_types.specs.declared.reply.Reply.TheVariants.{Buckets}
 use Rattle.drive_base.specs.Names.{byte_order}
 use Rattle.receipts.specs.Events.{Log, Section, sections_of}
 use Rattle.receipts.specs.Looks.{LooksAt}
-use Rattle.receipts.specs.Paging.{DoesNothing, ListingIsBarred, ListingIsRefused, ListsPage, Page, Reaches}
+use Rattle.receipts.specs.Paging.{DoesNothing, IsAskedFor, ListingIsBarred, ListingIsRefused}
 use Rattle.receipts.specs.Registers.{bucket_register, bucket_slot}
-
--- a section listed names of a bucket's slot, by a page that reaches the name of the bucket's register
-pub record AsksFor (bucket : List ℕ) (page : Page) (section : Section) : Type 0 where
-  pub lists : ListsPage (bucket_slot bucket) page section
-  pub reaches : Reaches page (bucket_register bucket)
-
--- a bucket was asked for, and where its name was shown its register was looked at later
-pub record IsAskedFor (bucket : List ℕ) (sections : List Section) : Type 0 where
-  pub page : Page
-  pub before : List Section
-  pub asked : Section
-  pub after : List Section
-  pub parts : sections ≡ before ++ asked ∷ after
-  pub asks : AsksFor bucket page asked
-  pub looks : Contains page.names (bucket_register bucket) → (content : List ℕ) × (look : Section) × Contains after look × LooksAt bucket content look
 
 -- a look found the bucket of a row
 pub record FindsRow (row : BucketRow) (section : Section) : Type 0 where
   pub there : BucketRecord
   pub canonical : IsCanonical there
-  pub looks : LooksAt row.name (content_of (Some there)) section
+  pub looks : LooksAt (bucket_slot row.name) (bucket_register row.name) (content_of (Some there)) section
   pub created : row.created ≡ there.created
 
 -- the order of rows: that of their names
@@ -43,7 +28,7 @@ row_order a b = byte_order a.name b.name
 
 -- each bucket was asked for; the rows, which rise by their names, are those of the buckets that looks found; and no section did anything of its own
 pub record BucketsAreListed (rows : List BucketRow) (sections : List Section) : Type 0 where
-  pub asked : (bucket : List ℕ) → IsBucketName bucket → IsAskedFor bucket sections
+  pub asked : (bucket : List ℕ) → IsBucketName bucket → IsAskedFor (bucket_slot bucket) (bucket_register bucket) sections
   pub rising : IsStrictlySortedBy row_order rows
   pub found : All (λ row. (look : Section) × Contains sections look × FindsRow row look) rows
   pub given : (row : BucketRow) (look : Section) → Contains sections look → FindsRow row look → Contains rows row

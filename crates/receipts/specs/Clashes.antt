@@ -1,14 +1,13 @@
 -- Two different byte strings with one SHA-256, of which a call of a log showed one.
-use Rattle.std.specs.Prelude.{◌≡◌, ◌⊎◌, ℕ, List, Contains, length, take, drop}
+use Rattle.std.specs.Prelude.{◌≡◌, ◌⊎◌, ℕ, List, length, take, drop}
 use Rattle.body_print.specs.Clashes.{ClashesWith}
+use Rattle.drive_base.specs.Calls.Seen.{Showed}
 use Rattle.drive_base.specs.declared.plan.SetPlan.{SetPlan}
 use Rattle.manifest_file.specs.Canonical.{IsCanonical}
 use Rattle.manifest_file.specs.Print.{text_under}
 use Rattle.manifest_file.specs.Spelling.{file_of}
 use Rattle.manifest_file.specs.declared.manifest.Manifest.{Manifest}
-use Rattle.receipts.specs.Events.{Log}
-use Rattle.receipts.specs.Events.Event.{Called}
-use Rattle.receipts.specs.Events.Seen.{Showed}
+use Rattle.receipts.specs.Events.{Log, Saw}
 
 -- bytes are a piece of others
 abbrev pub IsPieceOf : List ℕ → List ℕ → Type 0
@@ -20,7 +19,7 @@ pub record WasShown (bytes : List ℕ) (log : Log) : Type 0 where
   pub name : List ℕ
   pub place : ℕ
   pub more : List ℕ
-  pub called : Contains log (Called drive (Showed name place more))
+  pub called : Saw log drive (Showed name place more)
   pub piece : IsPieceOf bytes more
 
 -- a call showed a manifest of which they are the text under the print
@@ -29,7 +28,7 @@ pub record IsShownText (bytes : List ℕ) (log : Log) : Type 0 where
   pub name : List ℕ
   pub manifest : Manifest
   pub canonical : IsCanonical manifest
-  pub called : Contains log (Called drive (Showed name 0 (file_of manifest)))
+  pub called : Saw log drive (Showed name 0 (file_of manifest))
   pub text : bytes ≡ text_under manifest
 
 -- bytes were met

@@ -3,8 +3,11 @@ use Rattle.std.specs.Prelude.{◌≡◌, ◌≢◌, ℕ, List, Option, Some, IsS
 use Rattle.bucket_book.specs.Step.{Step as BucketSteps}
 use Rattle.bucket_book.specs.declared.record.BucketRecord.{BucketRecord}
 use Rattle.bucket_book.specs.declared.step.BucketAct.{BucketAct}
+use Rattle.bucket_book.specs.declared.step.BucketAct.TheVariants.{Make, SetMode as SetModeAct}
 use Rattle.call_types.specs.Refusals.{refusal_of}
 use Rattle.call_types.specs.declared.act.Act.{Act}
+use Rattle.call_types.specs.declared.act.Brief.{Brief}
+use Rattle.call_types.specs.declared.act.Brief.TheVariants.{Change, MakeBucket, Read, SetMode}
 use Rattle.call_types.specs.declared.names.Mode.{Mode}
 use Rattle.call_types.specs.declared.names.Pick.{Pick}
 use Rattle.call_types.specs.declared.refusal.KeyRefusal.{KeyRefusal}
@@ -16,6 +19,7 @@ use Rattle.stamp_id.specs.declared.version.VersionId.{VersionId}
 use Rattle.version_list.specs.Reads.{Reads}
 use Rattle.version_list.specs.Step.{Step, told}
 use Rattle.version_list.specs.declared.state.KeyState.{KeyState}
+use Rattle.receipts.specs.Registers.{key_slot}
 use Rattle.receipts.specs.Spans.{whole_of}
 
 -- an act on a key can have this reply: it drew a change where it makes another state, and what it makes has the id that its slot makes of that change
@@ -45,3 +49,11 @@ pub record IsDueBucket (act : BucketAct) (change : Option ChangeId) (now : ℕ) 
   pub new : Option BucketRecord
   pub drawn : new ≢ old → IsSome change
   pub step : BucketSteps old act now reply new
+
+-- a call that an entry tells of can have this reply. Calls on the parts of uploads are not served yet
+abbrev pub IsDueReply : Brief → Reply → Type 0
+IsDueReply (Read at mode pick) reply = IsDueRead mode pick reply
+IsDueReply (Change at mode act change now) reply = IsDueChange (key_slot at) mode act change now reply
+IsDueReply (MakeBucket bucket change now) reply = IsDueBucket Make change now reply
+IsDueReply (SetMode bucket mode change now) reply = IsDueBucket (SetModeAct mode) change now reply
+IsDueReply other reply = ⊥

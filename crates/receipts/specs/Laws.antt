@@ -23,7 +23,7 @@ use Rattle.desk_base.specs.declared.call.Call.TheVariants.{ListBuckets, CreateBu
 use Rattle.drive_base.specs.declared.plan.SetPlan.{SetPlan}
 use Rattle.stamp_id.specs.declared.stamp.ChangeId.{ChangeId}
 use Rattle.version_list.specs.Answers.{IsServed}
-use Rattle.receipts.specs.Events.{IsQuiet, Log, Note, body_of, cuts_of, notes_of, sections_of, tale_of, tried_of}
+use Rattle.receipts.specs.Events.{IsQuiet, Log, Note, body_of, calls_at, cuts_of, notes_of, sections_of, tale_of, tried_of}
 use Rattle.receipts.specs.Listing.{key_in}
 use Rattle.receipts.specs.Looks.{HasEntry}
 use Rattle.receipts.specs.Owes.{OwesReply}
@@ -32,6 +32,7 @@ use Rattle.receipts.specs.Paying.{ChangesNothing, EndsAs, Outcome, Pays, Receipt
 use Rattle.receipts.specs.Paying.Outcome.{Replied}
 use Rattle.receipts.specs.Putting.{PutsBody}
 use Rattle.receipts.specs.Registers.{bucket_register, bucket_slot, key_register, key_slot}
+use Rattle.stamp_id.specs.declared.version.VersionId.{VersionId}
 
 -- each reading of two logs in a row is that of the first and then that of the second
 abbrev pub SectionsJoin : Type 0
@@ -48,6 +49,9 @@ TalesJoin = (log more : Log) → tale_of (log ++ more) ≡ tale_of log ++ tale_o
 
 abbrev pub CutsJoin : Type 0
 CutsJoin = (log more : Log) → cuts_of (log ++ more) ≡ cuts_of log ++ cuts_of more
+
+abbrev pub CallsJoin : Type 0
+CallsJoin = (k : ℕ) (log more : Log) → calls_at k (log ++ more) ≡ calls_at k log ++ calls_at k more
 
 -- quiet events leave the notes
 abbrev pub QuietKeepsNotes : Type 0
@@ -108,7 +112,7 @@ ShowsAct set (HeadBucket bucket) now body reply notes = IsLookedAtIn (bucket_slo
 ShowsAct set (GetVersioning bucket) now body reply notes = IsLookedAtIn (bucket_slot bucket) (bucket_register bucket) notes
 ShowsAct set (PutVersioning bucket long) now body reply notes = (mode : Mode)
     × IsDoneIn (bucket_slot bucket) (bucket_register bucket) (λ call. (change : Option ChangeId) × (call ≡ brief.SetMode bucket mode change now)) reply notes
-ShowsAct set (Put at kind md5 long) now body reply notes = (done : Act) × PutsBody set kind body done × (length body ≡ long)
+ShowsAct set (Put at kind md5 long) now body reply notes = (id : VersionId) × (done : Act) × PutsBody set kind body id done × (length body ≡ long)
     × IsDoneIn (key_slot at) (key_register at) (λ call. (mode : Mode) × (change : Option ChangeId) × (call ≡ brief.Change at mode done change now)) reply notes
 ShowsAct set (Get at pick ask matches) now body reply notes = (version : Version) × (span whole : Span) × (id : Option VersionName) × (reply ≡ Found version span id)
     × IsDoneIn (key_slot at) (key_register at) (λ call. (mode : Mode) × (call ≡ brief.Read at mode pick)) (Found version whole id) notes

@@ -1,5 +1,5 @@
 -- Why too few drives took a body, or gave one: a letter for each drive, each with the call that it tells of.
-use Rattle.std.specs.Prelude.{◌≡◌, ◌≢◌, ◌⊎◌, ℕ, ◌+◌, ◌*◌, ◌<◌, ◌≤◌, List, [], ◌++◌, Some, Contains, length, take, drop, slice_get, slice_index_or}
+use Rattle.std.specs.Prelude.{◌≡◌, ◌≢◌, ◌⊎◌, ℕ, ◌+◌, ◌*◌, ◌<◌, ◌≤◌, List, [], ◌++◌, Some, length, take, drop, slice_get, slice_index_or}
 use Rattle.std.specs.Int.{IsBitSet}
 use Rattle.std.specs.List.{flat_map, sum_by}
 use Rattle.sha2.specs.Sha256.{sha256}
@@ -8,6 +8,7 @@ use Rattle.call_types.specs.Good.{good_count}
 use Rattle.call_types.specs.declared.why.FileKind.TheVariants.{Format, Manifest as ManifestKind, Register, Shard}
 use Rattle.call_types.specs.declared.why.Why.{Why}
 use Rattle.call_types.specs.declared.why.Why.TheVariants.{Behind, Damaged, Failed, Good, Lacks}
+use Rattle.drive_base.specs.Calls.Seen.{CutShort, Faulted, Missing, Showed, Sized, Unwritten}
 use Rattle.drive_base.specs.Plan.{data_drives, write_drives}
 use Rattle.drive_base.specs.declared.plan.SetPlan.{SetPlan}
 use Rattle.manifest_file.specs.Canonical.{IsCanonical}
@@ -21,9 +22,7 @@ use Rattle.shard_file.specs.Stripes.{block_size, stripe_count, stripe_length, st
 use Rattle.body_print.specs.Names.{loose_manifest_name, loose_shard_name, manifest_name, shard_name}
 use Rattle.desk_base.specs.Telling.{Telling}
 use Rattle.desk_base.specs.Telling.Telling.{Head, Piece}
-use Rattle.receipts.specs.Events.{Log, tale_of}
-use Rattle.receipts.specs.Events.Event.{Called}
-use Rattle.receipts.specs.Events.Seen.{CutShort, Faulted, Missing, Showed, Sized, Unwritten}
+use Rattle.receipts.specs.Events.{Log, Saw, tale_of}
 
 -- a drive is in use
 abbrev pub IsInUse : SetPlan → ℕ → Type 0
@@ -34,16 +33,18 @@ pub record FewGood (set : SetPlan) (need : ℕ) (whys : List Why) : Type 0 where
   pub counted : length whys ≡ set.drives
   pub few : good_count whys < need
 
--- why a drive took the data of an id, or didn't: it is out, one of its calls failed, or it forgot a file just written
+-- why a drive took the data of an id, or didn't: it is out, a call of it that writes or places one of the id's two loose files failed, or it forgot such a
+-- file that was just written
 abbrev pub StageLetter : SetPlan → VersionId → Log → ℕ → Why → Type 0
 StageLetter set id log k Good = IsInUse set k
-StageLetter set id log k (Failed before after) = IsInUse set k × Contains log (Called k (Faulted before after))
+StageLetter set id log k (Failed before after) = IsInUse set k
+    × (Saw log k (Faulted (loose_shard_name id) before after) ⊎ Saw log k (Faulted (loose_manifest_name id) before after))
 StageLetter set id log k (Damaged damage) = ⊥
 StageLetter set id log k (Behind ballot) = ⊥
 StageLetter set id log k (Lacks Format) = IsBitSet set.out k
 StageLetter set id log k (Lacks Register) = ⊥
-StageLetter set id log k (Lacks ManifestKind) = IsInUse set k × Contains log (Called k (Unwritten (loose_manifest_name id)))
-StageLetter set id log k (Lacks Shard) = IsInUse set k × Contains log (Called k (Unwritten (loose_shard_name id)))
+StageLetter set id log k (Lacks ManifestKind) = IsInUse set k × Saw log k (Unwritten (loose_manifest_name id))
+StageLetter set id log k (Lacks Shard) = IsInUse set k × Saw log k (Unwritten (loose_shard_name id))
 
 -- fewer drives than a write needs took a body, which was staged under an id of a slot
 pub record FewTook (set : SetPlan) (slot : ℕ) (whys : List Why) (log : Log) : Type 0 where
@@ -72,32 +73,32 @@ pub record Serves (set : SetPlan) (wanted : Wanted) (m : Manifest) : Type 0 wher
 
 -- a drive told the length of a file, and then less of it came, or the whole, which is that of no manifest that serves
 pub record IsUnserved (set : SetPlan) (wanted : Wanted) (log : Log) (k : ℕ) (file : List ℕ) : Type 0 where
-  pub sized : Contains log (Called k (Sized (manifest_name wanted.id) (length file)))
-  pub showed : Contains log (Called k (Showed (manifest_name wanted.id) 0 file))
+  pub sized : Saw log k (Sized (manifest_name wanted.id) (length file))
+  pub showed : Saw log k (Showed (manifest_name wanted.id) 0 file)
   pub none : (m : Manifest) → Serves set wanted m → file ≢ file_of m
 
 pub record IsCutManifest (wanted : Wanted) (log : Log) (k : ℕ) : Type 0 where
   pub long : ℕ
-  pub sized : Contains log (Called k (Sized (manifest_name wanted.id) long))
+  pub sized : Saw log k (Sized (manifest_name wanted.id) long)
   pub place : ℕ
-  pub short : Contains log (Called k (CutShort (manifest_name wanted.id) 0 long place))
+  pub short : Saw log k (CutShort (manifest_name wanted.id) 0 long place)
 
 -- a drive's manifest is damaged: it is longer than each manifest, or no manifest that serves
 abbrev pub IsBadManifest : SetPlan → Wanted → Log → ℕ → Type 0
 IsBadManifest set wanted log k =
-    ((long : ℕ) × Contains log (Called k (Sized (manifest_name wanted.id) long)) × (LONGEST_FILE < long))
+    ((long : ℕ) × Saw log k (Sized (manifest_name wanted.id) long) × (LONGEST_FILE < long))
     ⊎ IsCutManifest wanted log k
     ⊎ ((file : List ℕ) × IsUnserved set wanted log k file)
 
 -- why a drive gave no manifest that serves
 abbrev pub ManifestLetter : SetPlan → Wanted → Log → ℕ → Why → Type 0
 ManifestLetter set wanted log k Good = ⊥
-ManifestLetter set wanted log k (Failed before after) = IsInUse set k × Contains log (Called k (Faulted before after))
+ManifestLetter set wanted log k (Failed before after) = IsInUse set k × Saw log k (Faulted (manifest_name wanted.id) before after)
 ManifestLetter set wanted log k (Damaged damage) = IsInUse set k × IsBadManifest set wanted log k
 ManifestLetter set wanted log k (Behind ballot) = ⊥
 ManifestLetter set wanted log k (Lacks Format) = IsBitSet set.out k
 ManifestLetter set wanted log k (Lacks Register) = ⊥
-ManifestLetter set wanted log k (Lacks ManifestKind) = IsInUse set k × Contains log (Called k (Missing (manifest_name wanted.id)))
+ManifestLetter set wanted log k (Lacks ManifestKind) = IsInUse set k × Saw log k (Missing (manifest_name wanted.id))
 ManifestLetter set wanted log k (Lacks Shard) = ⊥
 
 -- no drive gave a manifest that serves
@@ -110,7 +111,7 @@ pub record ShowedAt (log : Log) (k : ℕ) (name : List ℕ) (place : ℕ) (bytes
   pub from : ℕ
   pub gap : ℕ
   pub more : List ℕ
-  pub called : Contains log (Called k (Showed name from more))
+  pub called : Saw log k (Showed name from more)
   pub place_is : place ≡ from + gap
   pub piece : bytes ≡ take (length bytes) (drop gap more)
 
@@ -153,7 +154,7 @@ pub record IsCutShard (wants : Wants) (since : Log) (k : ℕ) : Type 0 where
   pub ends : ℕ
   pub asked : ((place ≡ table_place wants.d wants.part.length) × (long ≡ 32 * stripe_count wants.part.length))
       ⊎ ((place ≡ block_place wants.d wants.stripe) × (long ≡ block_size wants.d (stripe_length wants.part.length wants.stripe)))
-  pub short : Contains since (Called k (CutShort (shard_name wants.part.id) place long ends))
+  pub short : Saw since k (CutShort (shard_name wants.part.id) place long ends)
 
 -- a drive's shard is damaged where this block is read
 abbrev pub IsBadShard : Wants → Log → Log → ℕ → Type 0
@@ -171,13 +172,13 @@ pub record IsGoodBlock (wants : Wants) (log since : Log) (k : ℕ) : Type 0 wher
 -- why a drive gave a verified block of a stripe, or none: the calls since then tell why, and a table may have been shown before
 abbrev pub BlockLetter : SetPlan → Wants → Log → Log → ℕ → Why → Type 0
 BlockLetter set wants log since k Good = IsInUse set k × IsGoodBlock wants log since k
-BlockLetter set wants log since k (Failed before after) = IsInUse set k × Contains since (Called k (Faulted before after))
+BlockLetter set wants log since k (Failed before after) = IsInUse set k × Saw since k (Faulted (shard_name wants.part.id) before after)
 BlockLetter set wants log since k (Damaged damage) = IsInUse set k × IsBadShard wants log since k
 BlockLetter set wants log since k (Behind ballot) = ⊥
 BlockLetter set wants log since k (Lacks Format) = IsBitSet set.out k
 BlockLetter set wants log since k (Lacks Register) = ⊥
 BlockLetter set wants log since k (Lacks ManifestKind) = ⊥
-BlockLetter set wants log since k (Lacks Shard) = IsInUse set k × Contains since (Called k (Missing (shard_name wants.part.id)))
+BlockLetter set wants log since k (Lacks Shard) = IsInUse set k × Saw since k (Missing (shard_name wants.part.id))
 
 -- a place of a body is in this stripe of a part of its manifest
 pub record IsInStripe (m : Manifest) (at number : ℕ) (part : ManifestPart) (stripe : ℕ) : Type 0 where
@@ -199,7 +200,7 @@ told_bytes log = flat_map bytes_in (tale_of log)
 pub record IsSinceTurned (log since : Log) (drive : ℕ) (name file : List ℕ) : Type 0 where
   pub before : Log
   pub parts : log ≡ before ++ since
-  pub showed : Contains before (Called drive (Showed name 0 file))
+  pub showed : Saw before drive (Showed name 0 file)
   pub recent : length (told_bytes since) ≤ 3 * stripe_size
 
 -- of the stripe that has the next byte fewer drives than it has data blocks gave one, by the calls since its window was begun, behind a manifest that serves

@@ -1,3 +1,4 @@
+pub mod Asking
 pub mod BucketLists
 pub mod Bucketing
 pub mod Clashes
@@ -17,3 +18,4 @@ pub mod Putting
 pub mod Reading
 pub mod Registers
 pub mod Spans
+pub mod Staging

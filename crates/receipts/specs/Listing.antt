@@ -1,8 +1,7 @@
 -- What ListObjectsV2 and ListObjectVersions owe.
-use Rattle.std.specs.Prelude.{◌≡◌, ◌⊎◌, ℕ, ◌<◌, Bool, true, false, List, [], ◌∷◌, ◌++◌, All, Contains, map, take, Option, Some, None, MatchOption}
+use Rattle.std.specs.Prelude.{◌≡◌, ◌⊎◌, ℕ, ◌<◌, true, false, List, ◌∷◌, All, Contains, map, take, Some, MatchOption}
 use Rattle.std.specs.List.Sorted.{IsStrictlySortedBy}
 use Rattle.std.specs.declared.cmp.Ordering.{Ordering}
-use Rattle.audit_trail.specs.declared.entry.Deed.TheVariants.{Kept}
 use Rattle.call_types.specs.declared.names.Key.{Key}
 use Rattle.call_types.specs.declared.names.Mode.{Mode}
 use Rattle.call_types.specs.declared.reply.Reply.{Reply}
@@ -14,10 +13,9 @@ use Rattle.drive_base.specs.Names.{byte_order}
 use Rattle.version_list.specs.Spelling.{spelling}
 use Rattle.version_list.specs.State.{IsCanonical}
 use Rattle.receipts.specs.Events.{Log, Section, sections_of}
-use Rattle.receipts.specs.Events.Shown.{ContentShown}
-use Rattle.receipts.specs.Looks.{EndsAtLook, FindsBucket, HasEntry}
+use Rattle.receipts.specs.Looks.{EndsAtLook, FindsBucket, LooksAt}
 use Rattle.receipts.specs.Pages.{Candidate, PageRule, group_in, group_of, is_before, is_truncated, keys_rule, last_given, name_of, page_of, row_name, rows_of, versions_rule, wants}
-use Rattle.receipts.specs.Paging.{DoesNothing, ListingIsBarred, ListingIsRefused, ListsPage, Page, Reaches}
+use Rattle.receipts.specs.Paging.{DoesNothing, IsAskedFor, ListingIsBarred, ListingIsRefused}
 use Rattle.receipts.specs.Registers.{key_register, key_slot}
 
 -- a key of a bucket
@@ -26,23 +24,14 @@ key_in bucket key = record { bucket = bucket; key = key }
 
 -- a section looked at the register of a key, and was shown the spelling of its state
 pub record ViewsKey (bucket : List ℕ) (candidate : Candidate) (section : Section) : Type 0 where
-  pub entry : HasEntry (key_slot (key_in bucket candidate.key)) (key_register (key_in bucket candidate.key)) Kept section.note
-  pub unrefused : section.note.refusal ≡ None
   pub canonical : IsCanonical candidate.state
-  pub shown : section.shown ≡ ContentShown (spelling candidate.state)
+  pub looks : LooksAt (key_slot (key_in bucket candidate.key)) (key_register (key_in bucket candidate.key)) (spelling candidate.state) section
 
--- a key was asked for: its slot listed names by a page that reaches the name of its register, and where that name was shown, a later look gave one of the
--- candidates
+-- a key was asked for, and where its name was shown, the later look gave one of the candidates
 pub record KeyIsAskedFor (bucket key : List ℕ) (looked : List Candidate) (sections : List Section) : Type 0 where
-  pub page : Page
-  pub before : List Section
-  pub asked : Section
-  pub after : List Section
-  pub parts : sections ≡ before ++ asked ∷ after
-  pub lists : ListsPage (key_slot (key_in bucket key)) page asked
-  pub reaches : Reaches page (key_register (key_in bucket key))
-  pub looks : Contains page.names (key_register (key_in bucket key)) → (candidate : Candidate) × (candidate.key ≡ key) × Contains looked candidate
-      × (look : Section) × Contains after look × ViewsKey bucket candidate look
+  pub asked : IsAskedFor (key_slot (key_in bucket key)) (key_register (key_in bucket key)) sections
+  pub given : (shown : Contains asked.page.names (key_register (key_in bucket key)))
+      → (candidate : Candidate) × (candidate.key ≡ key) × Contains looked candidate × ViewsKey bucket candidate (asked.looks shown).1
 
 -- a key is due on a page: it isn't left out, it is in no group that is a row of the page, and where the page is cut it isn't behind its last row
 pub record IsDue (rule : PageRule) (rows : List VersionRow) (key : List ℕ) : Type 0 where

@@ -46,21 +46,21 @@ pub record TellsRefusal (slot : ℕ) (note : Note) (reply : Reply) : Type 0 wher
 abbrev pub IsIdle : ℕ → List ℕ → Note → Type 0
 IsIdle slot name note = (note.entry ≡ None) ⊎ HasEntry slot name Kept note
 
--- a section looked at the register of a bucket, and was shown this content
-pub record LooksAt (bucket content : List ℕ) (section : Section) : Type 0 where
-  pub entry : HasEntry (bucket_slot bucket) (bucket_register bucket) Kept section.note
+-- a section of this slot looked at the register of this name, and was shown this content
+pub record LooksAt (slot : ℕ) (register content : List ℕ) (section : Section) : Type 0 where
+  pub entry : HasEntry slot register Kept section.note
   pub unrefused : section.note.refusal ≡ None
   pub shown : section.shown ≡ ContentShown content
 
--- it was shown a bucket of this mode
+-- one looked at the register of a bucket, and was shown a bucket of this mode
 pub record FindsBucket (bucket : List ℕ) (mode : Mode) (section : Section) : Type 0 where
   pub content : List ℕ
-  pub looks : LooksAt bucket content section
+  pub looks : LooksAt (bucket_slot bucket) (bucket_register bucket) content section
   pub is_bucket : IsBucketOf content mode
 
 -- it was shown that there is none
 abbrev pub LacksBucket : List ℕ → Section → Type 0
-LacksBucket bucket section = LooksAt bucket (content_of None) section
+LacksBucket bucket section = LooksAt (bucket_slot bucket) (bucket_register bucket) (content_of None) section
 
 -- a section of this slot could not be done, since the slot's turns are spent
 pub record TellsSpent (slot : ℕ) (reply : Reply) (log : Log) : Type 0 where
@@ -74,18 +74,20 @@ pub record BucketIsLacking (bucket : List ℕ) (reply : Reply) (log : Log) : Typ
   pub lacks : LacksBucket bucket look
   pub told : reply ≡ Refused NoSuchBucket
 
--- or it is refused
-pub record LookIsRefused (bucket : List ℕ) (reply : Reply) (log : Log) : Type 0 where
+-- a look at a register, which is a call's one section so far, is refused
+pub record LookIsRefused (slot : ℕ) (register : List ℕ) (reply : Reply) (log : Log) : Type 0 where
   pub look : Section
   pub sections : sections_of log ≡ look ∷ []
-  pub idle : IsIdle (bucket_slot bucket) (bucket_register bucket) look.note
-  pub refuses : TellsRefusal (bucket_slot bucket) look.note reply
+  pub idle : IsIdle slot register look.note
+  pub refuses : TellsRefusal slot look.note reply
 
--- or it could not be done
-pub record LookIsBarred (bucket : List ℕ) (reply : Reply) (log : Log) : Type 0 where
+-- a call's first section, one of this slot, could not be done
+pub record FirstIsBarred (slot : ℕ) (reply : Reply) (log : Log) : Type 0 where
   pub sections : sections_of log ≡ []
-  pub barred : TellsSpent (bucket_slot bucket) reply log
+  pub barred : TellsSpent slot reply log
 
 -- how a call ends at the look at its bucket
 abbrev pub EndsAtLook : List ℕ → Reply → Log → Type 0
-EndsAtLook bucket reply log = BucketIsLacking bucket reply log ⊎ LookIsRefused bucket reply log ⊎ LookIsBarred bucket reply log
+EndsAtLook bucket reply log = BucketIsLacking bucket reply log
+    ⊎ LookIsRefused (bucket_slot bucket) (bucket_register bucket) reply log
+    ⊎ FirstIsBarred (bucket_slot bucket) reply log

@@ -2,7 +2,6 @@
 use Rattle.std.specs.Prelude.{ℕ, ◌+◌, Bool, true, false, not, nat_lt, ◌==◌, ◌&&◌, ◌||◌, if◌then◌else◌, List, [], ◌∷◌, ◌++◌, length, map, take, drop, fold, bytes_eq, position, Option, Some, None, is_some, option_map, unwrap_or}
 use Rattle.std.specs.List.{last_or, starts_with}
 use Rattle.std.specs.Ordering.{is_lt}
-use Rattle.call_types.specs.declared.names.Etag.{Etag}
 use Rattle.call_types.specs.declared.names.VersionName.{VersionName}
 use Rattle.call_types.specs.declared.reply.PageCut.{PageCut}
 use Rattle.call_types.specs.declared.reply.PageRow.{PageRow}

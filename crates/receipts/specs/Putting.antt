@@ -1,5 +1,5 @@
 -- What PutObject owes.
-use Rattle.std.specs.Prelude.{◌≡◌, ◌≢◌, ◌⊎◌, ℕ, List, [], ◌∷◌, length, Option, Some, None}
+use Rattle.std.specs.Prelude.{◌≡◌, ◌≢◌, ◌⊎◌, ℕ, List, [], ◌∷◌, ◌++◌, length, Option, Some, None}
 use Rattle.md5.specs.Md5.{md5}
 use Rattle.body_print.specs.Prints.{HasPrint}
 use Rattle.call_types.specs.declared.act.Act.{Act}
@@ -12,27 +12,33 @@ use Rattle.call_types.specs.declared.reply.Reply.TheVariants.{Refused}
 use Rattle.call_types.specs.declared.why.Why.{Why}
 use Rattle.drive_base.specs.declared.plan.SetPlan.{SetPlan}
 use Rattle.stamp_id.specs.declared.version.VersionId.{VersionId}
-use Rattle.receipts.specs.Committing.{EndsAtCommit, HasLooked, KeyIsBarred}
+use Rattle.receipts.specs.Committing.{HasLooked, KeyIsBarred, KeyIsCommitted}
 use Rattle.receipts.specs.Events.{Log, Section, body_of, sections_of}
 use Rattle.receipts.specs.Letters.{FewTook}
 use Rattle.receipts.specs.Looks.{EndsAtLook, FindsBucket, TellsRefusal}
 use Rattle.receipts.specs.Registers.{key_slot}
+use Rattle.receipts.specs.Staging.{IsStaged}
 
--- an act puts a body: its print, its length and its MD5 are the body's
-pub record PutsBody (set : SetPlan) (kind body : List ℕ) (done : Act) : Type 0 where
-  pub data_id : VersionId
+-- an act puts a body whose data has this id: its print, its length and its MD5 are the body's
+pub record PutsBody (set : SetPlan) (kind body : List ℕ) (id : VersionId) (done : Act) : Type 0 where
   pub print : List ℕ
-  pub is : done ≡ act.Put data_id print (length body) (md5 body) kind
+  pub is : done ≡ act.Put id print (length body) (md5 body) kind
   pub printed : HasPrint set.drives set.parity body print
 
 -- the MD5 that was stated, if any, is the body's
 abbrev pub IsAgreed : Option (List ℕ) → List ℕ → Type 0
 IsAgreed stated body = (given : List ℕ) → stated ≡ Some given → given ≡ md5 body
 
--- the body was put, or its commit was refused
+-- the body was put, or its commit was refused: it was staged before its one section behind the look at the bucket
 pub record PutIsCommitted (set : SetPlan) (at : Key) (kind : List ℕ) (stated : Option (List ℕ)) (now : ℕ) (reply : Reply) (log : Log) : Type 0 where
   pub agreed : IsAgreed stated (body_of log)
-  pub commit : EndsAtCommit at now (PutsBody set kind (body_of log)) reply log
+  pub id : VersionId
+  pub front : Log
+  pub rest : Log
+  pub parts : log ≡ front ++ rest
+  pub looked : HasLooked at.bucket front
+  pub staged : IsStaged set at id (body_of log) front
+  pub commit : KeyIsCommitted at now (PutsBody set kind (body_of log) id) reply log
 
 -- the put could not begin, since the slot's numbers are spent
 pub record PutIsNotBegun (at : Key) (reply : Reply) (log : Log) : Type 0 where

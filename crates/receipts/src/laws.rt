@@ -1,7 +1,8 @@
 //! The laws of what calls owe.
 
+ghost use Rattle.receipts.specs.Asking.{PutsAskDrives, PutsReachAll, RefusedReadsAskDrives};
 ghost use Rattle.receipts.specs.Laws.{CutBodyChangesNothing, NotesAreOwed, OutcomesAreOne, PayIsTold, ReceiptShowsAct};
-ghost use Rattle.receipts.specs.Laws.{BodiesJoin, CutsJoin, NotesJoin, SectionsJoin, TalesJoin};
+ghost use Rattle.receipts.specs.Laws.{BodiesJoin, CallsJoin, CutsJoin, NotesJoin, SectionsJoin, TalesJoin};
 ghost use Rattle.receipts.specs.Laws.{QuietKeepsNotes, QuietKeepsPay, QuietKeepsReply};
 
 /// Each reading of two logs in a row is that of the first and then that of the second. It does nothing.
@@ -11,6 +12,7 @@ pub fn join_law()
     ensures bodies { BodiesJoin }
     ensures tales { TalesJoin }
     ensures cuts { CutsJoin }
+    ensures calls { CallsJoin }
 {}
 
 /// Quiet events leave the notes, the reply that is owed, and what is paid. It does nothing.
@@ -31,4 +33,12 @@ pub fn outcome_law()
 pub fn act_law()
     ensures act { ReceiptShowsAct }
     ensures notes { NotesAreOwed }
+{}
+
+/// Whatever drives tell, no body is put by a log that has no call of a data drive. Where one is put each drive in use took its shard and its manifest, but where
+/// a call of it failed or it forgot. And no read is refused for want of manifests by a log that leaves a drive in use uncalled. It does nothing.
+pub fn asking_law()
+    ensures puts { PutsAskDrives }
+    ensures all { PutsReachAll }
+    ensures reads { RefusedReadsAskDrives }
 {}

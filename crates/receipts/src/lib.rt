@@ -13,4 +13,4 @@ mod barred;
 mod laws;
 
 pub use barred::Barred;
-pub use laws::{act_law, join_law, outcome_law, quiet_law};
+pub use laws::{act_law, asking_law, join_law, outcome_law, quiet_law};

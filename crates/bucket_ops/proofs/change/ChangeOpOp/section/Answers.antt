@@ -22,6 +22,6 @@ returns-clause-turns g c =
       checks = turn.checks;
       cause = turn.cause;
       leaves = turn.leaves fits;
-      read = record { long = c.commit-turn.auto.disks; files = turn.disk_files; tells = turn.disk_tells; counts = turn.disk_counts };
+      read = turn.disks_read;
     })
     turn.cause c.after_commit.ensures

@@ -42,6 +42,6 @@ returns-in-Looking-clause-turns g c =
       holds = peek.holds;
       cause = peek.cause;
       leaves = peek.leaves;
-      read = record { long = c.peek-turn.auto.disks; files = peek.disk_files; tells = peek.disk_tells; counts = peek.disk_counts };
+      read = peek.disks_read;
     })
     c.after_look-state.ensures.after))

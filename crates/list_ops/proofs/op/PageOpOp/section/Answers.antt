@@ -67,6 +67,6 @@ returns-in-Viewing-clause-turns g c =
       holds = peek.holds;
       cause = peek.cause;
       leaves = peek.leaves;
-      read = record { long = c.peek-turn.auto.disks; files = peek.disk_files; tells = peek.disk_tells; counts = peek.disk_counts };
+      read = peek.disks_read;
     })
     c.after_view-state.ensures.after))
