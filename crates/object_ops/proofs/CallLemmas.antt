@@ -1,56 +1,76 @@
--- What the call that removes a file gave, and where among the drives.
-use Rattle.std.proofs.Common.{◌≡◌, ◌≢◌, ◌⊎◌, ◌<◌, ◌∙◌, ◌+◌, ◌^◌, ◌==◌, ℕ, suc, true, false, bit_and, IsTrue, List, [], ◌∷◌, ◌++◌, All, Result, Ok, Err, append-nil, append_assoc, cond, length, slice_index_or, slice_set, get_or-set_other, get_or-set_same, inl, inr, refl, sym, ap, ap₂, subst, subst₂, arith}
+-- The call that removes a file, what it leaves, and where among the drives it is made.
+use Rattle.std.proofs.Common.{◌≡◌, ◌≢◌, ◌⊎◌, ◌<◌, ◌∙◌, ◌+◌, ◌^◌, ◌==◌, ℕ, suc, true, false, bit_and, IsTrue, List, [], ◌∷◌, ◌++◌, All, None, Result, Ok, Err, append-nil, append_assoc, cond, length, slice_index_or, slice_set, get_or-set_other, get_or-set_same, inl, inr, refl, sym, ap, ap₂, subst, subst₂, arith}
 use Rattle.std.specs.Int.{IsBitSet}
 use Rattle.std.proofs.lemmas.Bool.Decides.{eqb_tells}
 use Rattle.std.proofs.lemmas.List.{length-set, map-set, map_push}
-use Rattle.drive_base.specs.Faults.{Counts}
-use Rattle.drive_base.specs.Leaves.{RemoveLeaves}
-use Rattle.drive_base.specs.View.{DriveView, blank_view, view, view_at, views}
+use Rattle.drive_base.specs.Calls.{AnswerTells, MadeCall, Seen}
+use Rattle.drive_base.specs.Calls.Seen.{CutShort, Faulted, Missing, Showed, Sized, Unwritten}
+use Rattle.drive_base.specs.DriveModel.{DriveModel}
+use Rattle.drive_base.specs.Files.{with_placed}
+use Rattle.drive_base.specs.Trail.{DriveCall, Remove}
+use Rattle.drive_base.specs.View.{DriveView, GoesOn, blank_view, view, view_at, views}
 use Rattle.drive_base.specs.declared.drive.Drive.{Ghosts}
 use Rattle.drive_base.specs.declared.plan.SetPlan.{SetPlan}
 use Rattle.stamp_id.specs.declared.version.VersionId.{VersionId}
 use Rattle.drive_base.specs.declared.fault.DriveFault.{DriveFault}
 use Rattle.drive_base.specs.declared.fault.DriveFault.TheVariants.{Absent, Failed, NoMemory}
+use Rattle.drive_base.proofs.CallLemmas.{calls_go_on}
 use Rattle.drive_base.proofs.ViewLemmas.{length-views, view_at-views}
-use Rattle.receipts.specs.Events.{Seen}
-use Rattle.receipts.specs.Events.Seen.{Faulted, Missing, Wrote}
+use Rattle.op_steps.specs.Moves.{SaysUnwritten}
 use Rattle.object_ops.specs.Clearing.{RemovesOne}
 use Rattle.object_ops.specs.DataNames.{name_by}
 use Rattle.object_ops.specs.Removing.{FileOn, RemoveCall, drives_below, files_of, of_drives}
 use Rattle.object_ops.specs.declared.removal.DataFile.{DataFile}
 use Rattle.object_ops.specs.declared.removal.Removal.{Removal}
 
--- what a call gave, by its answer
-pub removed_so : {T : Type 0} (name : List ℕ) (result : Result T DriveFault) (old new : DriveView) → new.tells ≡ old.tells → Counts result old.count new.count
-    → (IsTrue old.tells → RemoveLeaves old.files name result new.files) → (seen : Seen) × RemoveCall name seen old new
-removed_so name (Ok done) old new tells counts leaves = (
-  Wrote,
+-- it tells that nothing was being written under a loose name
+abbrev pub IsUnwritten : Seen → Type 0
+IsUnwritten (Unwritten loose) = Unit {0}
+IsUnwritten (Sized name n) = ⊥
+IsUnwritten (Showed name at bytes) = ⊥
+IsUnwritten (CutShort name at long place) = ⊥
+IsUnwritten (Missing name) = ⊥
+IsUnwritten (Faulted name before after) = ⊥
+
+pub told_unwritten : (loose : List ℕ) (seen : Seen) → Unwritten loose ≡ seen → IsUnwritten seen
+told_unwritten loose seen is = subst IsUnwritten is tt
+
+-- the call that was made, by its answer
+pub removed_so : (name : List ℕ) (result : Result (Unit {0}) DriveFault) (old new : DriveView) → DriveModel (Remove name result) old new
+    → (made : MadeCall) × RemoveCall name made old new
+removed_so name result old new model = (
+  record { call = Remove name result; before = old.count; after = new.count },
   record {
-    was_so = counts;
-    removes = λ says. says;
-    goes_on = record { tells = tells; count = omega (arith, counts) };
-    files = λ told. inr (leaves told).1;
+    answer = result;
+    is = refl;
+    was_made = record { model = model; before = refl; after = refl; bytes = λ place. omega arith };
   },
 )
-removed_so name (Err Absent) old new tells counts leaves = (
-  Missing name,
-  record {
-    was_so = (counts, λ told. (leaves told).0);
-    removes = λ says. says;
-    goes_on = record { tells = tells; count = omega (arith, counts) };
-    files = λ told. inl (leaves told).1;
-  },
-)
-removed_so name (Err Failed) old new tells counts leaves = (
-  Faulted old.count new.count,
-  record {
-    was_so = (refl, refl, counts);
-    removes = λ says. says;
-    goes_on = record { tells = tells; count = counts.0 };
-    files = leaves;
-  },
-)
-removed_so name (Err NoMemory) old new tells counts leaves = absurd counts
+
+-- what it leaves of a drive
+module _ (name : List ℕ) (made : MadeCall) (old new : DriveView) (x : RemoveCall name made old new) where
+  pub removal_goes_on : GoesOn old new
+  removal_goes_on = calls_go_on made.call old new x.was_made.model
+
+  -- the file is gone, or all stays
+  pub removal_leaves : IsTrue old.tells → (new.files ≡ old.files) ⊎ (new.files ≡ with_placed old.files name None)
+  removal_leaves told = by x.answer (subst (λ (c : DriveCall). DriveModel c old new) x.is x.was_made.model)
+    where
+      by : (answer : Result (Unit {0}) DriveFault) → DriveModel (Remove name answer) old new → (new.files ≡ old.files) ⊎ (new.files ≡ with_placed old.files name None)
+      by (Ok done) model = inr (model.files told).1
+      by (Err Absent) model = inl (model.files told).1
+      by (Err Failed) model = model.files told
+      by (Err NoMemory) model = absurd (model.files told)
+
+  -- it tells of no loose file
+  pub removal_written : SaysUnwritten made → ⊥
+  removal_written says = by x.answer (subst (λ (c : DriveCall). AnswerTells c made.before made.after (Unwritten says.0)) x.is says.1)
+    where
+      by : (answer : Result (Unit {0}) DriveFault) → AnswerTells (Remove name answer) made.before made.after (Unwritten says.0) → ⊥
+      by (Ok done) tells = tells
+      by (Err Absent) tells = told_unwritten says.0 (Missing name) tells
+      by (Err Failed) tells = told_unwritten says.0 (Faulted name made.before made.after) tells
+      by (Err NoMemory) tells = tells
 
 -- one drive of a list was called, and the others are as before
 module _ {D : Type 0} (ghosts : Ghosts D) (old : List D) (was now : D) where
@@ -66,22 +86,22 @@ module _ {D : Type 0} (ghosts : Ghosts D) (old : List D) (was now : D) where
   beside k other apart =
       ap (λ (l : List DriveView). view_at l other) (map-set (view ghosts) old k now) ∙ get_or-set_other (views ghosts old) k other (view ghosts now) blank_view apart
 
-  pub called_at : (name : List ℕ) (k : ℕ) → k < length old → slice_index_or old k was ≡ was → (seen : Seen) × RemoveCall name seen (view ghosts was) (view ghosts now)
-      → (seen : Seen) × RemoveCall name seen (view_at (views ghosts old) k) (view_at (views ghosts (slice_set old k now)) k)
+  pub called_at : (name : List ℕ) (k : ℕ) → k < length old → slice_index_or old k was ≡ was → (made : MadeCall) × RemoveCall name made (view ghosts was) (view ghosts now)
+      → (made : MadeCall) × RemoveCall name made (view_at (views ghosts old) k) (view_at (views ghosts (slice_set old k now)) k)
   called_at name k low is call =
-      subst₂ (λ (a b : DriveView). (seen : Seen) × RemoveCall name seen a b) (sym (seen_at k low is)) (sym (seen_then k low)) call
+      subst₂ (λ (a b : DriveView). (made : MadeCall) × RemoveCall name made a b) (sym (seen_at k low is)) (sym (seen_then k low)) call
 
 -- the first removal of those that are left was done
 pub removes_one : {D : Type 0} (ghosts : Ghosts D) (removal : Removal) (queue less : List Removal) (name : List ℕ) (old new : List D) → queue ≡ removal ∷ less
     → removal.drive < length old → name ≡ name_by removal.kind removal.id → length new ≡ length old
-    → (seen : Seen) × RemoveCall name seen (view_at (views ghosts old) removal.drive) (view_at (views ghosts new) removal.drive)
+    → (made : MadeCall) × RemoveCall name made (view_at (views ghosts old) removal.drive) (view_at (views ghosts new) removal.drive)
     → ((other : ℕ) → other ≢ removal.drive → view_at (views ghosts new) other ≡ view_at (views ghosts old) other)
     → RemovesOne (files_of queue) (files_of less) (views ghosts old) (views ghosts new)
 removes_one ghosts removal queue less name old new first low named long call others = record {
   file = record { id = removal.id; kind = removal.kind; drive = removal.drive };
   first = ap files_of first;
   within = (let viewed = length-views ghosts old in omega (arith, viewed, low));
-  seen = call.0;
+  made = call.0;
   call = subst (λ (n : List ℕ). RemoveCall n call.0 (view_at (views ghosts old) removal.drive) (view_at (views ghosts new) removal.drive)) named call.1;
   long = length-views ghosts new ∙ (long ∙ sym (length-views ghosts old));
   others = others;

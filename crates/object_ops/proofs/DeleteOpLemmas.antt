@@ -1,5 +1,5 @@
 -- The steps of a DeleteObject, as an op does them.
-use Rattle.std.proofs.Common.{◌≡◌, ◌<◌, ◌∙◌, ℕ, List, [], ◌∷◌, ◌++◌, Option, None, Result, Ok, Err, IfOk, refl, sym, ap, subst}
+use Rattle.std.proofs.Common.{◌≡◌, ◌<◌, ◌∙◌, ℕ, List, [], ◌∷◌, ◌++◌, Option, None, Result, Ok, Err, IfOk, inl, refl, sym, ap, subst}
 use Rattle.call_types.specs.declared.act.Act.TheVariants.{Delete as DeleteAct}
 use Rattle.call_types.specs.declared.feed.Cut.{Cut}
 use Rattle.call_types.specs.declared.names.Key.{Key}
@@ -143,14 +143,14 @@ module _ (set : SetPlan) (at : Key) (pick : Pick) (now : ℕ) where
   data_so clearing cleared state old new step due one claim log x =
       let told = told_by_data clearing state step in
       let own : claim.slot ≡ key_slot at = ap (λ (c : Claim). c.slot) x.holds in
-      let taken : claim.taken ≡ ids_of (files_left clearing) = ap (λ (c : Claim). c.taken) x.holds in (
+      let taken : claim.taken ≡ ids_of (files_left clearing) = ap (λ (c : Claim). c.taken) x.holds in inl (
         with_taken claim (ids_of (files_left cleared)),
         one.file.drive,
-        one.seen,
+        one.made,
         record {
           holds = ap (λ (c : Claim). with_taken c (ids_of (files_left cleared))) x.holds;
-          done = subst (λ (s : DeleteState). HasDeleted set at pick task s (log ++ Called one.file.drive one.seen ∷ [])) (sym told.1)
-              (pays_on set task told.0 log (Called one.file.drive one.seen) tt (done_at state (Told told.0) log told.1 x.done));
+          done = subst (λ (s : DeleteState). HasDeleted set at pick task s (log ++ Called one.file.drive one.made ∷ [])) (sym told.1)
+              (pays_on set task told.0 log (Called one.file.drive one.made) tt (done_at state (Told told.0) log told.1 x.done));
         },
         removal_is_call set (key_slot at) (files_left clearing) (files_left cleared) old new claim due own taken one,
       )

@@ -13,7 +13,7 @@ use Rattle.call_types.specs.declared.reply.Reply.{Reply}
 use Rattle.desk_base.specs.Answering.{Task}
 use Rattle.desk_base.specs.Telling.{Effect, Telling as Utterance}
 use Rattle.desk_base.specs.Telling.Telling.{Head as TheHead, Piece}
-use Rattle.drive_base.specs.View.{AllOnlyRead, views}
+use Rattle.drive_base.specs.View.{views}
 use Rattle.drive_base.specs.declared.drive.Drive.{Ghosts}
 use Rattle.drive_base.specs.declared.plan.SetPlan.{SetPlan}
 use Rattle.get_read.specs.Readers.{IsAccountOf, all_calls}
@@ -31,7 +31,7 @@ use Rattle.op_steps.proofs.TellLemmas.{told_pays}
 use Rattle.object_ops.specs.Get.{GetStands, ending_of, fetched_state}
 use Rattle.object_ops.specs.GetSteps.{told_state}
 use Rattle.object_ops.specs.Reading.{HasPin, HoldsPin}
-use Rattle.object_ops.specs.ReadingLog.{AreLogged, seen_in}
+use Rattle.object_ops.specs.ReadingLog.{AreLogged}
 use Rattle.object_ops.specs.ReadingPlan.{IsOfSpan}
 use Rattle.object_ops.specs.ReadingStep.{ReadsSo, StaysReading, TellsNext, next_telling}
 use Rattle.object_ops.specs.ReadingTold.{HasTold, IsFetching, IsGiving, TellsBytes, TellsNone}
@@ -88,7 +88,7 @@ module _ (set : SetPlan) (at : Key) (pick : Pick) (ask : RangeAsk) (matches : Op
 
     -- its calls are in the log, with a telling behind it
     logged_on : (telling : Utterance) (cut : Option Cut) → AreLogged (all_calls x.told) (log ++ Told telling cut ∷ [])
-    logged_on telling cut = λ k seen stands. Contains-append_left log (Told telling cut ∷ []) (Called k (seen_in seen)) (x.all_logged k seen stands)
+    logged_on telling cut = λ call there. Contains-append_left log (Told telling cut ∷ []) (Called call.drive call.made) (x.all_logged call there)
 
     -- the head was told
     head_gives : r.told ≡ false → TellsNone task at pick x.version x.id x.bytes log → IsGiving set task at pick ask later (log ++ Told (TheHead r.reply) None ∷ [])
@@ -204,22 +204,19 @@ module _ (set : SetPlan) (at : Key) (pick : Pick) (ask : RangeAsk) (matches : Op
   -- ---- the calls of data drives
 
   pub fetch_so : {D : Type 0} (ghosts : Ghosts D) (old new : Reading) (stepped : Stepped) (pin : Option Pin) (before after : List D) → StaysReading old new
-      → ReadsSo ghosts old new stepped before after → AllOnlyRead (views ghosts before) (views ghosts after) → length before ≡ set.drives
-      → length after ≡ length before
+      → ReadsSo ghosts old new stepped before after → length after ≡ length before
       → CallsSo (GetStands set task at pick ask Fetching pin (Some old)) (GetStands set task at pick ask (fetched_state stepped new.told) pin (Some new)) set
       (views ghosts before) (views ghosts after)
-  fetch_so ghosts old new stepped pin before after stays reads read counted long claim log x =
-      let step = fetched ghosts set at pick ask matches now old new stepped pin claim log before after stays reads read counted long x.0 x.1 in
-      (claim, step.0, step.1, step.2, step.3)
+  fetch_so ghosts old new stepped pin before after stays reads long claim log x =
+      fetched ghosts set at pick ask matches now old new stepped pin claim log before after stays reads long x.0 x.1
 
   -- as the op does it, by its fields
   pub fetch_as : {D : Type 0} (ghosts : Ghosts D) (old new : Reading) (stepped : Stepped) (state later : GetState) (pin : Option Pin) (reading : Option Reading)
       (before after : List D) → state ≡ Fetching → reading ≡ Some old → later ≡ fetched_state stepped new.told → StaysReading old new
-      → ReadsSo ghosts old new stepped before after → AllOnlyRead (views ghosts before) (views ghosts after) → length before ≡ set.drives
-      → length after ≡ length before
+      → ReadsSo ghosts old new stepped before after → length after ≡ length before
       → CallsSo (GetStands set task at pick ask state pin reading) (GetStands set task at pick ask later pin (Some new)) set (views ghosts before) (views ghosts after)
-  fetch_as ghosts old new stepped state later pin reading before after is has goes stays reads read counted long =
-      rw (is, has, goes) (fetch_so ghosts old new stepped pin before after stays reads read counted long)
+  fetch_as ghosts old new stepped state later pin reading before after is has goes stays reads long =
+      rw (is, has, goes) (fetch_so ghosts old new stepped pin before after stays reads long)
 
   pub give_as : {T : Type 0} (takes breaks : Effect T) (r next : Reading) (state later : GetState) (pin : Option Pin) (reading : Option Reading) (cut : Option Cut)
       (old new : TellerSeen T) → state ≡ Giving → reading ≡ Some r → later ≡ told_state next.left r.told cut → TellsNext r next

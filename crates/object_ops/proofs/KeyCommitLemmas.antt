@@ -25,7 +25,7 @@ use Rattle.slot_core.specs.Views.{SlotNumbers}
 use Rattle.slot_core.specs.declared.fault.SlotFault.{SlotFault}
 use Rattle.slot_core.specs.declared.fault.SlotFault.TheVariants.{AuditFailed, Key as KeyFault, NoMemory, NotInFlight, Quorum, SeqSpent}
 use Rattle.slot_core.specs.declared.stub.Stub.{Stub}
-use Rattle.receipts.specs.Committing.{BeginsChange, ChangesKey, EndsAtCommit, RefusesChange}
+use Rattle.receipts.specs.Committing.{BeginsChange, KeyIsCommitted, MakesChange, RefusesChange, Target, act_target}
 use Rattle.receipts.specs.Dues.{IsDueChange}
 use Rattle.receipts.specs.Events.{Log, Note}
 use Rattle.receipts.specs.Events.Event.{Turned}
@@ -39,24 +39,30 @@ use Rattle.object_ops.proofs.DueLemmas.{DoneSo}
 
 -- how a call can end at the section that commits it
 abbrev pub EndsSo : Key → Mode → ℕ → (Act → Type 0) → Note → Reply → Type 0
-EndsSo at mode now IsAct note reply = ChangesKey at mode now IsAct note reply ⊎ RefusesChange at mode now IsAct note reply
+EndsSo at mode now IsAct note reply = MakesChange (act_target at mode now IsAct) note reply ⊎ RefusesChange (act_target at mode now IsAct) note reply
 
 -- behind the look at the bucket it is how the call ends
 pub ends_so : (at : Key) (mode : Mode) (now : ℕ) (IsAct : Act → Type 0) (reply : Reply) (log : Log) (k : ℕ) (made : Stub) → HasFound at.bucket mode log
-    → EndsSo at mode now IsAct (note_of made) reply → EndsAtCommit at now IsAct reply (log ++ Turned k (Some (note_of made)) NoneShown ∷ [])
+    → EndsSo at mode now IsAct (note_of made) reply → KeyIsCommitted at now IsAct reply (log ++ Turned k (Some (note_of made)) NoneShown ∷ [])
 ends_so at mode now IsAct reply log k made found ends = record {
   look = found.look;
-  own = record { note = note_of made; shown = NoneShown };
-  sections = sections_join log (Turned k (Some (note_of made)) NoneShown ∷ [])
-      ∙ ap (λ l. l ++ record { note = note_of made; shown = NoneShown } ∷ []) found.sections;
   mode = mode;
   bucket = found.finds;
-  ends = ends;
+  commit = record {
+    own = record { note = note_of made; shown = NoneShown };
+    sections = sections_join log (Turned k (Some (note_of made)) NoneShown ∷ [])
+        ∙ ap (λ l. l ++ record { note = note_of made; shown = NoneShown } ∷ []) found.sections;
+    ends = ends;
+  };
 }
 
 module _ (at : Key) (mode : Mode) (act : Act) (now : ℕ) (numbers : SlotNumbers) (own : numbers.index ≡ key_slot at) where
   abbrev deed : Commit
   deed = KeyCommit at mode act
+
+  -- what it changes
+  abbrev target : Target
+  target = act_target at mode now (λ done. done ≡ act)
 
   -- the entry of a stub, by what it says
   entry_so : (answer : Result Committed SlotFault) (fault : Option SlotFault) (stub : Option Stub) (x : Writes numbers fault stub) → Says stub (SaysCommit deed now answer)
@@ -81,11 +87,11 @@ module _ (at : Key) (mode : Mode) (act : Act) (now : ℕ) (numbers : SlotNumbers
   -- it was done, and its reply is due
   pub changes_so : (reply : Reply) (answer : Result Committed SlotFault) (fault : Option SlotFault) (stub : Option Stub) (x : Writes numbers fault stub)
       → Says stub (SaysCommit deed now answer) → DoneSo numbers.index at mode act now reply (deed_in (entry_of stub))
-      → ChangesKey at mode now (λ done. done ≡ act) (note_of x.0) reply
+      → MakesChange target (note_of x.0) reply
   changes_so reply answer fault stub x says done = record {
-    act = act;
-    is_act = refl;
     change = done.change;
+    call = Change at mode act done.change now;
+    is_call = (act, refl, refl);
     entry = has_entry fault stub x (Done (Change at mode act done.change now) (Answer reply)) (entry_so answer fault stub x says).name_is
         (sym (entered fault stub x) ∙ done.deed_is);
     due = subst (λ slot. IsDueChange slot mode act done.change now reply) own done.due;
@@ -93,34 +99,34 @@ module _ (at : Key) (mode : Mode) (act : Act) (now : ℕ) (numbers : SlotNumbers
 
   -- it was refused
   refuses_so : (why : Refusal) (fault : SlotFault) (made : Stub) → made.slot ≡ numbers.index → made.fault ≡ Some fault → refusal_by fault ≡ Some why → IsOfSection why
-      → (IsIdle (key_slot at) (key_register at) (note_of made) ⊎ BeginsChange at mode now (λ done. done ≡ act) (note_of made))
-      → RefusesChange at mode now (λ done. done ≡ act) (note_of made) (Refused why)
+      → (IsIdle (key_slot at) (key_register at) (note_of made) ⊎ BeginsChange target (note_of made))
+      → RefusesChange target (note_of made) (Refused why)
   refuses_so why fault made slot is by of begun = record {
     refuses = record { slot_is = slot ∙ own; why = why; of_section = of; refused = ap (option_and_then refusal_by) is ∙ by; told = refl };
     deed = begun;
   }
 
   bare_so : (why : Refusal) (fault : SlotFault) (stub : Option Stub) (x : WritesNone numbers fault stub) → refusal_by fault ≡ Some why → IsOfSection why
-      → RefusesChange at mode now (λ done. done ≡ act) (note_of x.0) (Refused why)
+      → RefusesChange target (note_of x.0) (Refused why)
   bare_so why fault stub x by of = refuses_so why fault x.0 x.2.slot x.2.fault_is by of (inl (inl x.2.entry_is))
 
   kept_so : (why : Refusal) (fault : SlotFault) (answer : Result Committed SlotFault) (stub : Option Stub) (x : Writes numbers (Some fault) stub)
       → Says stub (SaysCommit deed now answer) → x.2.0.deed ≡ Kept → refusal_by fault ≡ Some why → IsOfSection why
-      → RefusesChange at mode now (λ done. done ≡ act) (note_of x.0) (Refused why)
+      → RefusesChange target (note_of x.0) (Refused why)
   kept_so why fault answer stub x says kept by of = refuses_so why fault x.0 x.2.2.slot x.2.2.fault_is by of
       (inl (inr (has_entry (Some fault) stub x Kept (entry_so answer (Some fault) stub x says).name_is kept)))
 
   -- the refusals of a register
   quorum_so : (why : Refusal) (fault : QuorumFault) (answer : Result Committed SlotFault) (stub : Option Stub) (x : Writes numbers (Some (Quorum fault)) stub)
       → Says stub (SaysCommit deed now answer) → QuorumDeed deed now fault x.2.0.deed → refusal_by (Quorum fault) ≡ Some why → IsOfSection why
-      → RefusesChange at mode now (λ done. done ≡ act) (note_of x.0) (Refused why)
+      → RefusesChange target (note_of x.0) (Refused why)
   quorum_so why (ReadQuorum whys) answer stub x says kept by of = kept_so why (Quorum (ReadQuorum whys)) answer stub x says kept by of
   quorum_so why (WriteQuorum whys) answer stub x says (inl kept) by of = kept_so why (Quorum (WriteQuorum whys)) answer stub x says kept by of
   quorum_so why (WriteQuorum whys) answer stub x says (inr begun) by of =
       refuses_so why (Quorum (WriteQuorum whys)) x.0 x.2.2.slot x.2.2.fault_is by of (inr (record {
-        act = act;
-        is_act = refl;
         change = begun.0;
+        call = Change at mode act (Some begun.0) now;
+        is_call = (act, refl, refl);
         entry = has_entry (Some (Quorum (WriteQuorum whys))) stub x (RefusedDeed begun.0 (Change at mode act (Some begun.0) now))
             (entry_so answer (Some (Quorum (WriteQuorum whys))) stub x says).name_is begun.1;
       }))
@@ -128,7 +134,7 @@ module _ (at : Key) (mode : Mode) (act : Act) (now : ℕ) (numbers : SlotNumbers
   quorum_so why NoMemoryQuorum answer stub x says none by of = absurd none
 
   quorum_of : (fault : QuorumFault) (stub : Option Stub) (x : Writes numbers (Some (Quorum fault)) stub) → Says stub (SaysCommit deed now (Err (Quorum fault)))
-      → (why : Refusal) × (refusal_by (Quorum fault) ≡ Some why) × RefusesChange at mode now (λ done. done ≡ act) (note_of x.0) (Refused why)
+      → (why : Refusal) × (refusal_by (Quorum fault) ≡ Some why) × RefusesChange target (note_of x.0) (Refused why)
   quorum_of (ReadQuorum whys) stub x says = (
     Refusal.ReadQuorum whys,
     refl,

@@ -11,12 +11,12 @@ pub mod GetTelling
 pub mod HeadLemmas
 pub mod KeyCommitLemmas
 pub mod LeftLemmas
-pub mod LosingLemmas
 pub mod OrderLemmas
 pub mod PutAnswers
 pub mod PutBarred
 pub mod PutBars
 pub mod PutBegins
+pub mod PutCalls
 pub mod PutCells
 pub mod PutCommits
 pub mod PutDisks
@@ -32,6 +32,7 @@ pub mod PutOver
 pub mod PutPlaces
 pub mod PutRefused
 pub mod PutSound
+pub mod PutStaged
 pub mod PutStep
 pub mod PutStepClaims
 pub mod PutSteps

@@ -207,6 +207,8 @@ module _ {D : Type 0} (ghosts : Ghosts D) where
           claims = record { slot = refl; elsewhere = λ other. absurd (other refl) };
           read = untouched_are_only_read disks;
           cause = tt;
+          letters = λ name change made. absurd made;
+          complete = tt;
           leaves = λ records state stands.
               let left = x.leaves records state stands in
               record {
@@ -215,6 +217,7 @@ module _ {D : Type 0} (ghosts : Ghosts D) where
                 stands = left.stands;
                 stay = left.stay;
                 moves = left.moves;
+                calm = left.calm;
                 holds = λ unseen front rest d.
                     subst₂ (λ s i. HoldsAt s i (last_of now.numbers) now.holding unseen disks (among front (first_claim was.numbers.index f) rest) left.after left.now)
                     (sym x.turns.numbers.set) (sym x.turns.numbers.index)

@@ -11,6 +11,7 @@ use Rattle.put_stage.specs.Taking.{HasTaken}
 use Rattle.stamp_id.specs.declared.version.VersionId.{VersionId}
 use Rattle.put_stage.specs.declared.stage.Stage.{Stage}
 use Rattle.put_stage.specs.declared.staged.Staged.{Staged}
+use Rattle.register_core.specs.declared.faults.QuorumFault.{QuorumFault}
 use Rattle.slot_history.specs.Contents.{NamedData}
 use Rattle.slot_history.specs.Names.{key_name}
 use Rattle.slot_history.specs.Standing.{Flying, Records}
@@ -23,12 +24,12 @@ use Rattle.slot_data.proofs.HandsLemmas.{holders_are_known}
 use Rattle.slot_rules.specs.declared.commit.Commit.{Commit}
 use Rattle.slot_rules.specs.declared.commit.Committed.{Committed}
 use Rattle.slot_core.specs.CommitCauses.{CommitCause, deed_in}
-use Rattle.slot_core.specs.Committing.{ChecksFlight, CommitHolds, MayCommitData, SaysCommit, ShowsTrash}
+use Rattle.slot_core.specs.Committing.{ChecksFlight, CommitHolds, MayCommitData, NothingBegun, SaysCommit, ShowsTrash}
 use Rattle.slot_core.specs.Stubs.{Says, entry_of}
 use Rattle.slot_core.specs.Turning.{EntryMoves, Leaves, Turns}
-use Rattle.slot_core.specs.Views.{last_of}
+use Rattle.slot_core.specs.Views.{last_of, quorum_of}
 use Rattle.slot_core.specs.declared.fault.SlotFault.{SlotFault}
-use Rattle.slot_core.specs.declared.fault.SlotFault.TheVariants.{NotInFlight}
+use Rattle.slot_core.specs.declared.fault.SlotFault.TheVariants.{NotInFlight, Quorum}
 use Rattle.slot_core.specs.declared.handles.Flight.{Flight}
 use Rattle.slot_core.specs.declared.stub.Stub.{Stub}
 use Rattle.receipts.specs.Events.Shown.{NoneShown}
@@ -38,10 +39,12 @@ use Rattle.op_steps.specs.Looking.{AreOnlyRead}
 use Rattle.op_steps.specs.Moves.{ShowsBy, TurnLeaves, TurnMoves}
 use Rattle.op_steps.specs.Notes.{noted}
 use Rattle.op_steps.specs.Store.{LanesStand, SlotSeen}
+use Rattle.op_steps.proofs.Accounts.{IsNotUnlisted}
 use Rattle.op_steps.proofs.CauseLemmas.{commit_turn_cause}
 use Rattle.op_steps.proofs.DataLemmas.{data_read, last_rises}
-use Rattle.op_steps.proofs.LookLemmas.{all_read}
-use Rattle.op_steps.proofs.NoteLemmas.{audit_noted, entry_counts, entry_noted, same_entry}
+use Rattle.op_steps.proofs.ChangeLetterLemmas.{commit_letters}
+use Rattle.op_steps.proofs.MovesLemmas.{turn_moves}
+use Rattle.op_steps.proofs.NoteLemmas.{audit_noted, calm_noted, entry_counts, entry_noted, same_entry}
 use Rattle.object_ops.specs.Put.{PutAsk}
 use Rattle.object_ops.specs.PutStands.{ClaimsSo, HoldsPut, IsStageOf}
 use Rattle.object_ops.specs.Putting.{Answers, put_deed}
@@ -190,13 +193,14 @@ module _ {D : Type 0} (ghosts : Ghosts D) where
           stay = left.stay;
           moves = subst (λ e. EntryMoves index e (ShowsBy e NoneShown) records state left.after left.now) (sym (same_entry stub))
               (moves_bare index (entry_of stub) (ShowsTrash deed answer was.holding.trash now.holding.trash) records left.after state left.now left.moves);
+          calm = calm_noted (quorum_of was.numbers) stub records state left.after left.now left.calm;
           holds = λ unseen front rest d.
               let ended : (g : Flying) × (g.id ≡ flight.id) × TakesOut g was.holding.flights now.holding.flights = elim x.holds.ends [
                 | inl g ↦ (g.0, g.1, subst (λ (h : Holding). TakesOut g.0 was.holding.flights h.flights) (sym x.holds.holds) g.2)
                 | inr none ↦ absurd (none.0 (record { flight = f; there = listed_there unseen front rest records left.after state left.now d; id_is = refl }))
               ] in
               data_read now.numbers now.holding unseen (views ghosts old) (views ghosts new) (among front (no_claim index) rest) (among front (no_claim index) rest)
-              left.after left.now (all_read ghosts old new x.read) refl
+              left.after left.now x.read refl
               (subst₂ (λ s i. HoldsAt s i (last_of now.numbers) now.holding unseen (views ghosts old) (among front (no_claim index) rest) left.after left.now)
               (sym x.turns.numbers.set) (sym x.turns.numbers.index)
               (commit_holds unseen front rest records left.after state left.now d ended.0 ended.1 ended.2 (ap (λ (h : Holding). h.pins) x.holds.holds)
@@ -210,15 +214,22 @@ module _ {D : Type 0} (ghosts : Ghosts D) where
         let none = x.checks.refused id is in
         ((f, held.flight_is, ap (λ (g : Flight). g.id) (same_flight flight none.0.0 none.0.1) ∙ none.0.2), none.1)
 
+    -- and where its registers refused, the put was listed
+    not_unlisted : (fault : QuorumFault) → answer ≡ Err (Quorum fault) → IsNotUnlisted was.holding.flights (Some flight.id)
+    not_unlisted fault is id same none =
+        let one : flight.id ≡ id = cc in
+        subst NothingBegun is (x.checks.unlisted flight refl (subst (λ (v : VersionId). IsInFlight was.holding.flights v → ⊥) (sym one) none))
+
     pub commit_turn : TurnMoves ghosts was now (noted stub) NoneShown claim (no_claim index) (views ghosts old) (views ghosts new)
-    commit_turn = record {
+    commit_turn = turn_moves ghosts was now (noted stub) NoneShown claim (no_claim index) (views ghosts old) (views ghosts new) (record {
       numbers = x.turns.numbers;
       note_is = entry_noted was.numbers answer stub x.turns.stub_is;
       audit = audit_noted stub was.entries now.entries x.turns.audit;
       faults = entry_counts was.numbers answer stub was.faults now.faults x.turns.stub_is x.turns.faults;
       claims = record { slot = sym own; elsewhere = λ other. absurd (other own) };
-      read = all_read ghosts old new x.read;
-      cause = commit_turn_cause ghosts was now claim old new deed (Some flight.id) at (f, held.flight_is, refl) answer stub x.turns.stub_is x.says
-          x.turns.spent.0 x.turns.faults unlisted x.cause;
+      read = x.read;
+      account = commit_turn_cause ghosts was now claim old new deed (Some flight.id) at (f, held.flight_is, refl) answer stub x.turns.stub_is x.says
+          x.turns.spent.0 x.turns.faults unlisted not_unlisted x.cause;
+      letters = commit_letters ghosts was now deed (Some flight.id) at answer stub old new x.says x.cause;
       leaves = leaves_so;
-    }
+    })

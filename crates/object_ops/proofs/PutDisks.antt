@@ -15,7 +15,6 @@ use Rattle.slot_history.proofs.NameLemmas.{first_bytes, hex_texts_are_one}
 use Rattle.slot_data.specs.DiskLaws.{IsElsewhere, OnlyUnder}
 use Rattle.slot_data.specs.Disks.{Disks, kept_on}
 use Rattle.op_steps.specs.Claims.{DisksTell, counted_on, disks_of}
-use Rattle.op_steps.specs.Moves.{IsDataName, KeepsOthers}
 
 -- one drive in use was called; where it tells, it spares all names but the four of an id; no other drive was called
 pub record WritesUnder (set : SetPlan) (id : VersionId) (k : ℕ) (old new : List DriveView) : Type 0 where
@@ -68,23 +67,6 @@ other_cells id other old new apart x = λ i. record {
   loose_manifest = x.loose (loose_manifest_name other) (loose_manifest id other apart) i;
   loose_shard = x.loose (loose_shard_name other) (loose_shard id other apart) i;
 }
-
--- a name of no data is spared
-pub spares_others : (id : VersionId) (old new : Files) → Spares id old new → KeepsOthers old new
-spares_others id old new x = record {
-  kept = λ name other. x.kept name (data_neither name other);
-  shown = λ name other. x.shown name (data_neither name other);
-  loose = λ name other. x.loose name (
-    differ (loose_manifest_name id) name (λ same. other (id, inl (sym same))),
-    differ (loose_shard_name id) name (λ same. other (id, inr (sym same))),
-  );
-}
-  where
-    data_neither : (name : List ℕ) → (IsDataName name → ⊥) → IsNeither (manifest_name id) (shard_name id) name
-    data_neither name other = (
-      differ (manifest_name id) name (λ same. other (id, inl (sym same))),
-      differ (shard_name id) name (λ same. other (id, inr (sym same))),
-    )
 
 -- ---- the drives
 

@@ -159,6 +159,8 @@ module _ {D T : Type 0} (ghosts : Ghosts D) where
     claims = record { slot = sym is_put.own; elsewhere = λ other. absurd (other is_put.own) };
     read = untouched_are_only_read disks;
     cause = tt;
+    letters = λ name change made. absurd made;
+    complete = tt;
     leaves = λ records state stands.
         let left = x.leaves records state stands in
         record {
@@ -167,6 +169,7 @@ module _ {D T : Type 0} (ghosts : Ghosts D) where
           stands = left.stands;
           stay = left.stay;
           moves = left.moves;
+          calm = left.calm;
           holds = λ unseen front rest d.
               subst₂ (λ s i. HoldsAt s i (last_of now.numbers) now.holding unseen disks (among front (no_claim was.numbers.index) rest) left.after left.now)
               (sym x.turns.numbers.set) (sym x.turns.numbers.index)

@@ -24,7 +24,7 @@ use Rattle.put_stage.specs.declared.staged.StageFault.{StageFault}
 use Rattle.put_stage.specs.declared.staged.StageFault.TheVariants as fault
 use Rattle.slot_core.specs.declared.handles.Flight.{Flight}
 use Rattle.slot_core.specs.declared.stub.Stub.{Stub}
-use Rattle.receipts.specs.Events.{Event, IsUntold, Log, Shown, body_of, cuts_of, sections_of, tale_of}
+use Rattle.receipts.specs.Events.{Event, IsUntold, Log, Shown, body_of, calls_at, cuts_of, sections_of, tale_of}
 use Rattle.receipts.specs.Events.Event.{BarredFrom, Fed, Turned}
 use Rattle.receipts.specs.Letters.{IsInUse, StageLetter}
 use Rattle.receipts.specs.Paying.{ChangesNothing, Pays}
@@ -32,7 +32,9 @@ use Rattle.receipts.specs.Paying.Outcome.{CutOff}
 use Rattle.receipts.specs.Putting.{IsAgreed, PutOwes, PutsBody}
 use Rattle.receipts.specs.Registers.{bucket_slot, key_slot}
 use Rattle.receipts.specs.declared.barred.Barred.TheVariants as barred
-use Rattle.receipts.proofs.JoinLemmas.{bodies_join, sections_join}
+use Rattle.put_stage.specs.Called.{CalledSo}
+use Rattle.drive_base.specs.Trail.{DriveCall}
+use Rattle.receipts.proofs.JoinLemmas.{bodies_join, calls_join, sections_join}
 use Rattle.op_steps.specs.BucketLooks.{SaysBucket}
 use Rattle.op_steps.specs.Claims.{Claim}
 use Rattle.op_steps.specs.Moves.{FeedMoves}
@@ -49,7 +51,7 @@ use Rattle.object_ops.specs.declared.clearing.Clearing.{Clearing}
 use Rattle.object_ops.specs.declared.put_state.PutState.{PutState}
 use Rattle.object_ops.specs.declared.put_state.PutState.TheVariants as state
 use Rattle.object_ops.specs.declared.put_work.Work.{Work}
-use Rattle.object_ops.proofs.PutPlaces.{letter_grows}
+use Rattle.object_ops.proofs.PutCalls.{letter_grows}
 use Rattle.object_ops.proofs.ReadingLook.{looks}
 use Rattle.object_ops.proofs.ReadingTell.{fresh_pays, one_all}
 
@@ -233,6 +235,10 @@ fill_on ask work later claim log old new x s =
       letters = λ k below. subst₂ (λ (f : Flight) (w : Why). StageLetter ask.set f.id (log ++ event ∷ []) k w) (sym x.flight_is)
           (ap (λ (l : List Why). slice_index_or l k Good) (sym x.filled.whys))
           (letter_grows ask.set work.flight.id log (event ∷ []) k (why_at work.stage k) (s.letters k below));
+      called = λ k below.
+          let low = subst (λ (p : SetPlan). k < p.drives) (sym s.stage_of.set_is) below in
+          subst (λ (calls : List DriveCall). CalledSo later.stage k (slice_index_or more.0 k []) calls)
+          (sym (calls_join k log (event ∷ []) ∙ append-nil (calls_at k log))) (more.3 k (calls_at k log) low (s.called k below));
       claims = subst (λ (f : Flight). ClaimsSo later.stage more.0 f.id claim) (sym x.flight_is) (by more.0 more.2 s.claims);
     }
   where
@@ -255,11 +261,10 @@ fill_on ask work later claim log old new x s =
 
 -- the act puts the body of the log
 pub puts_body : (ask : PutAsk) (work : Work) (claim : Claim) (log : Log) (staged : Staged) → Stages ask work claim log → Answers work.stage (Ok staged)
-    → PutsBody ask.set ask.kind (body_of log) (act.Put work.flight.id staged.print staged.length staged.etag ask.kind)
+    → PutsBody ask.set ask.kind (body_of log) work.flight.id (act.Put work.flight.id staged.print staged.length staged.etag ask.kind)
 puts_body ask work claim log staged s x =
     let b = x.body (body_of log) s.shards s.taken in
     record {
-      data_id = work.flight.id;
       print = staged.print;
       is = ap₂ (λ (n : ℕ) (tag : List ℕ). act.Put work.flight.id staged.print n tag ask.kind) b.long b.etag;
       printed = subst (λ (p : SetPlan). HasPrint p.drives p.parity (body_of log) staged.print) s.stage_of.set_is b.print;

@@ -1,5 +1,5 @@
 -- The steps of a PutObject, as an op does them.
-use Rattle.std.proofs.Common.{◌≡◌, ◌∙◌, ◌<◌, ◌+◌, ℕ, true, false, List, [], ◌∷◌, ◌++◌, Option, Some, None, Result, Ok, Err, IfOk, append-nil, length, replicate, slice_index_or, inl, inr, refl, sym, ap, subst, subst₂, arith}
+use Rattle.std.proofs.Common.{◌≡◌, ◌⊎◌, ◌∙◌, ◌<◌, ◌+◌, ℕ, true, false, List, [], ◌∷◌, ◌++◌, Option, Some, None, Result, Ok, Err, IfOk, append-nil, length, replicate, slice_index_or, inl, inr, refl, sym, ap, subst, subst₂, arith}
 use Rattle.std.specs.Int.{IsBitSet}
 use Rattle.std.proofs.lemmas.List.{get_or-replicate}
 use Rattle.std.proofs.lemmas.List.Elements.{Contains-append_left}
@@ -24,21 +24,23 @@ use Rattle.slot_core.specs.Views.{SlotNumbers}
 use Rattle.slot_core.specs.declared.fault.SlotFault.{SlotFault}
 use Rattle.slot_core.specs.declared.handles.Flight.{Flight}
 use Rattle.slot_core.specs.declared.stub.Stub.{Stub}
-use Rattle.receipts.specs.Events.{Event, IsQuiet, Log, Seen, Shown, body_of}
+use Rattle.receipts.specs.Events.{Event, IsQuiet, Log, Shown, body_of, calls_at}
 use Rattle.receipts.specs.Events.Event.{BarredFrom, Called, Fed, Told as ToldEvent, Turned}
 use Rattle.receipts.specs.Events.Shown.{NoneShown}
 use Rattle.receipts.specs.Letters.{StageLetter}
 use Rattle.receipts.specs.Paying.{Pays}
 use Rattle.receipts.specs.Spans.{GivesBytes}
 use Rattle.receipts.specs.Registers.{bucket_register, bucket_slot, key_slot}
-use Rattle.receipts.proofs.JoinLemmas.{bodies_join}
+use Rattle.receipts.proofs.JoinLemmas.{bodies_join, calls_join}
 use Rattle.receipts.proofs.RegisterLemmas.{key_slot_below}
+use Rattle.put_stage.specs.Called.{CalledSo}
+use Rattle.drive_base.specs.Trail.{DriveCall}
 use Rattle.op_steps.specs.BucketLooks.{LooksSo}
 use Rattle.op_steps.specs.Claims.{Claim, no_claim}
-use Rattle.op_steps.specs.Moves.{CallMoves, FeedMoves, TellMoves, TurnMoves}
+use Rattle.op_steps.specs.Moves.{FeedMoves, TellMoves, TurnMoves}
 use Rattle.op_steps.specs.Notes.{noted}
 use Rattle.op_steps.specs.Store.{FeedSeen, SlotSeen, TellerSeen}
-use Rattle.op_steps.specs.Words.{CallsSo, FeedsSo, TellsSo, TurnsSo}
+use Rattle.op_steps.specs.Words.{CallsOne, CallsSo, FeedsSo, TellsSo, TurnsSo}
 use Rattle.op_steps.specs.declared.looking.Look.{Look}
 use Rattle.op_steps.proofs.TellLemmas.{told_pays}
 use Rattle.object_ops.specs.Clearing.{HasNone, RemovesOne, TakesTrash, files_left, with_taken}
@@ -128,6 +130,10 @@ module _ (ask : PutAsk) (read : ℕ) where
         shards = shards;
         taken = subst (λ (b : List ℕ). HasTaken work.stage.load b shards) (sym body) load.taken;
         letters = λ j below. first_letter j below;
+        called = λ j below.
+            let low = subst (λ (p : SetPlan). j < p.drives) (sym load.set_is) below in
+            subst₂ (λ (b : List (List ℕ)) (calls : List DriveCall). CalledSo work.stage j b calls) (sym (one j below))
+            (sym (calls_join j log (event ∷ []) ∙ (append-nil (calls_at j log) ∙ found.uncalled j))) (begins.stage.uncalled j low);
         claims = subst (λ (f : Flight). ClaimsSo work.stage shards f.id claim) (sym begins.flight_is) (
           first_staging flight.id,
           refl,
@@ -232,7 +238,7 @@ module _ (ask : PutAsk) (read : ℕ) where
   work_so ghosts clearing one work later old new is counted long steps claim log x =
       let here = stands_at clearing one (state.Staging work) claim log is x in
       let got = steps_so ghosts ask work later old new counted long steps claim log here.1 in
-      (got.0, got.1, got.2, (here.0, got.3), got.4)
+      inl (got.0, got.1, got.2, (here.0, got.3), got.4)
 
   -- ---- the telling
 
@@ -302,16 +308,16 @@ module _ (ask : PutAsk) (read : ℕ) where
       by here.0 here.1
     where
       by : HoldsRest (key_slot ask.at) clearing claim log → Pays ask.set (task_of ask) why log
-          → (later : Claim) × (k : ℕ) × (seen : Seen) × Stands cleared one later (log ++ Called k seen ∷ []) × CallMoves ask.set k seen claim later old new
+          → CallsOne (Stands cleared one) ask.set claim log old new ⊎ (Stands cleared one claim log × (new ≡ old))
       by (inl holds) pays =
           let own : claim.slot ≡ key_slot ask.at = ap (λ (c : Claim). c.slot) holds in
-          let taken : claim.taken ≡ ids_of (files_left clearing) = ap (λ (c : Claim). c.taken) holds in (
+          let taken : claim.taken ≡ ids_of (files_left clearing) = ap (λ (c : Claim). c.taken) holds in inl (
             with_taken claim (ids_of (files_left cleared)),
             step.file.drive,
-            step.seen,
-            subst (λ (s : PutState). Stands cleared s (with_taken claim (ids_of (files_left cleared))) (log ++ Called step.file.drive step.seen ∷ [])) (sym is) (
+            step.made,
+            subst (λ (s : PutState). Stands cleared s (with_taken claim (ids_of (files_left cleared))) (log ++ Called step.file.drive step.made ∷ [])) (sym is) (
               inl (ap (λ (c : Claim). with_taken c (ids_of (files_left cleared))) holds),
-              pays_on ask.set (task_of ask) why log (Called step.file.drive step.seen) tt pays,
+              pays_on ask.set (task_of ask) why log (Called step.file.drive step.made) tt pays,
             ),
             removal_is_call ask.set (key_slot ask.at) (files_left clearing) (files_left cleared) old new claim due own taken step,
           )

@@ -1,5 +1,5 @@
 -- The section that ends a put, as an op does it: its body is committed, or it is given up.
-use Rattle.std.proofs.Common.{◌≡◌, ◌∙◌, ℕ, List, [], ◌∷◌, ◌++◌, Option, Some, None, Result, Ok, Err, MatchOption, append-nil, length, inl, inr, sym, ap, subst, arith}
+use Rattle.std.proofs.Common.{◌≡◌, ◌∙◌, ℕ, List, [], ◌∷◌, ◌++◌, Option, Some, None, Result, Ok, Err, MatchOption, append-nil, length, inl, inr, refl, sym, ap, subst, arith}
 use Rattle.call_types.specs.Refusals.{refusal_of}
 use Rattle.call_types.specs.declared.act.Act.{Act}
 use Rattle.call_types.specs.declared.act.Act.TheVariants as act
@@ -25,7 +25,7 @@ use Rattle.slot_core.specs.declared.fault.SlotFault.{SlotFault}
 use Rattle.slot_core.specs.declared.fault.SlotFault.TheVariants.{Key as KeyFault}
 use Rattle.slot_core.specs.declared.handles.Flight.{Flight}
 use Rattle.slot_core.specs.declared.stub.Stub.{Stub}
-use Rattle.receipts.specs.Committing.{EndsAtCommit}
+use Rattle.receipts.specs.Committing.{KeyIsCommitted}
 use Rattle.receipts.specs.Events.{IsQuiet, Log, Note, body_of}
 use Rattle.receipts.specs.Events.Event.{Turned}
 use Rattle.receipts.specs.Events.Shown.{NoneShown}
@@ -35,6 +35,7 @@ use Rattle.receipts.specs.Registers.{key_slot}
 use Rattle.receipts.proofs.GrowLemmas.{quiet_grows}
 use Rattle.receipts.proofs.JoinLemmas.{bodies_join, sections_join}
 use Rattle.receipts.proofs.OweLemmas.{call_owes}
+use Rattle.receipts.specs.Staging.{IsStaged}
 use Rattle.op_steps.specs.Claims.{Claim, no_claim}
 use Rattle.op_steps.specs.Notes.{note_of, noted}
 use Rattle.op_steps.specs.Ready.{IsReady}
@@ -51,6 +52,7 @@ use Rattle.object_ops.specs.declared.put_state.PutState.{PutState}
 use Rattle.object_ops.specs.declared.put_state.PutState.TheVariants as state
 use Rattle.object_ops.specs.declared.put_work.Work.{Work}
 use Rattle.object_ops.specs.declared.removal.Removal.{Removal}
+use Rattle.object_ops.proofs.PutStaged.{is_staged}
 use Rattle.object_ops.proofs.DueLemmas.{DoneSo, done_so, refused_so}
 use Rattle.object_ops.proofs.KeyCommitLemmas.{EndsSo, changes_so, refused_commit}
 use Rattle.object_ops.proofs.PutCommits.{PutSays, commit_turn, put_claim}
@@ -64,9 +66,9 @@ use Rattle.object_ops.proofs.TellingLemmas.{pays_on, untold_after}
 pub kind_of_end : (at : Key) (mode : Mode) (now : ℕ) (done : Act) (IsAct : Act → Type 0) (note : Note) (reply : Reply) → IsAct done
     → EndsSo at mode now (λ x. x ≡ done) note reply → EndsSo at mode now IsAct note reply
 kind_of_end at mode now done IsAct note reply is (inl x) = inl (record {
-  act = x.act;
-  is_act = subst IsAct (sym x.is_act) is;
   change = x.change;
+  call = x.call;
+  is_call = (x.is_call.0, subst IsAct (sym x.is_call.1) is, x.is_call.2);
   entry = x.entry;
   due = x.due;
 })
@@ -74,7 +76,12 @@ kind_of_end at mode now done IsAct note reply is (inr x) = inr (record {
   refuses = x.refuses;
   deed = elim x.deed [
     | inl idle ↦ inl idle
-    | inr begun ↦ inr (record { act = begun.act; is_act = subst IsAct (sym begun.is_act) is; change = begun.change; entry = begun.entry })
+    | inr begun ↦ inr (record {
+      change = begun.change;
+      call = begun.call;
+      is_call = (begun.is_call.0, subst IsAct (sym begun.is_call.1) is, begun.is_call.2);
+      entry = begun.entry;
+    })
   ];
 })
 
@@ -163,15 +170,17 @@ module _ (ask : PutAsk) (read : ℕ) where
 
   -- behind the look at the bucket it is how the call ends
   ends_at : (mode : Mode) (IsAct : Act → Type 0) (reply : Reply) (log : Log) (k : ℕ) (made : Stub) → HasLookedAt ask.at.bucket mode log
-      → EndsSo ask.at mode ask.now IsAct (note_of made) reply → EndsAtCommit ask.at ask.now IsAct reply (turned k (Some (note_of made)) log)
+      → EndsSo ask.at mode ask.now IsAct (note_of made) reply → KeyIsCommitted ask.at ask.now IsAct reply (turned k (Some (note_of made)) log)
   ends_at mode IsAct reply log k made looked ends = record {
     look = looked.look;
-    own = record { note = note_of made; shown = NoneShown };
-    sections = sections_join log (Turned k (Some (note_of made)) NoneShown ∷ [])
-        ∙ ap (λ l. l ++ record { note = note_of made; shown = NoneShown } ∷ []) looked.sections;
     mode = mode;
     bucket = looked.finds;
-    ends = ends;
+    commit = record {
+      own = record { note = note_of made; shown = NoneShown };
+      sections = sections_join log (Turned k (Some (note_of made)) NoneShown ∷ [])
+          ∙ ap (λ l. l ++ record { note = note_of made; shown = NoneShown } ∷ []) looked.sections;
+      ends = ends;
+    };
   }
 
   same_body : (log : Log) (k : ℕ) (note : Option Note) → body_of (turned k note log) ≡ body_of log
@@ -189,7 +198,7 @@ module _ (ask : PutAsk) (read : ℕ) where
         let body = same_body log k (Some (note_of made)) in
         let long = s.taken.long in
         let same_long = s.stage_of.long_is in
-        let of_kind = kind_of_end ask.at work.mode ask.now puts (PutsBody ask.set ask.kind (body_of log)) (note_of made) reply
+        let of_kind = kind_of_end ask.at work.mode ask.now puts (PutsBody ask.set ask.kind (body_of log) work.flight.id) (note_of made) reply
         (puts_body ask work claim log staged s answers) ends in
         record {
           untold = untold_after log (Turned k (Some (note_of made)) NoneShown) s.looked.untold tt;
@@ -198,8 +207,14 @@ module _ (ask : PutAsk) (read : ℕ) where
             ap length body ∙ omega (arith, whole, long, same_long),
             inr (inl (record {
               agreed = subst (λ (b : List ℕ). IsAgreed ask.stated b) (sym body) (put_agrees ask work claim log staged s answers);
-              commit = subst (λ (b : List ℕ). EndsAtCommit ask.at ask.now (PutsBody ask.set ask.kind b) reply (turned k (Some (note_of made)) log)) (sym body)
-                  (ends_at work.mode (PutsBody ask.set ask.kind (body_of log)) reply log k made s.looked of_kind);
+              id = work.flight.id;
+              front = log;
+              rest = Turned k (Some (note_of made)) NoneShown ∷ [];
+              parts = refl;
+              looked = record { look = s.looked.look; sections = s.looked.sections; mode = work.mode; finds = s.looked.finds };
+              staged = subst (λ (b : List ℕ). IsStaged ask.set ask.at work.flight.id b log) (sym body) (is_staged ask work claim log staged s whole answers);
+              commit = subst (λ (b : List ℕ). KeyIsCommitted ask.at ask.now (PutsBody ask.set ask.kind b work.flight.id) reply (turned k (Some (note_of made)) log)) (sym body)
+                  (ends_at work.mode (PutsBody ask.set ask.kind (body_of log) work.flight.id) reply log k made s.looked of_kind);
             })),
           );
         }

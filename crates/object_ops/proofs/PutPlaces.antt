@@ -1,18 +1,10 @@
--- The manifest that a stage of a put places, and the letters of its calls.
-use Rattle.std.proofs.Common.{◌≡◌, ◌⊎◌, ℕ, zero, suc, Bool, IsTrue, List, [], ◌∷◌, ◌++◌, Some, None, inl, inr, refl, sym, ap, subst, arith}
-use Rattle.std.specs.Prelude.{Result, Ok, Err}
-use Rattle.std.specs.Int.{IsBitSet}
-use Rattle.std.proofs.lemmas.List.Elements.{Contains-append_left, Contains-push}
-use Rattle.call_types.specs.declared.why.FileKind.{FileKind}
+-- The manifest that a stage of a put places.
+use Rattle.std.proofs.Common.{◌≡◌, ◌⊎◌, ℕ, zero, suc, List, Some, None, inl, inr, refl, ap, arith}
 use Rattle.call_types.specs.declared.why.FileKind.TheVariants.{Format, Register, Manifest as ManifestKind, Shard as ShardKind}
 use Rattle.call_types.specs.declared.why.Why.{Why}
 use Rattle.call_types.specs.declared.why.Why.TheVariants.{Good, Failed, Damaged, Behind, Lacks}
-use Rattle.drive_base.specs.View.{DriveView}
-use Rattle.drive_base.specs.declared.plan.SetPlan.{SetPlan}
-use Rattle.body_print.specs.Names.{loose_manifest_name, loose_shard_name}
-use Rattle.put_stage.specs.Cells.{DataCells, data_of}
+use Rattle.put_stage.specs.Cells.{DataCells}
 use Rattle.put_stage.specs.Coding.{block_at}
-use Rattle.put_stage.specs.Stepping.{LacksFor, LetterOf}
 use Rattle.put_stage.specs.Taking.{HasTaken, manifest_in}
 use Rattle.put_stage.specs.Working.{AtWork, HasBy, HasFailedAt, IsBefore, due_at, why_at}
 use Rattle.put_stage.specs.declared.dues.Due.{Due}
@@ -21,12 +13,6 @@ use Rattle.put_stage.specs.declared.stage.Stage.{Stage}
 use Rattle.put_stage.proofs.FinishLemmas.{whole_manifest}
 use Rattle.put_stage.proofs.LawProofs.{open_stages_place_nothing}
 use Rattle.slot_core.specs.declared.handles.Flight.{Flight}
-use Rattle.stamp_id.specs.declared.version.VersionId.{VersionId}
-use Rattle.receipts.specs.Events.{Log, Seen}
-use Rattle.receipts.specs.Events.Event.{Called}
-use Rattle.receipts.specs.Events.Seen.{Faulted, Uncalled, Unwritten, Wrote}
-use Rattle.receipts.specs.Letters.{StageLetter}
-use Rattle.op_steps.specs.Moves.{WasSo}
 use Rattle.object_ops.specs.Put.{PutAsk}
 use Rattle.object_ops.specs.PutStands.{IsStageOf, no_cells}
 use Rattle.object_ops.proofs.PutWrites.{IsMade}
@@ -91,66 +77,3 @@ is_made ask flight stage body shards of taken whole = record {
   name_is = of.name_is;
   single = (_, refl, of.id_is);
 }
-
--- ---- letters
-
--- what a call gave, by its letter
-abbrev pub seen_by : VersionId → Result (Unit {0}) Why → Seen
-seen_by id (Ok done) = Wrote
-seen_by id (Err Good) = Uncalled
-seen_by id (Err (Failed before after)) = Faulted before after
-seen_by id (Err (Damaged damage)) = Uncalled
-seen_by id (Err (Behind ballot)) = Uncalled
-seen_by id (Err (Lacks Format)) = Uncalled
-seen_by id (Err (Lacks Register)) = Uncalled
-seen_by id (Err (Lacks ManifestKind)) = Unwritten (loose_manifest_name id)
-seen_by id (Err (Lacks ShardKind)) = Unwritten (loose_shard_name id)
-
--- a call lacks one of the two loose files
-pub lacks_either : (due : Due) (kind : FileKind) (told : Bool) (cells : DataCells) → LacksFor due kind told cells
-    → ((kind ≡ ManifestKind) × (IsTrue told → cells.loose_manifest ≡ None)) ⊎ ((kind ≡ ShardKind) × (IsTrue told → cells.loose_shard ≡ None))
-lacks_either Block kind told cells is = absurd is
-lacks_either Table kind told cells is = absurd is
-lacks_either SyncShard kind told cells is = inr is
-lacks_either Manifest kind told cells is = absurd is
-lacks_either SyncManifest kind told cells is = inl is
-lacks_either PlaceManifest kind told cells is = inl is
-lacks_either PlaceShard kind told cells is = inr is
-lacks_either Nothing kind told cells is = absurd is
-
-pub seen_was_so : (id : VersionId) (answer : Result (Unit {0}) Why) (due : Due) (old new : DriveView)
-    → LetterOf answer due old.tells (data_of id old.files) old.count new.count → WasSo (seen_by id answer) old new
-seen_was_so id (Ok done) due old new is = is
-seen_was_so id (Err Good) due old new is = absurd is
-seen_was_so id (Err (Failed before after)) due old new is = is
-seen_was_so id (Err (Damaged damage)) due old new is = absurd is
-seen_was_so id (Err (Behind ballot)) due old new is = absurd is
-seen_was_so id (Err (Lacks kind)) due old new is = elim (lacks_either due kind old.tells (data_of id old.files) is.0) [
-  | inl manifest ↦ subst (λ k. WasSo (seen_by id (Err (Lacks k))) old new) (sym manifest.0) (is.1, manifest.1)
-  | inr shard ↦ subst (λ k. WasSo (seen_by id (Err (Lacks k))) old new) (sym shard.0) (is.1, shard.1)
-]
-
--- the letter of a call that failed has its event
-pub new_letter : (set : SetPlan) (id : VersionId) (k : ℕ) (why : Why) (due : Due) (told : Bool) (cells : DataCells) (before after : ℕ) (log : Log)
-    → (IsBitSet set.out k → ⊥) → LetterOf (Err why) due told cells before after → StageLetter set id (log ++ Called k (seen_by id (Err why)) ∷ []) k why
-new_letter set id k Good due told cells before after log in_use is = absurd is
-new_letter set id k (Failed b a) due told cells before after log in_use is = (in_use, Contains-push log (Called k (Faulted b a)))
-new_letter set id k (Damaged damage) due told cells before after log in_use is = absurd is
-new_letter set id k (Behind ballot) due told cells before after log in_use is = absurd is
-new_letter set id k (Lacks kind) due told cells before after log in_use is = elim (lacks_either due kind told cells is.0) [
-  | inl manifest ↦ subst (λ x. StageLetter set id (log ++ Called k (seen_by id (Err (Lacks x))) ∷ []) k (Lacks x)) (sym manifest.0)
-      (in_use, Contains-push log (Called k (Unwritten (loose_manifest_name id))))
-  | inr shard ↦ subst (λ x. StageLetter set id (log ++ Called k (seen_by id (Err (Lacks x))) ∷ []) k (Lacks x)) (sym shard.0)
-      (in_use, Contains-push log (Called k (Unwritten (loose_shard_name id))))
-]
-
--- a letter stays as the log grows
-pub letter_grows : (set : SetPlan) (id : VersionId) (log more : Log) (k : ℕ) (why : Why) → StageLetter set id log k why → StageLetter set id (log ++ more) k why
-letter_grows set id log more k Good is = is
-letter_grows set id log more k (Failed b a) is = (is.0, Contains-append_left log more (Called k (Faulted b a)) is.1)
-letter_grows set id log more k (Damaged damage) is = absurd is
-letter_grows set id log more k (Behind ballot) is = absurd is
-letter_grows set id log more k (Lacks Format) is = is
-letter_grows set id log more k (Lacks Register) is = absurd is
-letter_grows set id log more k (Lacks ManifestKind) is = (is.0, Contains-append_left log more (Called k (Unwritten (loose_manifest_name id))) is.1)
-letter_grows set id log more k (Lacks ShardKind) is = (is.0, Contains-append_left log more (Called k (Unwritten (loose_shard_name id))) is.1)

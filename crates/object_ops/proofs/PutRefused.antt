@@ -1,5 +1,6 @@
 -- The begin of a put that is refused, as a step that leaves any claim.
 use Rattle.std.proofs.Common.{◌≡◌, ◌∙◌, ℕ, List, [], ◌∷◌, ◌++◌, Contains, Option, Some, None, MatchOption, Result, Ok, Err, option_and_then, append-nil, length, inr, refl, sym, ap, subst, subst₂, arith}
+use Rattle.audit_trail.specs.declared.entry.Entry.{Entry}
 use Rattle.call_types.specs.declared.names.Key.{Key}
 use Rattle.call_types.specs.declared.names.Mode.{Mode}
 use Rattle.call_types.specs.declared.refusal.Refusal.TheVariants as refusal
@@ -12,7 +13,8 @@ use Rattle.slot_history.specs.Names.{key_name}
 use Rattle.slot_data.specs.Holding.{Holding}
 use Rattle.slot_core.specs.Sections.{ShowsNoMore}
 use Rattle.slot_core.specs.Stubs.{AuditCounts, StubOfEntry, StubOfNone, entry_of}
-use Rattle.slot_core.specs.Views.{SlotNumbers, last_of}
+use Rattle.slot_core.specs.Calming.{HasMade}
+use Rattle.slot_core.specs.Views.{SlotNumbers, last_of, quorum_of}
 use Rattle.slot_core.specs.declared.fault.SlotFault.{SlotFault}
 use Rattle.slot_core.specs.declared.fault.SlotFault.TheVariants as slot
 use Rattle.slot_core.specs.declared.handles.Flight.{Flight}
@@ -29,7 +31,8 @@ use Rattle.op_steps.specs.Store.{SlotSeen}
 use Rattle.op_steps.specs.Words.{TurnsSo}
 use Rattle.op_steps.proofs.CauseLemmas.{FaultCause, answer_cause}
 use Rattle.op_steps.proofs.DataLemmas.{last_rises}
-use Rattle.op_steps.proofs.NoteLemmas.{audit_noted, entry_counts, entry_noted, same_entry}
+use Rattle.op_steps.proofs.MovesLemmas.{turn_moves}
+use Rattle.op_steps.proofs.NoteLemmas.{audit_noted, calm_noted, entry_counts, entry_noted, same_entry}
 use Rattle.op_steps.proofs.TellLemmas.{cuts_after}
 use Rattle.slot_core.specs.Turning.{EntryMoves}
 use Rattle.object_ops.specs.Clearing.{HasNone}
@@ -90,7 +93,7 @@ module _ {D : Type 0} (ghosts : Ghosts D) where
   refused_turn was now at fault stub disks claim x =
       let stub_is = stub_of was.numbers fault stub x.turns.stub_is in
       let none = no_entry was.numbers fault stub x.turns.stub_is in
-      record {
+      turn_moves ghosts was now (noted stub) NoneShown claim claim disks disks (record {
         numbers = x.turns.numbers;
         note_is = entry_noted {T = Flight} was.numbers (Err fault) stub stub_is;
         audit = audit_noted stub was.entries now.entries
@@ -99,7 +102,9 @@ module _ {D : Type 0} (ghosts : Ghosts D) where
             (counts_of was.numbers fault stub was.faults now.faults x.turns.stub_is x.turns.faults);
         claims = record { slot = refl; elsewhere = λ other. refl };
         read = untouched_are_only_read disks;
-        cause = answer_cause ghosts was now claim disks disks {T = Flight} (Err fault) stub stub_is (refused_cause was now at fault stub disks claim x);
+        account = answer_cause ghosts was now claim disks disks {T = Flight} (Err fault) stub stub_is (refused_cause was now at fault stub disks claim x);
+        letters = λ name change made.
+            absurd (subst (λ (e : Option Entry). HasMade e name change) none (subst (λ (e : Option Entry). HasMade e name change) (same_entry stub) made));
         leaves = λ records state stands.
             let left = x.leaves records state stands in
             record {
@@ -109,6 +114,7 @@ module _ {D : Type 0} (ghosts : Ghosts D) where
               stay = left.stay;
               moves = subst (λ e. EntryMoves was.numbers.index e (ShowsBy e NoneShown) records state left.after left.now) (sym (same_entry stub))
                   (moves_bare was.numbers.index (entry_of stub) ShowsNoMore records left.after state left.now left.moves);
+              calm = calm_noted (quorum_of was.numbers) stub records state left.after left.now left.calm;
               holds = λ unseen front rest d.
                   subst₂ (λ s i. HoldsAt s i (last_of now.numbers) now.holding unseen disks (among front claim rest) left.after left.now)
                   (sym x.turns.numbers.set) (sym x.turns.numbers.index) (record {
@@ -123,7 +129,7 @@ module _ {D : Type 0} (ghosts : Ghosts D) where
                     pins_are = λ p there. d.pins_are p (subst (λ (h : Holding). Contains h.pins p) x.holds.1 there);
                   });
             };
-      }
+      })
 
 module _ (ask : PutAsk) (read : ℕ) where
   -- it is told that the slot's numbers are spent, and nothing for want of memory

@@ -1,5 +1,5 @@
 -- One call of a stage, as a step of a put.
-use Rattle.std.proofs.Common.{◌≡◌, ◌≢◌, ◌∙◌, ◌<◌, ℕ, IsTrue, List, [], ◌∷◌, ◌++◌, Some, cond, length, slice_index_or, string_bytes, inl, inr, refl, sym, ap, subst, subst₂, arith}
+use Rattle.std.proofs.Common.{◌≡◌, ◌≢◌, ◌∙◌, ◌<◌, ℕ, IsTrue, List, [], ◌∷◌, ◌++◌, Some, append-nil, cond, false, length, nat_eq, slice_index_or, true, string_bytes, inl, inr, refl, sym, ap, subst, subst₂, arith}
 use Rattle.std.specs.Prelude.{Result, Ok, Err}
 use Rattle.std.specs.Int.{IsBitSet}
 use Rattle.std.proofs.lemmas.Bool.Decides.{eqb_tells}
@@ -7,13 +7,18 @@ use Rattle.std.proofs.lemmas.Bool.{cases_Bool}
 use Rattle.std.proofs.lemmas.List.{get_or-map, get_or-set_same}
 use Rattle.call_types.specs.declared.names.Mode.{Mode}
 use Rattle.call_types.specs.declared.why.Why.{Why}
-use Rattle.call_types.specs.declared.why.Why.TheVariants.{Behind, Damaged, Failed, Good, Lacks}
-use Rattle.call_types.specs.declared.why.FileKind.TheVariants.{Format, Register, Manifest as ManifestKind, Shard as ShardKind}
+use Rattle.call_types.specs.declared.why.Why.TheVariants.{Good, Lacks}
+use Rattle.call_types.specs.declared.why.FileKind.TheVariants.{Manifest as ManifestKind, Shard as ShardKind}
+use Rattle.drive_base.specs.Calls.{MadeCall}
 use Rattle.drive_base.specs.View.{DriveView, GoesOn, view_at, views}
 use Rattle.drive_base.specs.declared.drive.Drive.{Ghosts}
 use Rattle.drive_base.specs.declared.plan.SetPlan.{SetPlan}
 use Rattle.drive_base.proofs.ViewLemmas.{length-views}
 use Rattle.body_print.specs.Names.{manifest_name}
+use Rattle.file_access.specs.Trails.{AnswerOf}
+use Rattle.put_stage.specs.Calls.{CallsDue}
+use Rattle.put_stage.specs.Called.{CalledSo}
+use Rattle.put_stage.proofs.SoFarLemmas.{step_calls_elsewhere, step_calls_so}
 use Rattle.put_stage.specs.Cells.{DataCells, Spares, data_of}
 use Rattle.put_stage.specs.Stepping.{IsAfter, LetterOf, Stepped}
 use Rattle.put_stage.specs.Taking.{HasTaken, manifest_in}
@@ -28,29 +33,38 @@ use Rattle.slot_core.specs.Views.{last_of}
 use Rattle.slot_core.specs.declared.handles.Flight.{Flight}
 use Rattle.slot_data.specs.Disks.{Disks, Keeps, kept_on}
 use Rattle.slot_data.specs.Holding.{Holding}
-use Rattle.receipts.specs.Events.{IsQuiet, Log, Seen, body_of}
+use Rattle.receipts.specs.Events.{IsQuiet, Log, body_of, calls_at}
 use Rattle.receipts.specs.Events.Event.{Called}
 use Rattle.receipts.specs.Letters.{IsInUse, StageLetter}
 use Rattle.receipts.proofs.GrowLemmas.{quiet_bodies}
+use Rattle.receipts.proofs.JoinLemmas.{calls_join}
 use Rattle.op_steps.specs.Claims.{Claim, DataHolds, DisksTell, Expected, IsExpected, IsMet, Staging, among, disks_of}
 use Rattle.op_steps.specs.Claims.Expected.{Exactly}
-use Rattle.op_steps.specs.Moves.{CallMoves, KeepsData, SaysUnwritten, SlotKept, WasSo}
+use Rattle.op_steps.specs.Moves.{CallMoves, KeepsData, SaysUnwritten, SlotKept}
 use Rattle.object_ops.specs.Put.{PutAsk}
 use Rattle.object_ops.specs.PutStands.{ClaimsSo, ClaimsStage, HasLookedAt, HasWorked, HoldsPut, IsStageOf, Stages, no_cells}
 use Rattle.object_ops.specs.PutWork.{StepsWork}
 use Rattle.object_ops.specs.declared.put_work.Work.{Work}
-use Rattle.object_ops.proofs.LosingLemmas.{put_loses}
+use Rattle.object_ops.proofs.PutCalls.{due_may, letter_grows, made_by, new_letter, step_was_made, unwritten_lacks}
 use Rattle.object_ops.proofs.PutCells.{same_cells}
-use Rattle.object_ops.proofs.PutDisks.{WritesUnder, kept_then, spares_others}
+use Rattle.object_ops.proofs.PutDisks.{WritesUnder, kept_then}
 use Rattle.object_ops.proofs.PutMine.{met_mine}
-use Rattle.object_ops.proofs.PutPlaces.{is_made, letter_grows, new_letter, seen_by, seen_was_so, work_manifest}
+use Rattle.object_ops.proofs.PutPlaces.{is_made, work_manifest}
 use Rattle.object_ops.proofs.PutWrites.{IsMade, IsNone, IsPut, ManifestMoves, elsewhere, here, kept_so, own_part}
 use Rattle.object_ops.proofs.ReadingTell.{one_all}
 use Rattle.object_ops.proofs.PutStepClaims.{with_stage, held_with, goes_with, other_id, other_apart, expected_then, some_staging, some_flying, looked_on, seen_old, seen_new, seen_same}
 
+-- the blocks of a drive's shard, whose table it has
+drive_blocks : (load : Load) (body : List ℕ) (shards : List (List (List ℕ))) (k : ℕ) → k < load.set.drives → HasTaken load body shards
+    → IsOfDrive load k (Some (slice_index_or shards k []))
+drive_blocks load body shards k low taken = (
+  taken.of_body,
+  ap (λ l. slice_index_or l k []) taken.tables ∙ get_or-map _ shards k [] [] (let all = taken.are.count in omega (arith, all, low)),
+)
+
 module _ {D : Type 0} (ghosts : Ghosts D) (ask : PutAsk) (work later : Work) (o : D) (old new : List D) (counted : length old ≡ ask.set.drives)
     (long : length new ≡ length old) (steps : StepsWork ghosts work later old new) (k : ℕ)
-    (one : Stepped ghosts.tells ghosts.files ghosts.count k work.stage later.stage old new)
+    (one : Stepped ghosts k work.stage later.stage old new)
     (goes : GoesOn (view_at (views ghosts old) k) (view_at (views ghosts new) k)) (claim : Claim) (log : Log) (x : Stages ask work claim log) where
   abbrev id : VersionId
   id = work.flight.id
@@ -76,11 +90,13 @@ module _ {D : Type 0} (ghosts : Ghosts D) (ask : PutAsk) (work later : Work) (o 
       (subst₂ (λ (a b : DriveView). LetterOf one.answer (due_at work.stage k) a.tells (data_of work.stage.load.names.id a.files) a.count b.count)
       (sym (seen_old ghosts o old new long k low)) (sym (seen_new ghosts o old new long k low)) (one.letter o))
 
-  abbrev seen : Seen
-  seen = seen_by id one.answer
+  pub called : CallsDue work.stage.load k (due_at work.stage k) one.answer before after
+  called =
+      subst₂ (CallsDue work.stage.load k (due_at work.stage k) one.answer) (sym (seen_old ghosts o old new long k low)) (sym (seen_new ghosts o old new long k low))
+      (one.called o)
 
-  was_so : WasSo seen before after
-  was_so = seen_was_so id one.answer (due_at work.stage k) before after letter
+  abbrev made : MadeCall
+  made = made_by work.stage.load k (due_at work.stage k) one.answer before after called
 
   spares : IsTrue before.tells → Spares id before.files after.files
   spares =
@@ -111,64 +127,84 @@ module _ {D : Type 0} (ghosts : Ghosts D) (ask : PutAsk) (work later : Work) (o 
     long_is = ap (λ (l : Load). l.long) steps.load ∙ x.stage_of.long_is;
   }
 
-  quiet_body : body_of (log ++ Called k seen ∷ []) ≡ body_of log
-  quiet_body = quiet_bodies log (Called k seen ∷ []) (one_all IsQuiet (Called k seen) tt)
+  quiet_body : body_of (log ++ Called k made ∷ []) ≡ body_of log
+  quiet_body = quiet_bodies log (Called k made ∷ []) (one_all IsQuiet (Called k made) tt)
 
-  pub taken_on : HasTaken later.stage.load (body_of (log ++ Called k seen ∷ [])) x.shards
+  pub taken_on : HasTaken later.stage.load (body_of (log ++ Called k made ∷ [])) x.shards
   taken_on = subst₂ (λ (l : Load) (body : List ℕ). HasTaken l body x.shards) (sym steps.load) (sym quiet_body) x.taken
 
   -- letters: that of the call, and those of before
-  letters_on : (j : ℕ) → j < ask.set.drives → StageLetter ask.set later.flight.id (log ++ Called k seen ∷ []) j (why_at later.stage j)
-  letters_on j below = subst (λ (f : Flight). StageLetter ask.set f.id (log ++ Called k seen ∷ []) j (why_at later.stage j)) (sym steps.flight_is)
+  letters_on : (j : ℕ) → j < ask.set.drives → StageLetter ask.set later.flight.id (log ++ Called k made ∷ []) j (why_at later.stage j)
+  letters_on j below = subst (λ (f : Flight). StageLetter ask.set f.id (log ++ Called k made ∷ []) j (why_at later.stage j)) (sym steps.flight_is)
       (elim (eqb_tells j k) [
-        | inl same ↦ subst (λ i. StageLetter ask.set id (log ++ Called k seen ∷ []) i (why_at later.stage i)) (sym same.1) (by one.answer refl)
-        | inr apart ↦ subst (λ (w : Why). StageLetter ask.set id (log ++ Called k seen ∷ []) j w)
+        | inl same ↦ subst (λ i. StageLetter ask.set id (log ++ Called k made ∷ []) i (why_at later.stage i)) (sym same.1) (by one.answer refl)
+        | inr apart ↦ subst (λ (w : Why). StageLetter ask.set id (log ++ Called k made ∷ []) j w)
             (sym (other_why one.answer k j work.stage later.stage apart.1 one.stage))
-            (letter_grows ask.set id log (Called k seen ∷ []) j (why_at work.stage j) (x.letters j below))
+            (letter_grows ask.set id log (Called k made ∷ []) j (why_at work.stage j) (x.letters j below))
       ])
     where
-      by : (answer : Result (Unit {0}) Why) → one.answer ≡ answer → StageLetter ask.set id (log ++ Called k seen ∷ []) k (why_at later.stage k)
+      by : (answer : Result (Unit {0}) Why) → one.answer ≡ answer → StageLetter ask.set id (log ++ Called k made ∷ []) k (why_at later.stage k)
       by (Ok done) is =
           let stays : why_at later.stage k ≡ why_at work.stage k = ap (λ (all : List Why). slice_index_or all k Good)
           (subst (λ a. IsAfter a k work.stage later.stage) is one.stage).0 in
-          subst (λ (w : Why). StageLetter ask.set id (log ++ Called k seen ∷ []) k w) (sym stays)
-          (letter_grows ask.set id log (Called k seen ∷ []) k (why_at work.stage k) (x.letters k inside))
+          subst (λ (w : Why). StageLetter ask.set id (log ++ Called k made ∷ []) k w) (sym stays)
+          (letter_grows ask.set id log (Called k made ∷ []) k (why_at work.stage k) (x.letters k inside))
       by (Err why) is =
           let there : k < length work.stage.whys = omega (arith, work.stage.letters, one.due.within) in
           let set_to : why_at later.stage k ≡ why = ap (λ (all : List Why). slice_index_or all k Good)
           (subst (λ a. IsAfter a k work.stage later.stage) is one.stage).0 ∙ get_or-set_same work.stage.whys k why Good there in
-          subst₂ (λ (w : Why) (a : Result (Unit {0}) Why). StageLetter ask.set id (log ++ Called k (seen_by id a) ∷ []) k w) (sym set_to) (sym is)
-          (new_letter ask.set id k why (due_at work.stage k) before.tells (data_of id before.files) before.count after.count log in_use
+          subst₂ (λ (w : Why) (y : VersionId). StageLetter ask.set y (log ++ Called k made ∷ []) k w) (sym set_to) x.stage_of.id_is
+          (new_letter ask.set work.stage.load k (due_at work.stage k) made called.answer log in_use called.is_due why before.tells (data_of id before.files)
+          (subst (λ a. AnswerOf a called.answer) is called.answered)
           (subst (λ a. LetterOf a (due_at work.stage k) before.tells (data_of id before.files) before.count after.count) is letter))
 
+  -- so are the calls of each drive
+  called_on : (j : ℕ) → j < ask.set.drives → CalledSo later.stage j (slice_index_or x.shards j []) (calls_at j (log ++ Called k made ∷ []))
+  called_on j below = elim (eqb_tells k j) [
+    | inl same ↦ subst (λ i. CalledSo later.stage i (slice_index_or x.shards i []) (calls_at i (log ++ Called k made ∷ []))) same.1
+        (subst (CalledSo later.stage k (slice_index_or x.shards k [])) (sym (calls_join k log (Called k made ∷ []) ∙ ap (λ l. calls_at k log ++ l) (own (subst (λ i. nat_eq k i ≡ true) (sym same.1) same.0))))
+        (step_calls_so work.stage later.stage k one.answer made.call called.answer (slice_index_or x.shards k []) (calls_at k log) steps.load one.due one.placed
+        one.stage called.is_due called.answered (drive_blocks work.stage.load (body_of log) x.shards k one.due.within x.taken) (x.called k inside)))
+    | inr apart ↦ subst (CalledSo later.stage j (slice_index_or x.shards j []))
+        (sym (calls_join j log (Called k made ∷ []) ∙ (ap (λ l. calls_at j log ++ l) (none j apart.0) ∙ append-nil (calls_at j log))))
+        (step_calls_elsewhere work.stage later.stage k j one.answer (slice_index_or x.shards j []) (calls_at j log) steps.load one.stage (λ is. apart.1 (sym is))
+        (x.called j below))
+  ]
+    where
+      own : nat_eq k k ≡ true → calls_at k (Called k made ∷ []) ≡ made.call ∷ []
+      own is = ap (λ b. cond b (made.call ∷ []) [] ++ []) is
+
+      none : (i : ℕ) → nat_eq k i ≡ false → calls_at i (Called k made ∷ []) ≡ []
+      none i is = ap (λ b. cond b (made.call ∷ []) [] ++ []) is
+
   -- all but its claim
-  pub stages_on : (next : Claim) → HoldsPut ask.at work.flight next → ClaimsSo later.stage x.shards id next → Stages ask later next (log ++ Called k seen ∷ [])
+  pub stages_on : (next : Claim) → HoldsPut ask.at work.flight next → ClaimsSo later.stage x.shards id next → Stages ask later next (log ++ Called k made ∷ [])
   stages_on next held claims = record {
-    looked = subst (λ (m : Mode). HasLookedAt ask.at.bucket m (log ++ Called k seen ∷ [])) (sym steps.mode_is)
-        (looked_on ask.at.bucket work.mode log (Called k seen) tt x.looked);
+    looked = subst (λ (m : Mode). HasLookedAt ask.at.bucket m (log ++ Called k made ∷ [])) (sym steps.mode_is)
+        (looked_on ask.at.bucket work.mode log (Called k made) tt x.looked);
     held = subst (λ (f : Flight). HoldsPut ask.at f next) (sym steps.flight_is) held;
     stage_of = stage_on;
     shards = x.shards;
     taken = taken_on;
     letters = letters_on;
+    called = called_on;
     claims = subst (λ (f : Flight). ClaimsSo later.stage x.shards f.id next) (sym steps.flight_is) claims;
   }
 
   -- all but what is held
   pub calls_on : (next : Claim) → next.slot ≡ claim.slot
-      → ((unseen : Disks) (front rest : List Claim) (own : SlotKept) → SaysUnwritten seen → own.numbers.index ≡ claim.slot
+      → ((unseen : Disks) (front rest : List Claim) (own : SlotKept) → SaysUnwritten made → own.numbers.index ≡ claim.slot
       → KeepsData ask.set unseen (views ghosts old) (among front claim rest) own → ⊥)
       → ((unseen : Disks) (front rest : List Claim) (own slot : SlotKept) → own.numbers.index ≡ claim.slot
       → KeepsData ask.set unseen (views ghosts old) (among front claim rest) own → KeepsData ask.set unseen (views ghosts old) (among front claim rest) slot
       → DataHolds slot.numbers slot.holding unseen (views ghosts new) (among front next rest) slot.records slot.state)
-      → CallMoves ask.set k seen claim next (views ghosts old) (views ghosts new)
+      → CallMoves ask.set k made claim next (views ghosts old) (views ghosts new)
   calls_on next same written holds = record {
     within = (let viewed = length-views ghosts old in omega (arith, viewed, low));
-    in_use = λ called. in_use;
-    was_so = was_so;
-    goes_on = goes;
-    keeps = λ told. spares_others id before.files after.files (spares told);
-    removes = λ other told loses. inr (record { id = id; name = key_name ask.at }, x.held.flight_is, put_loses id other before.files after.files (spares told) loses);
+    in_use = in_use;
+    was_made = step_was_made work.stage.load k (due_at work.stage k) one.answer before after called;
+    may = due_may work.stage.load k (due_at work.stage k) called.answer called.call claim (record { id = id; name = key_name ask.at }) x.held.flight_is
+        x.stage_of.id_is called.is_due;
     long = writes.long;
     others = others;
     slot = same;
@@ -194,11 +230,13 @@ module _ {D : Type 0} (ghosts : Ghosts D) (ask : PutAsk) (work later : Work) (o 
 
   -- what a step of it gives
   abbrev pub Steps : Type 0
-  Steps = (next : Claim) × Stages ask later next (log ++ Called k seen ∷ []) × CallMoves ask.set k seen claim next (views ghosts old) (views ghosts new)
+  Steps = (next : Claim) × (call : MadeCall) × Stages ask later next (log ++ Called k call ∷ [])
+      × CallMoves ask.set k call claim next (views ghosts old) (views ghosts new)
 
   void_step : (staging : Staging) → claim.stage ≡ Some staging → staging.id ≢ id → Steps
   void_step staging staged apart = (
     claim,
+    made,
     stages_on claim x.held (staging, staged, inl apart),
     calls_on claim refl (λ unseen front rest own says mine kept_own. absurd (apart (unmet unseen front rest own staging staged mine kept_own).0)) (λ unseen front rest own slot mine kept_own kept. absurd (apart (unmet unseen front rest own staging staged mine kept_own).0)),
   )
@@ -209,6 +247,7 @@ module _ {D : Type 0} (ghosts : Ghosts D) (ask : PutAsk) (work later : Work) (o 
   lost_step staging staged worked lost =
       let void : Staging = record { id = other_id id; expected = staging.expected } in (
         with_stage claim void,
+        made,
         stages_on (with_stage claim void) (held_with ask.at work.flight claim void x.held) (void, refl, inl (other_apart id)),
         calls_on (with_stage claim void) refl (λ unseen front rest own says mine kept_own.
             let u = unmet unseen front rest own staging staged mine kept_own in
@@ -231,11 +270,7 @@ module _ {D : Type 0} (ghosts : Ghosts D) (ask : PutAsk) (work later : Work) (o 
     mine = slice_index_or x.shards k []
 
     of_drive : IsOfDrive work.stage.load k (Some mine)
-    of_drive = (
-      x.taken.of_body,
-      ap (λ l. slice_index_or l k []) x.taken.tables
-          ∙ get_or-map _ x.shards k [] [] (let all = x.taken.are.count in let low = one.due.within in omega (arith, all, low)),
-    )
+    of_drive = drive_blocks work.stage.load (body_of log) x.shards k one.due.within x.taken
 
     at_new : AtWork later.stage (Some mine) k no_cells now
     at_new =
@@ -289,7 +324,7 @@ module _ {D : Type 0} (ghosts : Ghosts D) (ask : PutAsk) (work later : Work) (o 
         elim (work_manifest later.stage mine k now at_new) [
           | inl none ↦ IsNone (kept ∙ none)
           | inr placed ↦
-              let body = body_of (log ++ Called k seen ∷ []) in
+              let body = body_of (log ++ Called k made ∷ []) in
               let m = manifest_in later.stage.load body x.shards in
               IsPut m
               (subst (λ (f : Flight). IsMade ask.at f.id m) steps.flight_is (is_made ask later.flight later.stage body x.shards stage_on taken_on placed.0))
@@ -358,22 +393,18 @@ module _ {D : Type 0} (ghosts : Ghosts D) (ask : PutAsk) (work later : Work) (o 
         set_to at_new.has)
 
     -- a drive that tells has what was written
-    never : (answer : Result (Unit {0}) Why) → one.answer ≡ answer → SaysUnwritten (seen_by id answer) → ⊥
-    never (Ok done) is says = says
-    never (Err Good) is says = says
-    never (Err (Failed b a)) is says = says
-    never (Err (Damaged damage)) is says = says
-    never (Err (Behind ballot)) is says = says
-    never (Err (Lacks Format)) is says = says
-    never (Err (Lacks Register)) is says = says
-    never (Err (Lacks ManifestKind)) is says = lacking (Lacks ManifestKind) is (λ has. has)
-    never (Err (Lacks ShardKind)) is says = lacking (Lacks ShardKind) is (λ has. has)
+    never : SaysUnwritten made → ⊥
+    never says = elim (unwritten_lacks work.stage.load k (due_at work.stage k) one.answer before after called before.tells (data_of id before.files) letter says) [
+      | inl manifest ↦ lacking (Lacks ManifestKind) manifest (λ has. has)
+      | inr shard ↦ lacking (Lacks ShardKind) shard (λ has. has)
+    ]
 
     met_step : Steps
     met_step = (
       next,
+      made,
       stages_on next (held_with ask.at work.flight claim anew x.held) (anew, refl, inr claims_on),
-      calls_on next refl (λ unseen front rest own says of_own kept_own. never one.answer refl says) holds_on,
+      calls_on next refl (λ unseen front rest own says of_own kept_own. never says) holds_on,
     )
 
   pub step_on : Steps

@@ -1,11 +1,13 @@
 -- Why too few drives gave a block, by the log that has the calls of a reader.
-use Rattle.std.proofs.Common.{◌≡◌, ◌⊎◌, ◌*◌, ◌∙◌, ℕ, List, [], Contains, length, slice_index_or, inl, inr, ap, refl, subst, sym, arith}
+use Rattle.std.proofs.Common.{◌≡◌, ◌⊎◌, ◌*◌, ◌∙◌, ℕ, List, [], length, slice_index_or, inl, inr, ap, refl, subst, sym, arith}
 use Rattle.std.proofs.lemmas.List.{take_all}
 use Rattle.seal_file.specs.declared.damage.Damage.TheVariants as damage
 use Rattle.stamp_id.specs.declared.version.VersionId.{VersionId}
 use Rattle.call_types.specs.declared.why.FileKind.TheVariants as kind
 use Rattle.call_types.specs.declared.why.Why.{Why}
 use Rattle.call_types.specs.declared.why.Why.TheVariants as letter
+use Rattle.drive_base.specs.Calls.{Seen}
+use Rattle.drive_base.specs.Calls.Seen.{CutShort, Faulted, Missing, Showed}
 use Rattle.drive_base.specs.Plan.{data_drives}
 use Rattle.drive_base.specs.declared.plan.SetPlan.{SetPlan}
 use Rattle.manifest_file.specs.declared.manifest.ManifestPart.{ManifestPart}
@@ -13,16 +15,15 @@ use Rattle.shard_file.specs.Shards.{block_place, table_place}
 use Rattle.shard_file.specs.Stripes.{block_size, stripe_count, stripe_length}
 use Rattle.body_print.specs.Names.{manifest_name, shard_name}
 use Rattle.manifest_file.specs.Spelling.{file_of}
-use Rattle.get_read.specs.Account.{Account, Seen as ReaderSeen, Stands}
-use Rattle.get_read.specs.Account as reader
+use Rattle.get_read.specs.Account.{Account, Stands}
 use Rattle.get_read.specs.Letters.{BlockLetter as ReaderLetter, GaveBlockIn, IsOtherBlock, NoBlockOf, ShowedAt as ReaderShowed, TellsNoPiece, TellsNoTable, TellsNone}
 use Rattle.get_read.specs.Readers.{Told, all_calls}
 use Rattle.get_read.specs.Refusing.{FewBlocksIn}
-use Rattle.receipts.specs.Events.{Log}
-use Rattle.receipts.specs.Events.Event.{Called}
+use Rattle.receipts.specs.Events.{Log, Saw}
 use Rattle.receipts.specs.Letters.{BlockLetter, FewBlocks, IsGoodBlock, IsInUse, IsSinceTurned, ShowedAt, Wants}
-use Rattle.object_ops.specs.ReadingLog.{AreLogged, IsLogged, seen_in}
+use Rattle.object_ops.specs.ReadingLog.{AreLogged, IsLogged}
 use Rattle.object_ops.proofs.ReadingManifest.{serves, wanted}
+use Rattle.object_ops.proofs.ReadingSpans.{saw_so}
 
 -- bytes that were shown
 showed : (calls : Account) (log : Log) (k : ℕ) (name : List ℕ) (place : ℕ) (bytes : List ℕ) → AreLogged calls log → ReaderShowed calls k name place bytes
@@ -31,7 +32,7 @@ showed calls log k name place bytes logged x = record {
   from = x.0;
   gap = x.1;
   more = x.2;
-  called = logged k (reader.Showed name x.0 x.2) x.3;
+  called = saw_so calls log logged k (Showed name x.0 x.2) x.3;
   place_is = x.4;
   piece = x.5;
 }
@@ -41,17 +42,17 @@ module _ (set : SetPlan) (d : ℕ) (part : ManifestPart) (stripe : ℕ) (root : 
   abbrev the_wants : Wants
   the_wants = record { d = d; part = part; stripe = stripe; root = root }
 
-  here : (seen : ReaderSeen) (told : ReaderSeen) → Stands turned k seen → seen ≡ told → Contains since (Called k (seen_in told))
-  here seen told stands is = subst (λ s. Contains since (Called k (seen_in s))) is (logged_since k seen stands)
+  here : (seen : Seen) (told : Seen) → Stands turned k seen → seen ≡ told → Saw since k told
+  here seen told stands is = subst (Saw since k) is (saw_so turned since logged_since k seen stands)
 
   module _ (in_use : IsInUse set k) where
     -- too few bytes came, of the table or of the block
-    no_piece : (why : Why) (place long : ℕ) (seen : ReaderSeen) → Stands turned k seen → TellsNoPiece kind.Shard (shard_name part.id) place long why seen
+    no_piece : (why : Why) (place long : ℕ) (seen : Seen) → Stands turned k seen → TellsNoPiece kind.Shard (shard_name part.id) place long why seen
         → ((place ≡ table_place d part.length) × (long ≡ 32 * stripe_count part.length))
         ⊎ ((place ≡ block_place d stripe) × (long ≡ block_size d (stripe_length part.length stripe)))
         → BlockLetter set the_wants log since k why
     no_piece letter.Good place long seen stands x asked = absurd x
-    no_piece (letter.Failed before after) place long seen stands x asked = (in_use, here seen (reader.Faulted before after) stands x)
+    no_piece (letter.Failed before after) place long seen stands x asked = (in_use, here seen (Faulted (shard_name part.id) before after) stands x)
     no_piece (letter.Damaged (damage.Short ends)) place long seen stands x asked = (
       in_use,
       inr (inr (record {
@@ -59,7 +60,7 @@ module _ (set : SetPlan) (d : ℕ) (part : ManifestPart) (stripe : ℕ) (root : 
         long = long;
         ends = ends;
         asked = asked;
-        short = here seen (reader.CutShort (shard_name part.id) place long ends) stands x;
+        short = here seen (CutShort (shard_name part.id) place long ends) stands x;
       })),
     )
     no_piece (letter.Damaged (damage.Digest stored computed)) place long seen stands x asked = absurd x
@@ -68,9 +69,9 @@ module _ (set : SetPlan) (d : ℕ) (part : ManifestPart) (stripe : ℕ) (root : 
     no_piece (letter.Damaged (damage.Long size)) place long seen stands x asked = absurd x
     no_piece (letter.Behind ballot) place long seen stands x asked = absurd x
     no_piece (letter.Lacks lacked) place long seen stands x asked = subst (λ l. BlockLetter set the_wants log since k (letter.Lacks l)) (sym x.0)
-        (in_use, here seen (reader.Missing (shard_name part.id)) stands x.1)
+        (in_use, here seen (Missing (shard_name part.id)) stands x.1)
 
-    no_table : (why : Why) (seen : ReaderSeen) → Stands turned k seen → TellsNoTable d part root why seen → BlockLetter set the_wants log since k why
+    no_table : (why : Why) (seen : Seen) → Stands turned k seen → TellsNoTable d part root why seen → BlockLetter set the_wants log since k why
     no_table why seen stands (inl x) = no_piece why _ _ seen stands x (inl (refl, refl))
     no_table why seen stands (inr x) = subst (BlockLetter set the_wants log since k) (sym x.4) (
       in_use,
@@ -82,7 +83,7 @@ module _ (set : SetPlan) (d : ℕ) (part : ManifestPart) (stripe : ℕ) (root : 
             from = table_place d part.length;
             gap = 0;
             more = x.0;
-            called = here seen (reader.Showed (shard_name part.id) (table_place d part.length) x.0) stands x.1;
+            called = here seen (Showed (shard_name part.id) (table_place d part.length) x.0) stands x.1;
             place_is = omega arith;
             piece = sym (take_all (length x.0) x.0 (omega arith));
           };
@@ -142,12 +143,12 @@ module _ (set : SetPlan) (d : ℕ) (part : ManifestPart) (stripe : ℕ) (root : 
   letter_so why (inr none) = no_block why none
 
 -- the part of a log since its reader turned to a window
-since_turned : (told : Told) (log : Log) (drive : ℕ) (name file : List ℕ) → (l : IsLogged told log) → Stands told.before drive (reader.Showed name 0 file)
+since_turned : (told : Told) (log : Log) (drive : ℕ) (name file : List ℕ) → (l : IsLogged told log) → Stands told.before drive (Showed name 0 file)
     → IsSinceTurned log l.since drive name file
 since_turned told log drive name file l stands = record {
   before = l.before;
   parts = l.parts;
-  showed = l.logged drive (reader.Showed name 0 file) stands;
+  showed = saw_so told.before l.before l.logged drive (Showed name 0 file) stands;
   recent = omega (arith, ap (length {A = ℕ}) l.silent);
 }
 

@@ -1,7 +1,6 @@
 -- The step of a reading, as a step of its op.
-use Rattle.std.proofs.Common.{◌≡◌, ◌<◌, ◌≤◌, ◌+◌, ◌∙◌, ℕ, Bool, true, false, List, [], ◌∷◌, ◌++◌, Option, Some, None, Result, Ok, Err, length, inl, inr, ap, refl, subst, sym, arith}
+use Rattle.std.proofs.Common.{◌≡◌, ◌⊎◌, ◌<◌, ◌≤◌, ◌+◌, ◌∙◌, ℕ, Bool, true, false, List, [], ◌++◌, Option, Some, None, Result, Ok, Err, length, inl, inr, ap, refl, subst, sym, arith}
 use Rattle.std.proofs.lemmas.List.{length-append}
-use Rattle.std.proofs.lemmas.List.Elements.{Contains-append_left}
 use Rattle.call_types.specs.declared.feed.Cut.TheVariants as cut_of
 use Rattle.call_types.specs.declared.names.Key.{Key}
 use Rattle.call_types.specs.declared.names.Pick.{Pick}
@@ -12,7 +11,7 @@ use Rattle.call_types.specs.declared.refusal.Refusal.TheVariants.{ShardQuorum as
 use Rattle.call_types.specs.declared.reply.Reply.TheVariants.{Found, Refused as RefusedReply}
 use Rattle.call_types.specs.declared.version.Version.{Version}
 use Rattle.call_types.specs.declared.why.Why.{Why}
-use Rattle.drive_base.specs.View.{AllOnlyRead, views}
+use Rattle.drive_base.specs.View.{views}
 use Rattle.drive_base.specs.declared.drive.Drive.{Ghosts}
 use Rattle.drive_base.specs.declared.plan.SetPlan.{SetPlan}
 use Rattle.get_read.specs.Account.{Account}
@@ -25,8 +24,7 @@ use Rattle.get_read.specs.declared.state.Asked.{Asked}
 use Rattle.get_read.specs.declared.state.State.{State}
 use Rattle.slot_core.specs.declared.handles.Pin.{Pin}
 use Rattle.span_plan.specs.Span.{Plans}
-use Rattle.receipts.specs.Events.{Log, Seen, tale_of}
-use Rattle.receipts.specs.Events.Event.{Called}
+use Rattle.receipts.specs.Events.{Log, tale_of}
 use Rattle.receipts.specs.Letters.{CannotRead, FewBlocks}
 use Rattle.receipts.specs.Paying.{Pays}
 use Rattle.receipts.specs.Paying.Outcome.{CutOff}
@@ -34,10 +32,10 @@ use Rattle.receipts.specs.Reading.{BodyIsLost}
 use Rattle.receipts.specs.Registers.{key_slot}
 use Rattle.receipts.specs.Spans.{AreOfVersion, body_length, whole_of}
 use Rattle.op_steps.specs.Claims.{Claim}
-use Rattle.op_steps.specs.Moves.{CallMoves}
+use Rattle.op_steps.specs.Words.{CallsOne}
 use Rattle.object_ops.specs.Get.{GetStands, fetched_state}
 use Rattle.object_ops.specs.Reading.{HasPin, HoldsPin}
-use Rattle.object_ops.specs.ReadingLog.{AreLogged, IsLogged, seen_in}
+use Rattle.object_ops.specs.ReadingLog.{AreLogged, IsLogged}
 use Rattle.object_ops.specs.ReadingPlan.{IsOfSpan, wanted_by}
 use Rattle.object_ops.specs.ReadingStep.{IsStepped, ReadsSo, StaysReading}
 use Rattle.object_ops.specs.ReadingTold.{HasTold, IsFetching, IsGiving}
@@ -45,7 +43,7 @@ use Rattle.object_ops.specs.declared.reading.Reading.{Reading}
 use Rattle.object_ops.specs.declared.reading.Stepped.{Stepped}
 use Rattle.object_ops.specs.declared.reading.Stepped.TheVariants.{Gives, Goes, LacksMemory, Refused}
 use Rattle.object_ops.proofs.ReadingBlocks.{few_blocks}
-use Rattle.object_ops.proofs.ReadingCalls.{all_logged_on, calls_move, drive_in, event_of, event_quiet, gave_in, logged_on}
+use Rattle.object_ops.proofs.ReadingCalls.{all_logged_on, calls_so, events_of, events_quiet, logged_on}
 use Rattle.object_ops.proofs.ReadingManifest.{none_serves}
 use Rattle.object_ops.proofs.ReadingPays.{front_told, lack_pays, of_version, ready, the_task, told_on}
 
@@ -210,8 +208,8 @@ module _ (set : SetPlan) (at : Key) (pick : Pick) (ask : RangeAsk) (matches : Op
     }
 
     -- with an account that has the calls of the step
-    read_on : (told : Told) (given : List ℕ) (calls : Account) → IsAccountOf new.reader told given → AreLogged (all_calls told) (log ++ event_of calls)
-        → IsLogged told (log ++ event_of calls) → HasRead new told given x.given (log ++ event_of calls)
+    read_on : (told : Told) (given : List ℕ) (calls : Account) → IsAccountOf new.reader told given → AreLogged (all_calls told) (log ++ events_of calls)
+        → IsLogged told (log ++ events_of calls) → HasRead new told given x.given (log ++ events_of calls)
     read_on told given calls account all_logged logged = record {
       version = x.version;
       id = x.id;
@@ -223,7 +221,7 @@ module _ (set : SetPlan) (at : Key) (pick : Pick) (ask : RangeAsk) (matches : Op
       more = omega (arith, x.more, stays.left_is);
       some = λ told_now. x.some (sym stays.told_is ∙ told_now);
       has_told = rw (stays.span_is, stays.told_is)
-          (told_on set at pick ask matches now x.version old.span x.id old.told x.given log (event_of calls) (event_quiet calls) x.has_told);
+          (told_on set at pick ask matches now x.version old.span x.id old.told x.given log (events_of calls) (events_quiet calls) x.has_told);
     }
 
     -- how far the op is then, by what the reader answered
@@ -254,26 +252,22 @@ turned_so : (answer : Result ReadStep BodyFault) (old new : State) (told : Told)
 turned_so answer old new told calls is = subst (λ (a : Result ReadStep BodyFault). (told_after (turns a old new) told calls).since ≡ []) (sym is) refl
 
 module _ {D : Type 0} (ghosts : Ghosts D) (set : SetPlan) (at : Key) (pick : Pick) (ask : RangeAsk) (matches : Option (List ℕ)) (now : ℕ) where
-  -- one step of a reading
+  -- one step of a reading: its call, or none, where there was not enough memory or a piece was at hand
   pub fetched : (old new : Reading) (stepped : Stepped) (pin : Option Pin) (claim : Claim) (log : Log) (before after : List D) → StaysReading old new
-      → ReadsSo ghosts old new stepped before after → AllOnlyRead (views ghosts before) (views ghosts after) → length before ≡ set.drives
-      → length after ≡ length before → HasPin (key_slot at) pin claim → IsFetching set (the_task set at pick ask matches now) at pick ask old log
-      → (k : ℕ) × (seen : Seen)
-      × GetStands set (the_task set at pick ask matches now) at pick ask (fetched_state stepped new.told) pin (Some new) claim (log ++ Called k seen ∷ [])
-      × CallMoves set k seen claim claim (views ghosts before) (views ghosts after)
-  fetched old new stepped pin claim log before after stays (inl lacks_it) read counted long has x =
-      let later = log ++ event_of [] in
-      let all : AreLogged (all_calls x.told) later = λ k seen stands. Contains-append_left log (event_of []) (Called k (seen_in seen)) (x.all_logged k seen stands) in
-      let pays : Pays set (the_task set at pick ask matches now) (Some cut_of.NoMemory) later =
-      lack_pays set at pick ask matches now x.version old.span x.id old.told x.given later
-      (told_on set at pick ask matches now x.version old.span x.id old.told x.given log (event_of []) (event_quiet []) x.has_told) (omega (arith, x.counted))
-      (of_version set ask x.version x.id old x.told x.given later x.of_span all x.account.exact) in (
-        drive_in [],
-        gave_in [],
-        subst (λ s. GetStands set (the_task set at pick ask matches now) at pick ask (fetched_state s new.told) pin (Some new) claim later) (sym lacks_it.0) (has, pays),
-        calls_move ghosts set [] before after claim (omega (arith, counted, set.enough_drives)) long lacks_it.1 read,
+      → ReadsSo ghosts old new stepped before after → length after ≡ length before → HasPin (key_slot at) pin claim
+      → IsFetching set (the_task set at pick ask matches now) at pick ask old log
+      → CallsOne (GetStands set (the_task set at pick ask matches now) at pick ask (fetched_state stepped new.told) pin (Some new)) set claim log
+      (views ghosts before) (views ghosts after)
+      ⊎ (GetStands set (the_task set at pick ask matches now) at pick ask (fetched_state stepped new.told) pin (Some new) claim log
+      × (views ghosts after ≡ views ghosts before))
+  fetched old new stepped pin claim log before after stays (inl lacks_it) long has x =
+      let pays : Pays set (the_task set at pick ask matches now) (Some cut_of.NoMemory) log =
+      lack_pays set at pick ask matches now x.version old.span x.id old.told x.given log x.has_told (omega (arith, x.counted))
+      (of_version set ask x.version x.id old x.told x.given log x.of_span x.all_logged x.account.exact) in inr (
+        subst (λ s. GetStands set (the_task set at pick ask matches now) at pick ask (fetched_state s new.told) pin (Some new) claim log) (sym lacks_it.0) (has, pays),
+        ap (views ghosts) lacks_it.1,
       )
-  fetched old new stepped pin claim log before after stays (inr stepped_so) read counted long has x =
+  fetched old new stepped pin claim log before after stays (inr stepped_so) long has x =
       let answer = stepped_so.0 in
       let steps = stepped_so.1.step in
       let same = stepped_so.1.asked in
@@ -289,10 +283,8 @@ module _ {D : Type 0} (ghosts : Ghosts D) (set : SetPlan) (at : Key) (pick : Pic
       subst (λ (a : Asked). AnswersBy answer a new.reader.state piece told given) (sym same) on.1 in
       let r = read_on set at pick ask matches now old new log x stays told given calls account
       (all_logged_on ghosts set turned x.told calls log before after are x.all_logged)
-      (logged_on ghosts set turned x.told calls log before after are x.all_logged x.logged) in (
-        drive_in calls,
-        gave_in calls,
-        stands_so set at pick ask matches now old new log x stays answer stepped told (log ++ event_of calls) pin claim stepped_so.2 r answers
-            (turned_so answer old.reader.state new.reader.state x.told calls) has,
-        calls_move ghosts set calls before after claim (omega (arith, counted, set.enough_drives)) long are read,
-      )
+      (logged_on ghosts set turned x.told calls log before after are x.all_logged x.logged) in
+      calls_so ghosts set (GetStands set (the_task set at pick ask matches now) at pick ask (fetched_state stepped new.told) pin (Some new)) calls before after claim log
+      long are
+      (stands_so set at pick ask matches now old new log x stays answer stepped told (log ++ events_of calls) pin claim stepped_so.2 r answers
+      (turned_so answer old.reader.state new.reader.state x.told calls) has)

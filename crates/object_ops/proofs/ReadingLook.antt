@@ -73,6 +73,7 @@ pub looks : (bucket : List ℕ) (looked : Looked) (k : ℕ) (stub : Option Stub)
     → AfterLook bucket looked (Turned k (noted stub) shown ∷ [])
 looks bucket (looked_of.There mode) k stub shown x = record {
   fresh = turn_idle k stub shown (subst (All ChangesNothing) (sym x.sections) (one_all ChangesNothing x.look (kept_idle _ _ x.look x.finds.looks.entry)));
+  uncalled = λ drive. refl;
   look = x.look;
   sections = x.sections;
   finds = x.finds;

@@ -1,5 +1,5 @@
 -- Why no drive gave a manifest, by the log that has the calls of a reader.
-use Rattle.std.proofs.Common.{◌≡◌, ◌≢◌, ◌∙◌, ℕ, List, Some, None, Contains, length, inl, inr, ap, refl, subst, sym}
+use Rattle.std.proofs.Common.{◌≡◌, ◌≢◌, ◌∙◌, ℕ, List, Some, None, length, inl, inr, ap, refl, subst, sym}
 use Rattle.sha2.specs.Sha256.{sha256}
 use Rattle.field_reader.specs.Format.{fault_at, place_of}
 use Rattle.seal_file.specs.Sealing.{IsDamage}
@@ -10,6 +10,8 @@ use Rattle.stamp_id.specs.declared.version.VersionId.{VersionId}
 use Rattle.call_types.specs.declared.why.FileKind.TheVariants as kind
 use Rattle.call_types.specs.declared.why.Why.{Why}
 use Rattle.call_types.specs.declared.why.Why.TheVariants as letter
+use Rattle.drive_base.specs.Calls.{Seen}
+use Rattle.drive_base.specs.Calls.Seen.{CutShort, Faulted, Missing, Showed, Sized}
 use Rattle.drive_base.specs.declared.plan.SetPlan.{SetPlan}
 use Rattle.manifest_file.specs.Canonical.{IsCanonical}
 use Rattle.manifest_file.specs.Layout.{manifest}
@@ -18,18 +20,17 @@ use Rattle.manifest_file.specs.Spelling.{file_of, manifest_kind, spelling}
 use Rattle.manifest_file.specs.declared.manifest.Manifest.{Manifest}
 use Rattle.manifest_file.proofs.LawProofs.{files_injective, spelling_found}
 use Rattle.body_print.specs.Names.{manifest_name}
-use Rattle.get_read.specs.Account.{Account, Seen as ReaderSeen, Stands}
-use Rattle.get_read.specs.Account as reader
+use Rattle.get_read.specs.Account.{Account, Stands}
 use Rattle.get_read.specs.Causes.{Fits, IsUnserved as IsUnservedFile, Serves as Suits}
 use Rattle.get_read.specs.Letters.{NoManifestOf, TellsNoManifest, TellsNoPiece, TellsNoSize}
 use Rattle.get_read.specs.Manifests.{IsDamagedSo}
 use Rattle.get_read.specs.Outcomes.{wanted_of}
 use Rattle.get_read.specs.Refusing.{NoneServesIn}
-use Rattle.receipts.specs.Events.{Log}
-use Rattle.receipts.specs.Events.Event.{Called}
+use Rattle.receipts.specs.Events.{Log, Saw}
 use Rattle.receipts.specs.Letters.{IsInUse, ManifestLetter, NoneServes, Serves, Wanted}
-use Rattle.object_ops.specs.ReadingLog.{AreLogged, seen_in}
+use Rattle.object_ops.specs.ReadingLog.{AreLogged}
 use Rattle.object_ops.proofs.ReadingLists.{is_none}
+use Rattle.object_ops.proofs.ReadingSpans.{saw_so}
 
 module _ (set : SetPlan) (id : VersionId) (print : List ℕ) (reach : ℕ) where
   abbrev pub wanted : Wanted
@@ -68,31 +69,31 @@ module _ (set : SetPlan) (id : VersionId) (print : List ℕ) (reach : ℕ) where
       other.3 (subst (Fits (wanted_of set print reach)) (sym same) (fits m x))
 
   module _ (calls : Account) (log : Log) (logged : AreLogged calls log) (k : ℕ) (in_use : IsInUse set k) where
-    -- what a call gave is in the log
-    here : (seen : ReaderSeen) (told : ReaderSeen) → Stands calls k seen → seen ≡ told → Contains log (Called k (seen_in told))
-    here seen told stands is = subst (λ s. Contains log (Called k (seen_in s))) is (logged k seen stands)
+    -- what a call told it told in the log
+    here : (seen : Seen) (told : Seen) → Stands calls k seen → seen ≡ told → Saw log k told
+    here seen told stands is = subst (Saw log k) is (saw_so calls log logged k seen stands)
 
     -- no length came
-    no_size : (why : Why) (seen : ReaderSeen) → Stands calls k seen → TellsNoSize kind.Manifest (manifest_name id) why seen → ManifestLetter set wanted log k why
+    no_size : (why : Why) (seen : Seen) → Stands calls k seen → TellsNoSize kind.Manifest (manifest_name id) why seen → ManifestLetter set wanted log k why
     no_size letter.Good seen stands x = absurd x
-    no_size (letter.Failed before after) seen stands x = (in_use, here seen (reader.Faulted before after) stands x)
+    no_size (letter.Failed before after) seen stands x = (in_use, here seen (Faulted (manifest_name id) before after) stands x)
     no_size (letter.Damaged wrong) seen stands x = absurd x
     no_size (letter.Behind ballot) seen stands x = absurd x
     no_size (letter.Lacks lacked) seen stands x = subst (λ l. ManifestLetter set wanted log k (letter.Lacks l)) (sym x.0)
-        (in_use, here seen (reader.Missing (manifest_name id)) stands x.1)
+        (in_use, here seen (Missing (manifest_name id)) stands x.1)
 
     -- too few bytes came
-    no_piece : (why : Why) (n : ℕ) (seen : ReaderSeen) → Stands calls k seen → Stands calls k (reader.Sized (manifest_name id) n)
+    no_piece : (why : Why) (n : ℕ) (seen : Seen) → Stands calls k seen → Stands calls k (Sized (manifest_name id) n)
         → TellsNoPiece kind.Manifest (manifest_name id) 0 n why seen → ManifestLetter set wanted log k why
     no_piece letter.Good n seen stands sized x = absurd x
-    no_piece (letter.Failed before after) n seen stands sized x = (in_use, here seen (reader.Faulted before after) stands x)
+    no_piece (letter.Failed before after) n seen stands sized x = (in_use, here seen (Faulted (manifest_name id) before after) stands x)
     no_piece (letter.Damaged (damage.Short place)) n seen stands sized x = (
       in_use,
       inr (inl (record {
         long = n;
-        sized = logged k (reader.Sized (manifest_name id) n) sized;
+        sized = saw_so calls log logged k (Sized (manifest_name id) n) sized;
         place = place;
-        short = here seen (reader.CutShort (manifest_name id) 0 n place) stands x;
+        short = here seen (CutShort (manifest_name id) 0 n place) stands x;
       })),
     )
     no_piece (letter.Damaged (damage.Digest stored computed)) n seen stands sized x = absurd x
@@ -101,11 +102,11 @@ module _ (set : SetPlan) (id : VersionId) (print : List ℕ) (reach : ℕ) where
     no_piece (letter.Damaged (damage.Long long)) n seen stands sized x = absurd x
     no_piece (letter.Behind ballot) n seen stands sized x = absurd x
     no_piece (letter.Lacks lacked) n seen stands sized x = subst (λ l. ManifestLetter set wanted log k (letter.Lacks l)) (sym x.0)
-        (in_use, here seen (reader.Missing (manifest_name id)) stands x.1)
+        (in_use, here seen (Missing (manifest_name id)) stands x.1)
 
     -- the file is no manifest that serves
-    no_file : (why : Why) (file : List ℕ) (seen : ReaderSeen) → Stands calls k seen → Stands calls k (reader.Sized (manifest_name id) (length file))
-        → seen ≡ reader.Showed (manifest_name id) 0 file → IsDamagedSo (wanted_of set print reach) file why → ManifestLetter set wanted log k why
+    no_file : (why : Why) (file : List ℕ) (seen : Seen) → Stands calls k seen → Stands calls k (Sized (manifest_name id) (length file))
+        → seen ≡ Showed (manifest_name id) 0 file → IsDamagedSo (wanted_of set print reach) file why → ManifestLetter set wanted log k why
     no_file letter.Good file seen stands sized is x = absurd x
     no_file (letter.Failed before after) file seen stands sized is x = absurd x
     no_file (letter.Damaged wrong) file seen stands sized is x = (
@@ -113,8 +114,8 @@ module _ (set : SetPlan) (id : VersionId) (print : List ℕ) (reach : ℕ) where
       inr (inr (
         file,
         record {
-          sized = logged k (reader.Sized (manifest_name id) (length file)) sized;
-          showed = here seen (reader.Showed (manifest_name id) 0 file) stands is;
+          sized = saw_so calls log logged k (Sized (manifest_name id) (length file)) sized;
+          showed = here seen (Showed (manifest_name id) 0 file) stands is;
           none = unserved file wrong x;
         },
       )),
@@ -122,11 +123,11 @@ module _ (set : SetPlan) (id : VersionId) (print : List ℕ) (reach : ℕ) where
     no_file (letter.Behind ballot) file seen stands sized is x = absurd x
     no_file (letter.Lacks lacked) file seen stands sized is x = absurd x
 
-    no_manifest : (why : Why) (seen : ReaderSeen) → Stands calls k seen
-        → TellsNoManifest (wanted_of set print reach) id (λ n. Stands calls k (reader.Sized (manifest_name id) n)) why seen → ManifestLetter set wanted log k why
+    no_manifest : (why : Why) (seen : Seen) → Stands calls k seen
+        → TellsNoManifest (wanted_of set print reach) id (λ n. Stands calls k (Sized (manifest_name id) n)) why seen → ManifestLetter set wanted log k why
     no_manifest why seen stands (inl x) = no_size why seen stands x
     no_manifest why seen stands (inr (inl x)) = subst (ManifestLetter set wanted log k) (sym x.3)
-        (in_use, inl (x.0, here seen (reader.Sized (manifest_name id) x.0) stands x.1, x.2))
+        (in_use, inl (x.0, here seen (Sized (manifest_name id) x.0) stands x.1, x.2))
     no_manifest why seen stands (inr (inr (inl x))) = no_piece why x.0 seen stands x.1 x.2
     no_manifest why seen stands (inr (inr (inr x))) = no_file why x.0 seen stands x.1 x.2 x.3
 

@@ -1,13 +1,16 @@
 -- The begin and the end of a read, as steps of an op that has the pin between them.
 use Rattle.std.proofs.Common.{◌≡◌, ◌∙◌, ℕ, List, Contains, Option, Some, None, Result, Ok, Err, MatchOption, refl, sym, subst, subst₂, arith}
+use Rattle.audit_trail.specs.declared.entry.Deed.{Deed}
 use Rattle.audit_trail.specs.declared.entry.Entry.{Entry}
 use Rattle.call_types.specs.Refusals.{refusal_of}
 use Rattle.call_types.specs.declared.names.Key.{Key}
 use Rattle.call_types.specs.declared.names.Mode.{Mode}
 use Rattle.call_types.specs.declared.names.Pick.{Pick}
 use Rattle.call_types.specs.declared.refusal.KeyRefusal.{KeyRefusal}
-use Rattle.drive_base.specs.View.{AllOnlyRead, DriveView, views}
+use Rattle.drive_base.specs.View.{DriveView, views}
 use Rattle.drive_base.specs.declared.drive.Drive.{Ghosts}
+use Rattle.stamp_id.specs.declared.stamp.ChangeId.{ChangeId}
+use Rattle.drive_base.proofs.ViewLemmas.{untouched_are_only_read}
 use Rattle.register_core.specs.declared.faults.QuorumFault.{QuorumFault}
 use Rattle.slot_history.specs.Names.{key_name}
 use Rattle.slot_history.specs.Standing.{Records}
@@ -16,27 +19,30 @@ use Rattle.slot_data.specs.Disks.{Disks}
 use Rattle.slot_data.specs.Holding.{Holding, Pinned}
 use Rattle.slot_data.specs.Holding.Purpose.{ForRead}
 use Rattle.slot_data.specs.Standing.{DataStands}
+use Rattle.slot_core.specs.Calming.{HasMade, OnlyLooked}
 use Rattle.slot_core.specs.Hands.{HandsStay}
 use Rattle.slot_core.specs.Reading.{ReadCause}
-use Rattle.slot_core.specs.Sections.{MayLetGo, PinGoes, ReadHolds, SaysKept, SaysRead, ShowsNoMore}
+use Rattle.slot_core.specs.Sections.{MayLetGo, PinGoes, ReadDeed, ReadHolds, SaysKept, SaysRead, ShowsNoMore}
 use Rattle.slot_core.specs.Stubs.{Says, completed_by, entry_of}
 use Rattle.slot_core.specs.Turning.{EntryMoves, Leaves, Turns, TurnsQuietly}
-use Rattle.slot_core.specs.Views.{last_of}
+use Rattle.slot_core.specs.Views.{last_of, quorum_of}
 use Rattle.slot_core.specs.declared.fault.SlotFault.{SlotFault}
 use Rattle.slot_core.specs.declared.fault.SlotFault.TheVariants.{AuditFailed, Key as KeyFault, NoMemory, NotInFlight, Quorum, SeqSpent}
 use Rattle.slot_core.specs.declared.reading.ReadStart.{ReadStart}
 use Rattle.slot_core.specs.declared.stub.Stub.{Stub}
 use Rattle.receipts.specs.Events.Shown.{NoneShown}
-use Rattle.op_steps.specs.Causes.{SaysRefused, TurnCause}
+use Rattle.op_steps.specs.Causes.{SaysRefused}
 use Rattle.op_steps.specs.Claims.{Claim, HoldsAt, IsMet, among, claims_at, disks_of, hands_of, no_claim}
 use Rattle.op_steps.specs.Looking.{AreOnlyRead}
 use Rattle.op_steps.specs.Moves.{ShowsBy, TurnLeaves, TurnMoves}
-use Rattle.op_steps.specs.Notes.{noted}
+use Rattle.op_steps.specs.Notes.{entry_in, noted}
 use Rattle.op_steps.specs.Store.{LanesStand, SlotSeen}
+use Rattle.op_steps.proofs.Accounts.{TurnAccount}
 use Rattle.op_steps.proofs.CauseLemmas.{AnswerCause, IsWritten, answer_cause, key_cause, look_refuses, quorum_cause, unwritten_by, written_by}
+use Rattle.op_steps.proofs.ChangeLetterLemmas.{says_none}
 use Rattle.op_steps.proofs.DataLemmas.{data_read, last_rises}
-use Rattle.op_steps.proofs.LookLemmas.{all_read}
-use Rattle.op_steps.proofs.NoteLemmas.{audit_noted, entry_counts, entry_noted, same_entry}
+use Rattle.op_steps.proofs.MovesLemmas.{turn_moves}
+use Rattle.op_steps.proofs.NoteLemmas.{audit_noted, calm_noted, entry_counts, entry_noted, same_entry}
 use Rattle.object_ops.specs.Reading.{HoldsStart, pinned_claim}
 use Rattle.object_ops.proofs.ReadingClaims.{begin_holds, end_holds}
 
@@ -56,6 +62,22 @@ read_said : (at : Key) (mode : Mode) (pick : Pick) (why : KeyRefusal) (entry : O
     → MatchOption entry (Unit {0}) (SaysRead at mode pick (Err (KeyFault why))) → SaysRefused (refusal_of why) entry
 read_said at mode pick why None there says = there
 read_said at mode pick why (Some made) there says = (_, says.deed_is)
+
+-- the deed of a read drew no change
+read_looked : (at : Key) (mode : Mode) (pick : Pick) (answer : Result ReadStart SlotFault) (deed : Deed) → ReadDeed at mode pick answer deed → OnlyLooked deed
+read_looked at mode pick (Ok start) deed is = subst OnlyLooked (sym is) refl
+read_looked at mode pick (Err (KeyFault why)) deed is = subst OnlyLooked (sym is) refl
+read_looked at mode pick (Err (Quorum fault)) deed is = subst OnlyLooked (sym is) tt
+read_looked at mode pick (Err SeqSpent) deed is = absurd is
+read_looked at mode pick (Err (AuditFailed before after)) deed is = absurd is
+read_looked at mode pick (Err NoMemory) deed is = absurd is
+read_looked at mode pick (Err (NotInFlight id)) deed is = absurd is
+
+-- so its note tells none that was made
+read_none : (at : Key) (mode : Mode) (pick : Pick) (answer : Result ReadStart SlotFault) (stub : Option Stub) → Says stub (SaysRead at mode pick answer)
+    → (name : List ℕ) (change : ChangeId) → HasMade (entry_in (noted stub)) name change → ⊥
+read_none at mode pick answer stub says =
+    says_none stub (SaysRead at mode pick answer) (λ told is. read_looked at mode pick answer told.deed is.deed_is) says
 
 module _ {D : Type 0} (ghosts : Ghosts D) where
   -- what the begin of a read says
@@ -87,9 +109,10 @@ module _ {D : Type 0} (ghosts : Ghosts D) where
         stay = left.stay;
         moves = subst (λ e. EntryMoves was.numbers.index e (ShowsBy e NoneShown) records state left.after left.now) (sym (same_entry stub))
             (moves_none was.numbers.index (entry_of stub) records left.after state left.now left.moves);
+        calm = calm_noted (quorum_of was.numbers) stub records state left.after left.now left.calm;
         holds = λ unseen front rest d.
             data_read now.numbers now.holding unseen (views ghosts old) (views ghosts new) (among front later rest) (among front later rest) left.after left.now
-            (all_read ghosts old new x.read) refl
+            x.read refl
             (subst₂ (λ s i. HoldsAt s i (last_of now.numbers) now.holding unseen (views ghosts old) (among front later rest) left.after left.now)
             (sym x.turns.numbers.set) (sym x.turns.numbers.index)
             (goes unseen front rest records left.after state left.now d
@@ -114,7 +137,7 @@ module _ {D : Type 0} (ghosts : Ghosts D) where
   read_cause was now claim at mode pick (Err (NotInFlight id)) stub old new x = absurd x.cause
 
   read_turn_cause : (was now : SlotSeen D) (claim : Claim) (at : Key) (mode : Mode) (pick : Pick) (answer : Result ReadStart SlotFault) (stub : Option Stub)
-      (old new : List D) → BeginSays was now at mode pick answer stub old new → TurnCause ghosts (noted stub) was now claim (views ghosts old) (views ghosts new)
+      (old new : List D) → BeginSays was now at mode pick answer stub old new → TurnAccount ghosts (noted stub) was now claim (views ghosts old) (views ghosts new)
   read_turn_cause was now claim at mode pick answer stub old new x =
       answer_cause ghosts was now claim (views ghosts old) (views ghosts new) answer stub x.turns.stub_is
       (read_cause was now claim at mode pick answer stub old new x)
@@ -127,14 +150,15 @@ module _ {D : Type 0} (ghosts : Ghosts D) where
       let p = x.holds.0 in (
         pinned_claim was.numbers.index p,
         record { pinned = p; ticket = x.holds.1.ticket_is ∙ sym x.holds.1.handle; purpose = x.holds.1.purpose; claim_is = refl },
-        record {
+        turn_moves ghosts was now (noted stub) NoneShown (no_claim was.numbers.index) (pinned_claim was.numbers.index p) (views ghosts old) (views ghosts new) (record {
           numbers = x.turns.numbers;
           note_is = entry_noted was.numbers (Ok start) stub x.turns.stub_is;
           audit = audit_noted stub was.entries now.entries x.turns.audit;
           faults = entry_counts was.numbers (Ok start) stub was.faults now.faults x.turns.stub_is x.turns.faults;
           claims = record { slot = refl; elsewhere = λ other. absurd (other refl) };
-          read = all_read ghosts old new x.read;
-          cause = read_turn_cause was now (no_claim was.numbers.index) at mode pick (Ok start) stub old new x;
+          read = x.read;
+          account = read_turn_cause was now (no_claim was.numbers.index) at mode pick (Ok start) stub old new x;
+          letters = λ name change made. absurd (read_none at mode pick (Ok start) stub x.says name change made);
           leaves = leaves_so was now at mode pick (Ok start) stub old new (no_claim was.numbers.index) (pinned_claim was.numbers.index p) x
               (λ unseen front rest records after state state_after d leaves.
               subst (λ (h : Holding). HoldsAt was.numbers.set was.numbers.index (last_of now.numbers) h unseen (views ghosts old)
@@ -143,19 +167,20 @@ module _ {D : Type 0} (ghosts : Ghosts D) where
               records after state state_after (last_rises was.numbers now.numbers x.turns.numbers) d
               (λ hands stands. subst (λ (h : Holding). DataStands was.numbers.set was.numbers.index (last_of now.numbers) after state_after h
               (disks_of unseen was.numbers.set.out (views ghosts old)) hands) x.holds.2 (leaves hands stands))));
-        },
+        }),
       )
   begin_turn was now at mode pick (Err fault) stub old new x = (
     no_claim was.numbers.index,
     refl,
-    record {
+    turn_moves ghosts was now (noted stub) NoneShown (no_claim was.numbers.index) (no_claim was.numbers.index) (views ghosts old) (views ghosts new) (record {
       numbers = x.turns.numbers;
       note_is = entry_noted {T = ReadStart} was.numbers (Err fault) stub x.turns.stub_is;
       audit = audit_noted stub was.entries now.entries x.turns.audit;
       faults = entry_counts {T = ReadStart} was.numbers (Err fault) stub was.faults now.faults x.turns.stub_is x.turns.faults;
       claims = record { slot = refl; elsewhere = λ other. refl };
-      read = all_read ghosts old new x.read;
-      cause = read_turn_cause was now (no_claim was.numbers.index) at mode pick (Err fault) stub old new x;
+      read = x.read;
+      account = read_turn_cause was now (no_claim was.numbers.index) at mode pick (Err fault) stub old new x;
+      letters = λ name change made. absurd (read_none at mode pick (Err fault) stub x.says name change made);
       leaves = leaves_so was now at mode pick (Err fault) stub old new (no_claim was.numbers.index) (no_claim was.numbers.index) x
           (λ unseen front rest records after state state_after d leaves. record {
             tell = d.tell;
@@ -167,12 +192,8 @@ module _ {D : Type 0} (ghosts : Ghosts D) where
             flights_are = λ f there. d.flights_are f (subst (λ (h : Holding). Contains h.flights f) x.holds there);
             pins_are = λ p there. d.pins_are p (subst (λ (h : Holding). Contains h.pins p) x.holds there);
           });
-    },
+    }),
   )
-
--- data drives to which nothing is done are only read
-untouched : (disks : List DriveView) → AllOnlyRead disks disks
-untouched disks = record { long = refl; each = λ k inside. record { goes_on = record { tells = refl; count = omega arith }; files = λ tells. refl } }
 
 module _ {D T : Type 0} (ghosts : Ghosts D) where
   -- what the end of a read says
@@ -193,6 +214,7 @@ module _ {D T : Type 0} (ghosts : Ghosts D) where
         stands = left.stands;
         stay = left.stay;
         moves = moves_none was.numbers.index None records left.after state left.now left.moves;
+        calm = left.calm;
         holds = λ unseen front rest d.
             subst₂ (λ s i. HoldsAt s i (last_of now.numbers) now.holding unseen disks (among front (no_claim was.numbers.index) rest) left.after left.now)
             (sym x.turns.numbers.set) (sym x.turns.numbers.index)
@@ -211,7 +233,9 @@ module _ {D T : Type 0} (ghosts : Ghosts D) where
     audit = x.turns.audit;
     faults = x.turns.faults;
     claims = record { slot = refl; elsewhere = λ other. absurd (other refl) };
-    read = untouched disks;
+    read = untouched_are_only_read disks;
     cause = tt;
+    letters = λ name change made. absurd made;
+    complete = tt;
     leaves = end_leaves was now p answer disks purpose x;
   }

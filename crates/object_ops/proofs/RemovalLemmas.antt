@@ -7,17 +7,17 @@ use Rattle.std.proofs.lemmas.List.FromFn.{get_or-map-range_with_len}
 use Rattle.std.proofs.lemmas.List.Elements.{All-contains}
 use Rattle.std.proofs.lemmas.Map.{update_other, update_same}
 use Rattle.stamp_id.specs.declared.version.VersionId.{VersionId}
+use Rattle.drive_base.specs.Calls.{MadeCall}
 use Rattle.drive_base.specs.Files.{Files, LooseFile, Named, with_name, with_placed}
-use Rattle.drive_base.specs.View.{DriveView, view_at}
+use Rattle.drive_base.specs.View.{DriveView, GoesOn, view_at}
 use Rattle.drive_base.specs.declared.plan.SetPlan.{SetPlan}
 use Rattle.body_print.specs.Names.{loose_manifest_name, loose_shard_name, manifest_name, shard_name}
 use Rattle.put_stage.specs.Cells.{data_of}
 use Rattle.put_stage.specs.Working.{HasNoneLoose}
 use Rattle.slot_history.specs.Standing.{Flying, Records}
 use Rattle.slot_history.specs.State.{State}
-use Rattle.slot_history.proofs.MemberLemmas.{same_or_other}
 use Rattle.slot_history.proofs.TakenLemmas.{first_there, rest_there}
-use Rattle.slot_data.specs.DiskLaws.{IsRemoved, StaysOrGoes}
+use Rattle.slot_data.specs.DiskLaws.{IsElsewhere, IsRemoved, StaysOrGoes}
 use Rattle.slot_data.specs.Disks.{Disks, kept_on}
 use Rattle.slot_data.specs.Holding.{Hands, Holding}
 use Rattle.slot_data.specs.Moves.{with_taken as hands_with}
@@ -26,19 +26,30 @@ use Rattle.slot_data.proofs.DiskLemmas.{manifest_stays, shard_stays}
 use Rattle.slot_data.proofs.RemovedLemmas.{taken_is_removed}
 use Rattle.slot_core.specs.Views.{SlotNumbers, last_of}
 use Rattle.op_steps.specs.Claims.{AllApart, Claim, DataHolds, DisksTell, IsExpected, IsMet, among, claims_at, counted_on, disks_of, hands_of}
-use Rattle.op_steps.specs.Moves.{CallMoves, IsDataName, KeepsOthers, RecordsStand}
+use Rattle.op_steps.specs.Calls.{MayCall}
+use Rattle.op_steps.specs.Moves.{CallMoves, RecordsStand}
 use Rattle.object_ops.specs.Clearing.{RemovesOne, with_taken}
 use Rattle.object_ops.specs.DataNames.{name_by}
-use Rattle.object_ops.specs.Removing.{AreDue, FileOn, IsDue, ids_of}
+use Rattle.object_ops.specs.Removing.{AreDue, FileOn, IsDue, RemoveCall, ids_of}
 use Rattle.object_ops.specs.declared.removal.DataFile.{DataFile}
 use Rattle.object_ops.specs.declared.removal.DataFile.TheVariants.{Manifest, Shard}
 use Rattle.op_steps.proofs.LiveFileLemmas.{at_own, own_in_hand}
+use Rattle.object_ops.proofs.CallLemmas.{removal_goes_on, removal_leaves, removal_written}
 use Rattle.object_ops.proofs.ClaimLemmas.{apart_on, at_other, each_on, flight_stays, hands_on, pin_stays}
 use Rattle.object_ops.proofs.ElsewhereLemmas.{removed_elsewhere}
-use Rattle.object_ops.proofs.LosingLemmas.{not_its, removal_loses}
 use Rattle.object_ops.proofs.TrashLemmas.{met_taken}
 
 -- ---- names
+
+-- a name that is none of an id's two isn't that of its file
+not_its : (kind : DataFile) (id : VersionId) (other : List ℕ) → IsElsewhere id other → bytes_eq (name_by kind id) other ≡ false
+not_its Shard id other apart = apart.1
+not_its Manifest id other apart = apart.0
+
+-- the file of an id is one of its two
+its_name : (kind : DataFile) (id : VersionId) → (name_by kind id ≡ manifest_name id) ⊎ (name_by kind id ≡ shard_name id)
+its_name Shard id = inr refl
+its_name Manifest id = inl refl
 
 -- what is under any name where one was taken out
 goes : (named : Named (List ℕ)) (name other : List ℕ) → StaysOrGoes (named other) (with_name named name None other)
@@ -77,7 +88,7 @@ module _ (set : SetPlan) (unseen : Disks) (left less : List FileOn) (old new : L
   -- the files of the drive that was called
   files_after : ((view_at new file.drive).files ≡ (view_at old file.drive).files)
       ⊎ ((view_at new file.drive).files ≡ with_placed (view_at old file.drive).files (name_by file.kind file.id) None)
-  files_after = one.call.files (tell.tell file.drive due.0 due.1)
+  files_after = removal_leaves (name_by file.kind file.id) one.made (view_at old file.drive) (view_at new file.drive) one.call (tell.tell file.drive due.0 due.1)
 
   others : (k : ℕ) → k ≢ file.drive → view_at new k ≡ view_at old k
   others k apart = one.others k apart
@@ -125,12 +136,15 @@ module _ (set : SetPlan) (unseen : Disks) (left less : List FileOn) (old new : L
     shards = λ k inside. any_stays k (shard_name file.id) inside;
   }
 
+  goes_on : GoesOn (view_at old file.drive) (view_at new file.drive)
+  goes_on = removal_goes_on (name_by file.kind file.id) one.made (view_at old file.drive) (view_at new file.drive) one.call
+
   -- the drives go on to tell
   pub tell_after : DisksTell set new
   tell_after = record {
     count = one.long ∙ tell.count;
     tell = λ k inside in_use. elim (eqb_tells k file.drive) [
-      | inl here ↦ subst (λ i. IsTrue (view_at new i).tells) (sym here.1) (subst IsTrue (sym one.call.goes_on.tells) (tell.tell file.drive due.0 due.1))
+      | inl here ↦ subst (λ i. IsTrue (view_at new i).tells) (sym here.1) (subst IsTrue (sym goes_on.tells) (tell.tell file.drive due.0 due.1))
       | inr apart ↦ subst (λ (v : DriveView). IsTrue v.tells) (sym (others k apart.1)) (tell.tell k inside in_use)
     ];
   }
@@ -284,49 +298,29 @@ module _ (numbers : SlotNumbers) (holding : Holding) (records : Records) (state 
     | inr other ↦ elsewhere other.1
   ]
 
--- what is no data stays
-keeps_others : (old new : Files) (kind : DataFile) (id : VersionId) → (new ≡ old) ⊎ (new ≡ with_placed old (name_by kind id) None) → KeepsOthers old new
-keeps_others old new kind id (inl same) = record {
-  kept = λ name other. ap (λ (f : Files). f.kept name) same;
-  shown = λ name other. ap (λ (f : Files). f.shown name) same;
-  loose = λ name other. ap (λ (f : Files). f.loose name) same;
-}
-keeps_others old new kind id (inr gone) = record {
-  kept = λ name other. ap (λ (f : Files). f.kept name) gone ∙ update_other bytes_eq old.kept (name_by kind id) None name (apart name other);
-  shown = λ name other. ap (λ (f : Files). f.shown name) gone ∙ update_other bytes_eq old.shown (name_by kind id) None name (apart name other);
-  loose = λ name other. ap (λ (f : Files). f.loose name) gone;
-}
-  where
-    is_data : (k : DataFile) → IsDataName (name_by k id)
-    is_data Shard = (id, inr refl)
-    is_data Manifest = (id, inl refl)
-
-    apart : (name : List ℕ) → (IsDataName name → ⊥) → bytes_eq (name_by kind id) name ≡ false
-    apart name other = elim (same_or_other (name_by kind id) name) [
-      | inl same ↦ absurd (other (subst IsDataName same (is_data kind)))
-      | inr differs ↦ differs
-    ]
+-- a file of an id that an op took may be removed
+taken_may : (file : FileOn) (claim : Claim) (made : MadeCall) (old new : DriveView) → Contains claim.taken file.id
+    → RemoveCall (name_by file.kind file.id) made old new → MayCall claim made.call
+taken_may file claim made old new held call = subst (MayCall claim) (sym call.is) (file.id, held, its_name file.kind file.id)
 
 -- so a removal of a file of an id that an op took is a step of it
 pub removal_is_call : (set : SetPlan) (slot : ℕ) (left less : List FileOn) (old new : List DriveView) (claim : Claim) → AreDue set slot left
     → claim.slot ≡ slot → claim.taken ≡ ids_of left → (one : RemovesOne left less old new)
-    → CallMoves set one.file.drive one.seen claim (with_taken claim (ids_of less)) old new
+    → CallMoves set one.file.drive one.made claim (with_taken claim (ids_of less)) old new
 removal_is_call set slot left less old new claim all own taken one =
     let due : IsDue set slot one.file = All-contains (IsDue set slot) left one.file all
     (subst (λ (l : List FileOn). Contains l one.file) (sym one.first) (first_there one.file less)) in
+    let held : Contains claim.taken one.file.id = subst (λ (l : List VersionId). Contains l one.file.id) (sym (taken ∙ ap ids_of one.first))
+    (first_there one.file.id (ids_of less)) in
     record {
       within = one.within;
-      in_use = λ called. due.in_use;
-      was_so = one.call.was_so;
-      goes_on = one.call.goes_on;
-      keeps = λ told. keeps_others _ _ one.file.kind one.file.id (one.call.files told);
-      removes = λ id told loses. inl (subst (λ (v : VersionId). Contains claim.taken v)
-          (removal_loses one.file.kind one.file.id id _ _ (one.call.files told) loses)
-          (subst (λ (l : List VersionId). Contains l one.file.id) (sym (taken ∙ ap ids_of one.first)) (first_there one.file.id (ids_of less))));
+      in_use = due.in_use;
+      was_made = one.call.was_made;
+      may = taken_may one.file claim one.made _ _ held one.call;
       long = one.long;
       others = one.others;
       slot = refl;
-      written = λ unseen front rest mine says at kept_mine. one.call.removes says;
+      written = λ unseen front rest mine says at kept_mine. removal_written (name_by one.file.kind one.file.id) one.made _ _ one.call says;
       holds = λ unseen front rest mine s at kept_mine kept.
           holds_after s.numbers s.holding s.records s.state unseen front rest claim left less old new one
           (subst (λ (p : SetPlan). (one.file.drive < p.drives) × (IsBitSet p.out one.file.drive → ⊥)) (sym kept.set_is) (due.within, due.in_use))

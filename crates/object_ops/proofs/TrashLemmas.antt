@@ -15,7 +15,8 @@ use Rattle.slot_data.specs.declared.rows.PinRow.{PinRow}
 use Rattle.slot_core.specs.Sections.{ShowsNoMore, TakesInHand, TrashHolds}
 use Rattle.slot_core.specs.Stubs.{entry_of}
 use Rattle.slot_core.specs.Turning.{EntryMoves, Leaves, TurnsQuietly}
-use Rattle.slot_core.specs.Views.{last_of}
+use Rattle.slot_core.specs.Calming.{SectionCalms}
+use Rattle.slot_core.specs.Views.{last_of, quorum_of}
 use Rattle.slot_core.specs.declared.fault.SlotFault.{SlotFault}
 use Rattle.slot_core.specs.declared.stub.Stub.{Stub}
 use Rattle.receipts.specs.Events.Shown.{NoneShown}
@@ -85,6 +86,7 @@ module _ {D : Type 0} (ghosts : Ghosts D) where
         stands = left.stands;
         stay = left.stay;
         moves = quiet_moves index stub records left.after state left.now x.stubless left.moves;
+        calm = subst (λ s. SectionCalms (quorum_of was.numbers) (entry_of s) records state left.after left.now) x.stubless left.calm;
         holds = λ unseen front rest d.
             let mine = at_own index front rest claim own in
             let later = at_own index front rest (with_taken claim ids) own in
@@ -130,6 +132,8 @@ module _ {D : Type 0} (ghosts : Ghosts D) where
     claims = record { slot = refl; elsewhere = λ other. absurd (other own) };
     read = untouched_are_only_read disks;
     cause = tt;
+    letters = λ name change made. absurd made;
+    complete = tt;
     leaves = λ records state stands. take_leaves most rows was now answer stub (ids_of left) claim disks x own
         (planned_taken set was.numbers.index answer left plan) records state stands;
   }

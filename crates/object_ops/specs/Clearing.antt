@@ -1,11 +1,11 @@
 -- What comes after a commit: trash is taken, and its files are removed.
 use Rattle.std.specs.Prelude.{◌≡◌, ◌≢◌, ◌⊎◌, ℕ, ◌+◌, ◌*◌, ◌<◌, ◌==◌, false, if◌then◌else◌, List, [], ◌∷◌, length, None, Result, Ok, Err}
+use Rattle.drive_base.specs.Calls.{MadeCall}
 use Rattle.drive_base.specs.declared.drive.Drive.{Ghosts}
 use Rattle.drive_base.specs.View.{DriveView, view_at}
 use Rattle.drive_base.specs.declared.plan.SetPlan.{SetPlan}
 use Rattle.stamp_id.specs.declared.version.VersionId.{VersionId}
 use Rattle.slot_core.specs.declared.fault.SlotFault.{SlotFault}
-use Rattle.receipts.specs.Events.{Seen}
 use Rattle.receipts.specs.Events.Shown.{NoneShown}
 use Rattle.op_steps.specs.Claims.{Claim}
 use Rattle.op_steps.specs.Moves.{TurnMoves}
@@ -51,12 +51,12 @@ module _ {D : Type 0} (ghosts : Ghosts D) where
   TakesTrash was now left = (claim : Claim) (disks : List DriveView) → claim.slot ≡ was.numbers.index
       → TurnMoves ghosts was now None NoneShown claim (with_taken claim (ids_of left)) disks disks
 
--- the first file was removed from its drive, whatever the call gave, and no other drive was called
+-- the call that removes the first file was made of its drive, whatever it answered, and no other drive was called
 pub record RemovesOne (old new : List FileOn) (disks_old disks_new : List DriveView) : Type 0 where
   pub file : FileOn
   pub first : old ≡ file ∷ new
   pub within : file.drive < length disks_old
-  pub seen : Seen
-  pub call : RemoveCall (name_by file.kind file.id) seen (view_at disks_old file.drive) (view_at disks_new file.drive)
+  pub made : MadeCall
+  pub call : RemoveCall (name_by file.kind file.id) made (view_at disks_old file.drive) (view_at disks_new file.drive)
   pub long : length disks_new ≡ length disks_old
   pub others : (other : ℕ) → other ≢ file.drive → view_at disks_new other ≡ view_at disks_old other

@@ -3,6 +3,7 @@ use Rattle.std.specs.Prelude.{◌≡◌, ◌≢◌, ◌⊎◌, ℕ, ◌<◌, Lis
 use Rattle.call_types.specs.declared.names.Key.{Key}
 use Rattle.call_types.specs.declared.names.Mode.{Mode}
 use Rattle.call_types.specs.declared.reply.Reply.{Reply}
+use Rattle.put_stage.specs.Called.{CalledSo}
 use Rattle.put_stage.specs.Cells.{DataCells}
 use Rattle.put_stage.specs.Taking.{HasTaken}
 use Rattle.put_stage.specs.Working.{AtWork, why_at}
@@ -11,7 +12,7 @@ use Rattle.slot_core.specs.declared.handles.Flight.{Flight}
 use Rattle.slot_history.specs.Names.{key_name}
 use Rattle.stamp_id.specs.declared.version.VersionId.{VersionId}
 use Rattle.receipts.specs.Committing.{KeyIsBarred}
-use Rattle.receipts.specs.Events.{IsUntold, Log, Section, body_of, cuts_of, sections_of}
+use Rattle.receipts.specs.Events.{IsUntold, Log, Section, body_of, calls_at, cuts_of, sections_of}
 use Rattle.receipts.specs.Events.Event.{BarredFrom}
 use Rattle.receipts.specs.Letters.{IsInUse, StageLetter}
 use Rattle.receipts.specs.Looks.{EndsAtLook, FindsBucket}
@@ -78,7 +79,7 @@ pub record HasLookedAt (bucket : List ℕ) (mode : Mode) (log : Log) : Type 0 wh
   pub sections : sections_of log ≡ look ∷ []
   pub finds : FindsBucket bucket mode look
 
--- the body so far is staged: its bytes are those of the log, and so are the letters of the drives
+-- the body so far is staged: its bytes are those of the log, and so are the letters of the drives and the calls that were made of them
 pub record Stages (ask : PutAsk) (work : Work) (claim : Claim) (log : Log) : Type 0 where
   pub looked : HasLookedAt ask.at.bucket work.mode log
   pub held : HoldsPut ask.at work.flight claim
@@ -86,6 +87,7 @@ pub record Stages (ask : PutAsk) (work : Work) (claim : Claim) (log : Log) : Typ
   pub shards : List (List (List ℕ))
   pub taken : HasTaken work.stage.load (body_of log) shards
   pub letters : (k : ℕ) → k < ask.set.drives → StageLetter ask.set work.flight.id log k (why_at work.stage k)
+  pub called : (k : ℕ) → k < ask.set.drives → CalledSo work.stage k (slice_index_or shards k []) (calls_at k log)
   pub claims : ClaimsSo work.stage shards work.flight.id claim
 
 -- what the sections so far decide, whatever the body

@@ -45,8 +45,8 @@ BeginsTo set register long stated mode (Err fault) state = RefusedBegin fault lo
 pub record StepsWork {D : Type 0} (ghosts : Ghosts D) (work later : Work) (old new : List D) : Type 0 where
   pub mode_is : later.mode ≡ work.mode
   pub flight_is : later.flight ≡ work.flight
-  pub once : StepsOnce ghosts.tells ghosts.files ghosts.count work.stage later.stage old new
-  pub works : StepWorks ghosts.tells ghosts.files work.stage later.stage old new
+  pub once : StepsOnce ghosts work.stage later.stage old new
+  pub works : StepWorks ghosts work.stage later.stage old new
   pub load : later.stage.load ≡ work.stage.load
   pub tells : (k : ℕ) (d : D) → k < length old → ghosts.tells (slice_index_or new k d) ≡ ghosts.tells (slice_index_or old k d)
   pub counts : (k : ℕ) (d : D) → k < length old → ghosts.count (slice_index_or old k d) ≤ ghosts.count (slice_index_or new k d)

@@ -9,6 +9,7 @@ use Rattle.call_types.specs.declared.refusal.Refusal.TheVariants as refusal
 use Rattle.call_types.specs.declared.reply.Reply.{Reply}
 use Rattle.call_types.specs.declared.reply.Reply.TheVariants as reply
 use Rattle.put_stage.specs.Finishing.{Concludes, StagesBody}
+use Rattle.put_stage.specs.Stepping.{MayFinish}
 use Rattle.put_stage.specs.declared.stage.Stage.{Stage}
 use Rattle.put_stage.specs.declared.staged.Staged.{Staged}
 use Rattle.put_stage.specs.declared.staged.StageFault.{StageFault}
@@ -75,6 +76,7 @@ refusal_of_stage fault.NoMemory = None
 
 -- a stage that is over answers so
 pub record Answers (stage : Stage) (result : Result Staged StageFault) : Type 0 where
+  pub may : MayFinish stage
   pub concludes : Concludes stage result
   pub body : StagesBody stage result
 

@@ -10,7 +10,7 @@ use Rattle.slot_data.specs.Holding.Purpose.{ForRead}
 use Rattle.slot_core.specs.declared.fault.SlotFault.{SlotFault}
 use Rattle.slot_core.specs.declared.handles.Pin.{Pin}
 use Rattle.slot_core.specs.declared.reading.ReadStart.{ReadStart}
-use Rattle.receipts.specs.Events.{IsUntold, Log, Section, body_of, cuts_of, sections_of}
+use Rattle.receipts.specs.Events.{IsUntold, Log, Section, body_of, calls_at, cuts_of, sections_of}
 use Rattle.receipts.specs.Looks.{FindsBucket}
 use Rattle.receipts.specs.Paying.{ChangesNothing}
 use Rattle.op_steps.specs.Claims.{Claim, no_claim}
@@ -61,6 +61,7 @@ pub record IsFresh (log : Log) : Type 0 where
 -- the look at the bucket is the one section so far, and showed a bucket of this mode
 pub record HasFound (bucket : List ℕ) (mode : Mode) (log : Log) : Type 0 where
   pub fresh : IsFresh log
+  pub uncalled : (k : ℕ) → calls_at k log ≡ []
   pub look : Section
   pub sections : sections_of log ≡ look ∷ []
   pub finds : FindsBucket bucket mode look

@@ -1,13 +1,13 @@
--- The files that are to be removed, and what the call that removes one leaves.
-use Rattle.std.specs.Prelude.{◌≡◌, ◌⊎◌, ℕ, zero, suc, ◌<◌, ◌^◌, ◌==◌, IsTrue, bit_and, if◌then◌else◌, List, [], ◌∷◌, ◌++◌, All, map, None}
+-- The files that are to be removed, and the call that removes one.
+use Rattle.std.specs.Prelude.{◌≡◌, ℕ, zero, suc, ◌<◌, ◌^◌, ◌==◌, bit_and, if◌then◌else◌, List, [], ◌∷◌, ◌++◌, All, map, Result}
 use Rattle.std.specs.Int.{IsBitSet}
 use Rattle.std.specs.List.{flat_map}
 use Rattle.stamp_id.specs.declared.version.VersionId.{VersionId}
-use Rattle.drive_base.specs.Files.{with_placed}
-use Rattle.drive_base.specs.View.{DriveView, GoesOn}
+use Rattle.drive_base.specs.Calls.{MadeCall, WasMade}
+use Rattle.drive_base.specs.Trail.{Remove}
+use Rattle.drive_base.specs.View.{DriveView}
+use Rattle.drive_base.specs.declared.fault.DriveFault.{DriveFault}
 use Rattle.drive_base.specs.declared.plan.SetPlan.{SetPlan}
-use Rattle.receipts.specs.Events.{Seen}
-use Rattle.op_steps.specs.Moves.{SaysUnwritten, WasSo}
 use Rattle.object_ops.specs.declared.removal.DataFile.{DataFile}
 use Rattle.object_ops.specs.declared.removal.DataFile.TheVariants.{Manifest, Shard}
 use Rattle.object_ops.specs.declared.removal.Removal.{Removal}
@@ -52,9 +52,8 @@ AreDue set slot files = All (IsDue set slot) files
 abbrev pub ids_of : List FileOn → List VersionId
 ids_of files = map (λ (file : FileOn). file.id) files
 
--- a call that removes the file of a name from a drive gave this: the file is gone, or all stays
-pub record RemoveCall (name : List ℕ) (seen : Seen) (old new : DriveView) : Type 0 where
-  pub was_so : WasSo seen old new
-  pub goes_on : GoesOn old new
-  pub removes : SaysUnwritten seen → ⊥
-  pub files : IsTrue old.tells → (new.files ≡ old.files) ⊎ (new.files ≡ with_placed old.files name None)
+-- a call was made of a drive that removes the file of a name, whatever it answered
+pub record RemoveCall (name : List ℕ) (made : MadeCall) (old new : DriveView) : Type 0 where
+  pub answer : Result (Unit {0}) DriveFault
+  pub is : made.call ≡ Remove name answer
+  pub was_made : WasMade made old new

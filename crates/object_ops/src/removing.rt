@@ -1,8 +1,8 @@
 //! The removals that are due once trash was taken, and the call that does one.
 
 ghost use Rattle.std.specs.Prelude.{◌≡◌, ◌≢◌, ◌<◌, ◌++◌, ℕ, IfOk, OnOk, length, string_bytes};
+ghost use Rattle.drive_base.specs.Calls.{MadeCall};
 ghost use Rattle.drive_base.specs.View.{view, view_at, views};
-ghost use Rattle.receipts.specs.Events.{Seen};
 ghost use Rattle.object_ops.specs.DataNames.{name_by};
 ghost use Rattle.object_ops.specs.Removing.{RemoveCall, drives_below, files_of, of_drives, removal_order, removals_of};
 
@@ -81,7 +81,7 @@ fn name_of(alloc: Global, id: VersionId, kind: DataFile) -> Result<String, NoMem
 
 /// Removes the file of a name from a drive, whatever the call answers.
 fn remove_file<D: Drive>(drive: &mut D, name: &str)
-    ensures { (seen : Seen) × RemoveCall name.now seen (view D.Drive drive.old) (view D.Drive drive.new) }
+    ensures { (made : MadeCall) × RemoveCall name.now made (view D.Drive drive.old) (view D.Drive drive.new) }
 {
     let _ = drive.remove(name);
 }
@@ -90,7 +90,7 @@ fn remove_file<D: Drive>(drive: &mut D, name: &str)
 pub(crate) fn remove_at<D: Drive>(disks: &mut [D], index: u8, name: &str)
     requires { index < length disks.old }
     ensures disks { length disks.new ≡ length disks.old }
-    ensures call { (seen : Seen) × RemoveCall name.now seen (view_at (views D.Drive disks.old) index) (view_at (views D.Drive disks.new) index) }
+    ensures call { (made : MadeCall) × RemoveCall name.now made (view_at (views D.Drive disks.old) index) (view_at (views D.Drive disks.new) index) }
     ensures others { (other : ℕ) → other ≢ index → view_at (views D.Drive disks.new) other ≡ view_at (views D.Drive disks.old) other }
 {
     remove_file(&mut disks[index as usize], name);

@@ -55,7 +55,7 @@ no_key_spelled = record {
 }
 
 -- the state that a key's content spells
-key_of : (at : Key) (content : List ℕ) → (content ≡ []) ⊎ IsContentOf (key_name at) content → (state : KeyState) × SpellsKey content state
+pub key_of : (at : Key) (content : List ℕ) → (content ≡ []) ⊎ IsContentOf (key_name at) content → (state : KeyState) × SpellsKey content state
 key_of at content (inl none) = (no_key, subst (λ (c : List ℕ). SpellsKey c no_key) (sym none) no_key_spelled)
 key_of at content (inr (inl (other, name, (state, spells)))) = (state, spells)
 key_of at content (inr (inr (inl (bucket, name, (row, spells))))) = absurd (bucket_not_key bucket at (sym name))
@@ -68,7 +68,7 @@ unnamed_place (Some id) content state spells none =
     let place : id_place (id_bytes id) content ≡ id_place (id_bytes id) (spelling state) = ap (λ (c : List ℕ). id_place (id_bytes id) c) spells.is in
     place ∙ none_there (id_place (id_bytes id) (spelling state)) (id_place (id_bytes id) (spelling state)) refl (place_named id state spells.canonical ∙ none)
 
-key_accepted : (first second : Option VersionId) (content : List ℕ) (state : KeyState) → SpellsKey content state → NamesNone first state → NamesNone second state
+pub key_accepted : (first second : Option VersionId) (content : List ℕ) (state : KeyState) → SpellsKey content state → NamesNone first state → NamesNone second state
     → key_fault first second content ≡ None
 key_accepted first second content state spells none also =
     let read : fault_at key_state content ≡ None = ap (λ (c : List ℕ). fault_at key_state c) spells.is ∙ no_fault state spells.canonical in
@@ -81,7 +81,7 @@ abbrev MayName : ℕ → List Flying → Option VersionId → Type 0
 MayName last flights None = Unit {0}
 MayName last flights (Some id) = IsSpent last flights (number_of_id id) → ⊥
 
-either : (b : Bool) → (b ≡ true) ⊎ (b ≡ false)
+pub either : (b : Bool) → (b ≡ true) ⊎ (b ≡ false)
 either true = inl refl
 either false = inr refl
 
@@ -107,7 +107,7 @@ module _ (drives last : ℕ) (flights : List Flying) (lanes : List Lane) where
 
 -- ---- buckets
 
-bucket_of : (bucket content : List ℕ) → (content ≡ []) ⊎ IsContentOf (bucket_name bucket) content → (row : Option BucketRecord) × SpellsBucket content row
+pub bucket_of : (bucket content : List ℕ) → (content ≡ []) ⊎ IsContentOf (bucket_name bucket) content → (row : Option BucketRecord) × SpellsBucket content row
 bucket_of bucket content (inl none) = (None, record { canonical = tt; is = none })
 bucket_of bucket content (inr (inl (at, name, (state, spells)))) = absurd (bucket_not_key bucket at name)
 bucket_of bucket content (inr (inr (inl (other, name, (row, spells))))) = (row, spells)
@@ -129,7 +129,7 @@ empty_accepted : (b : Bool) → cond b (content_fault []) (key_fault None None [
 empty_accepted true = refl
 empty_accepted false = key_accepted None None [] no_key no_key_spelled tt tt
 
-look_content : (name content : List ℕ) → (content ≡ []) ⊎ IsContentOf name content → (IsPartName name → ⊥)
+pub look_content : (name content : List ℕ) → (content ≡ []) ⊎ IsContentOf name content → (IsPartName name → ⊥)
     → (rule_for name content ≡ None) × (length content ≤ longest_for name)
 look_content name content (inl none) plain = (
   ap (λ (v : List ℕ). rule_for name v) none ∙ empty_accepted (is_bucket_name name),

@@ -1,6 +1,5 @@
--- The cause of a section's refusal, by the clauses of the section.
+-- The account of a section's refusal, by the clauses of the section.
 use Rattle.std.proofs.Common.{◌≡◌, ◌⊎◌, ◌∙◌, ℕ, List, [], Option, Some, None, Result, Ok, Err, MatchOption, option_and_then, ap, inl, inr, refl, subst, sym}
-use Rattle.std.proofs.lemmas.Option.{none-some}
 use Rattle.std.specs.Prelude.{String}
 use Rattle.audit_trail.specs.declared.entry.Deed.TheVariants.{Kept}
 use Rattle.audit_trail.specs.declared.entry.Entry.{Entry}
@@ -28,10 +27,11 @@ use Rattle.slot_core.specs.Views.{SlotNumbers}
 use Rattle.slot_core.specs.declared.fault.SlotFault.{SlotFault}
 use Rattle.slot_core.specs.declared.fault.SlotFault.TheVariants.{AuditFailed, Key, NoMemory, NotInFlight, Quorum, SeqSpent}
 use Rattle.slot_core.specs.declared.stub.Stub.{Stub}
-use Rattle.op_steps.specs.Causes.{CommitRefuses, IsPutOf, LanesRefuse, RefusalCause, SaysIdle, SaysRefused, TurnCause}
+use Rattle.op_steps.specs.Causes.{IsPutOf, SaysIdle, SaysRefused}
 use Rattle.op_steps.specs.Claims.{Claim}
 use Rattle.op_steps.specs.Notes.{noted, refusal_by}
 use Rattle.op_steps.specs.Store.{SlotSeen}
+use Rattle.op_steps.proofs.Accounts.{IsNotUnlisted, LanesRefuse, RefusalAccount, TurnAccount}
 
 -- an entry was written
 abbrev pub IsWritten : Option Entry → Type 0
@@ -46,7 +46,7 @@ unwritten_by numbers fault stub x = ap entry_of x.1 ∙ x.2.entry_is
 module _ {D : Type 0} (ghosts : Ghosts D) (was now : SlotSeen D) (claim : Claim) (disks_old disks_new : List DriveView) where
   -- the cause of a fault, where it is told as a refusal
   abbrev pub FaultCause : SlotFault → Option Entry → Type 0
-  FaultCause fault entry = MatchOption (refusal_by fault) (Unit {0}) (λ why. RefusalCause ghosts why entry was now claim disks_old disks_new)
+  FaultCause fault entry = MatchOption (refusal_by fault) (Unit {0}) (λ why. RefusalAccount ghosts why entry was now claim disks_old disks_new)
 
   abbrev pub AnswerCause : {T : Type 0} → Result T SlotFault → Option Entry → Type 0
   AnswerCause (Ok _) entry = Unit {0}
@@ -54,34 +54,34 @@ module _ {D : Type 0} (ghosts : Ghosts D) (was now : SlotSeen D) (claim : Claim)
 
   -- that of a note, by the fault and the entry of its stub
   noted_cause : (made : Stub) (fault : Option SlotFault) → made.fault ≡ fault → MatchOption fault (Unit {0}) (λ f. FaultCause f made.entry)
-      → TurnCause ghosts (noted (Some made)) was now claim disks_old disks_new
+      → TurnAccount ghosts (noted (Some made)) was now claim disks_old disks_new
   noted_cause made None is x = subst
-      (λ f. MatchOption (option_and_then refusal_by f) (Unit {0}) (λ why. RefusalCause ghosts why made.entry was now claim disks_old disks_new)) (sym is) tt
+      (λ f. MatchOption (option_and_then refusal_by f) (Unit {0}) (λ why. RefusalAccount ghosts why made.entry was now claim disks_old disks_new)) (sym is) tt
   noted_cause made (Some fault) is x = subst
-      (λ f. MatchOption (option_and_then refusal_by f) (Unit {0}) (λ why. RefusalCause ghosts why made.entry was now claim disks_old disks_new)) (sym is) x
+      (λ f. MatchOption (option_and_then refusal_by f) (Unit {0}) (λ why. RefusalAccount ghosts why made.entry was now claim disks_old disks_new)) (sym is) x
 
   stub_cause : (stub : Option Stub) (made : Stub) (fault : Option SlotFault) → stub ≡ Some made → made.fault ≡ fault
-      → MatchOption fault (Unit {0}) (λ f. FaultCause f (entry_of stub)) → TurnCause ghosts (noted stub) was now claim disks_old disks_new
-  stub_cause stub made fault is fault_is x = subst (λ s. TurnCause ghosts (noted s) was now claim disks_old disks_new) (sym is)
+      → MatchOption fault (Unit {0}) (λ f. FaultCause f (entry_of stub)) → TurnAccount ghosts (noted stub) was now claim disks_old disks_new
+  stub_cause stub made fault is fault_is x = subst (λ s. TurnAccount ghosts (noted s) was now claim disks_old disks_new) (sym is)
       (noted_cause made fault fault_is (subst (λ s. MatchOption fault (Unit {0}) (λ f. FaultCause f (entry_of s))) is x))
 
   pub written_cause : (fault : Option SlotFault) (stub : Option Stub) → Writes was.numbers fault stub
-      → MatchOption fault (Unit {0}) (λ f. FaultCause f (entry_of stub)) → TurnCause ghosts (noted stub) was now claim disks_old disks_new
+      → MatchOption fault (Unit {0}) (λ f. FaultCause f (entry_of stub)) → TurnAccount ghosts (noted stub) was now claim disks_old disks_new
   written_cause fault stub x cause = stub_cause stub x.0 fault x.1 x.2.2.fault_is cause
 
   pub unwritten_cause : (fault : SlotFault) (stub : Option Stub) → WritesNone was.numbers fault stub → FaultCause fault (entry_of stub)
-      → TurnCause ghosts (noted stub) was now claim disks_old disks_new
+      → TurnAccount ghosts (noted stub) was now claim disks_old disks_new
   unwritten_cause fault stub x cause = stub_cause stub x.0 (Some fault) x.1 x.2.fault_is cause
 
   -- that of a section, by the cause of its answer
   pub answer_cause : {T : Type 0} (answer : Result T SlotFault) (stub : Option Stub) → StubOfEntry was.numbers answer stub → AnswerCause answer (entry_of stub)
-      → TurnCause ghosts (noted stub) was now claim disks_old disks_new
+      → TurnAccount ghosts (noted stub) was now claim disks_old disks_new
   answer_cause (Ok _) stub x cause = written_cause None stub x tt
   answer_cause (Err (Quorum fault)) stub x cause = written_cause (Some (Quorum fault)) stub x cause
   answer_cause (Err (Key why)) stub x cause = written_cause (Some (Key why)) stub x cause
   answer_cause (Err SeqSpent) stub x cause = unwritten_cause SeqSpent stub x cause
   answer_cause (Err (AuditFailed before after)) stub x cause = unwritten_cause (AuditFailed before after) stub x cause
-  answer_cause (Err NoMemory) stub x cause = subst (λ s. TurnCause ghosts (noted s) was now claim disks_old disks_new) (sym x) tt
+  answer_cause (Err NoMemory) stub x cause = subst (λ s. TurnAccount ghosts (noted s) was now claim disks_old disks_new) (sym x) tt
   answer_cause (Err (NotInFlight id)) stub x cause = written_cause (Some (NotInFlight id)) stub x cause
 
   -- ---- by the fault
@@ -141,7 +141,7 @@ module _ {D : Type 0} (ghosts : Ghosts D) (was now : SlotSeen D) (claim : Claim)
   pub look_turn_cause : (old new : List D) (name : List ℕ) (answer : Result (List ℕ) SlotFault) (stub : Option Stub) → StubOfEntry was.numbers answer stub
       → Says stub (SaysKept name) → ((answer ≡ Err SeqSpent) → AreSpent was.numbers) → AuditCounts answer was.faults now.faults
       → PeekCause ghosts.tells ghosts.files ghosts.count was.numbers now.numbers name answer (completed_by stub) was.lanes now.lanes old new
-      → TurnCause ghosts (noted stub) was now claim (views ghosts old) (views ghosts new)
+      → TurnAccount ghosts (noted stub) was now claim (views ghosts old) (views ghosts new)
   look_turn_cause old new name answer stub is says spent counts x =
       answer_cause ghosts was now claim (views ghosts old) (views ghosts new) answer stub is (look_cause old new name answer stub is says spent counts x)
 
@@ -172,25 +172,25 @@ module _ {D : Type 0} (ghosts : Ghosts D) (was now : SlotSeen D) (claim : Claim)
   pub names_turn_cause : {Y : Type 0} (disks : List DriveView) (from : List ℕ) (most : ℕ) (answer : Result (List (String Y)) SlotFault) (stub : Option Stub)
       → StubOfEntry was.numbers answer stub → Says stub SaysNothing → AuditCounts answer was.faults now.faults
       → ListsNames ghosts.tells ghosts.files ghosts.count was.numbers.set from most answer was.lanes now.lanes
-      → TurnCause ghosts (noted stub) was now claim disks disks
+      → TurnAccount ghosts (noted stub) was now claim disks disks
   names_turn_cause {Y = Y} disks from most answer stub is says counts x =
       answer_cause ghosts was now claim disks disks {T = List (String Y)} answer stub is (names_cause {Y = Y} disks from most answer stub is says counts x)
 
 -- a commit of a deed, of the claim's own put if it ends one
 module _ {D : Type 0} (ghosts : Ghosts D) (was now : SlotSeen D) (claim : Claim) (old new : List D) (deed : Commit) (put : Option VersionId) (at : ℕ)
     (own : IsPutOf claim put) where
-  commit_refuses : (fault : QuorumFault) (entry : Option Entry) → IsWritten entry
+  commit_refuses : (fault : QuorumFault) (entry : Option Entry) → IsNotUnlisted was.holding.flights put → IsWritten entry
       → MatchOption entry (Unit {0}) (λ made. made.name ≡ name_of deed)
       → LookRefused ghosts.tells ghosts.files ghosts.count was.numbers now.numbers deed put fault (deed_in entry) was.lanes now.lanes old new
       ⊎ ((reply : _) × WroteSo ghosts.tells ghosts.files ghosts.count was.numbers now.numbers deed put at reply (Err fault) (deed_in entry) was.lanes now.lanes old new)
       → LanesRefuse ghosts entry was now claim fault (views ghosts old) (views ghosts new)
-  commit_refuses fault None there named x = there
-  commit_refuses fault (Some made) there named x = inr (record {
+  commit_refuses fault None listed there named x = there
+  commit_refuses fault (Some made) listed there named x = inr (record {
     old = old;
     new = new;
     old_is = refl;
     new_is = refl;
-    how = inr (record { deed = deed; name_is = named; put = put; put_is = own; cause = by x });
+    how = inr (record { deed = deed; name_is = named; put = put; put_is = own; listed = listed; cause = by x });
   })
     where
       by : LookRefused ghosts.tells ghosts.files ghosts.count was.numbers now.numbers deed put fault made.deed was.lanes now.lanes old new
@@ -219,25 +219,27 @@ module _ {D : Type 0} (ghosts : Ghosts D) (was now : SlotSeen D) (claim : Claim)
   commit_cause : (answer : Result Committed SlotFault) (stub : Option Stub) → StubOfEntry was.numbers answer stub
       → Says stub (SaysCommit deed at answer) → ((answer ≡ Err SeqSpent) → AreSpent was.numbers) → AuditCounts answer was.faults now.faults
       → ((id : VersionId) → answer ≡ Err (NotInFlight id) → IsPutOf claim (Some id) × (IsInFlight was.holding.flights id → ⊥))
+      → ((fault : QuorumFault) → answer ≡ Err (Quorum fault) → IsNotUnlisted was.holding.flights put)
       → CommitCause ghosts.tells ghosts.files ghosts.count was.numbers now.numbers deed put at answer (deed_in (entry_of stub)) was.lanes now.lanes old new
       → AnswerCause ghosts was now claim (views ghosts old) (views ghosts new) answer (entry_of stub)
-  commit_cause (Ok made) stub is says spent counts refused x = tt
-  commit_cause (Err (Quorum fault)) stub is says spent counts refused x =
+  commit_cause (Ok made) stub is says spent counts refused listed x = tt
+  commit_cause (Err (Quorum fault)) stub is says spent counts refused listed x =
       quorum_cause ghosts was now claim (views ghosts old) (views ghosts new) fault (entry_of stub)
-      (commit_refuses fault (entry_of stub) (written_by was.numbers (Some (Quorum fault)) stub is) (commit_named (Err (Quorum fault)) (entry_of stub) says) x.1)
-  commit_cause (Err (Key why)) stub is says spent counts refused x =
+      (commit_refuses fault (entry_of stub) (listed fault refl) (written_by was.numbers (Some (Quorum fault)) stub is) (commit_named (Err (Quorum fault)) (entry_of stub) says) x.1)
+  commit_cause (Err (Key why)) stub is says spent counts refused listed x =
       key_cause ghosts was now claim (views ghosts old) (views ghosts new) why (entry_of stub)
       (commit_said why (entry_of stub) (written_by was.numbers (Some (Key why)) stub is) says)
-  commit_cause (Err SeqSpent) stub is says spent counts refused x = (unwritten_by was.numbers SeqSpent stub is, spent refl)
-  commit_cause (Err (AuditFailed before after)) stub is says spent counts refused x = (unwritten_by was.numbers (AuditFailed before after) stub is, counts.0, counts.1, counts.2)
-  commit_cause (Err NoMemory) stub is says spent counts refused x = tt
-  commit_cause (Err (NotInFlight id)) stub is says spent counts refused x =
+  commit_cause (Err SeqSpent) stub is says spent counts refused listed x = (unwritten_by was.numbers SeqSpent stub is, spent refl)
+  commit_cause (Err (AuditFailed before after)) stub is says spent counts refused listed x = (unwritten_by was.numbers (AuditFailed before after) stub is, counts.0, counts.1, counts.2)
+  commit_cause (Err NoMemory) stub is says spent counts refused listed x = tt
+  commit_cause (Err (NotInFlight id)) stub is says spent counts refused listed x =
       (commit_idle id (entry_of stub) (written_by was.numbers (Some (NotInFlight id)) stub is) says, (refused id refl).0, (refused id refl).1)
 
   pub commit_turn_cause : (answer : Result Committed SlotFault) (stub : Option Stub) → StubOfEntry was.numbers answer stub
       → Says stub (SaysCommit deed at answer) → ((answer ≡ Err SeqSpent) → AreSpent was.numbers) → AuditCounts answer was.faults now.faults
       → ((id : VersionId) → answer ≡ Err (NotInFlight id) → IsPutOf claim (Some id) × (IsInFlight was.holding.flights id → ⊥))
+      → ((fault : QuorumFault) → answer ≡ Err (Quorum fault) → IsNotUnlisted was.holding.flights put)
       → CommitCause ghosts.tells ghosts.files ghosts.count was.numbers now.numbers deed put at answer (deed_in (entry_of stub)) was.lanes now.lanes old new
-      → TurnCause ghosts (noted stub) was now claim (views ghosts old) (views ghosts new)
-  commit_turn_cause answer stub is says spent counts refused x =
-      answer_cause ghosts was now claim (views ghosts old) (views ghosts new) answer stub is (commit_cause answer stub is says spent counts refused x)
+      → TurnAccount ghosts (noted stub) was now claim (views ghosts old) (views ghosts new)
+  commit_turn_cause answer stub is says spent counts refused listed x =
+      answer_cause ghosts was now claim (views ghosts old) (views ghosts new) answer stub is (commit_cause answer stub is says spent counts refused listed x)

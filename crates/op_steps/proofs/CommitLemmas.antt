@@ -1,5 +1,5 @@
 -- A commit that ends no put is a step that leaves any claim.
-use Rattle.std.proofs.Common.{◌≡◌, ◌<◌, ◌∙◌, ℕ, List, ◌++◌, Contains, Option, Some, None, Result, MatchOption, ap, inl, inr, refl, sym, subst, subst₂, arith}
+use Rattle.std.proofs.Common.{◌≡◌, ◌∙◌, ℕ, List, Contains, Option, Some, None, Result, MatchOption, ap, inl, inr, refl, sym, subst, subst₂, arith}
 use Rattle.std.proofs.lemmas.Option.{none-some}
 use Rattle.stamp_id.specs.declared.version.VersionId.{VersionId}
 use Rattle.audit_trail.specs.declared.entry.Entry.{Entry}
@@ -9,7 +9,7 @@ use Rattle.slot_history.specs.Contents.{NamedData}
 use Rattle.slot_history.specs.Standing.{Flying, Records}
 use Rattle.slot_history.specs.State.{State}
 use Rattle.slot_data.specs.Disks.{Disks}
-use Rattle.slot_data.specs.Holding.{Hands, Holding, IsInFlight, IsPinned, Known, Pinned}
+use Rattle.slot_data.specs.Holding.{Hands, Holding, IsInFlight, IsPinned, Pinned}
 use Rattle.slot_data.specs.Standing.{IsListed}
 use Rattle.slot_rules.specs.Deeds.{brings_of}
 use Rattle.slot_rules.specs.declared.commit.Commit.{Commit}
@@ -17,7 +17,7 @@ use Rattle.slot_rules.specs.declared.commit.Committed.{Committed}
 use Rattle.slot_core.specs.Committing.{CommitHolds, FitsFlight, MayCommitData, ShowsTrash}
 use Rattle.slot_core.specs.Stubs.{entry_of}
 use Rattle.slot_core.specs.Turning.{EntryMoves}
-use Rattle.slot_core.specs.Views.{last_of}
+use Rattle.slot_core.specs.Views.{last_of, quorum_of}
 use Rattle.slot_core.specs.declared.fault.SlotFault.{SlotFault}
 use Rattle.slot_core.specs.declared.handles.Flight.{Flight}
 use Rattle.slot_core.specs.declared.stub.Stub.{Stub}
@@ -30,9 +30,10 @@ use Rattle.op_steps.specs.Moves.{ShowsBy, TurnLeaves}
 use Rattle.op_steps.specs.Notes.{noted}
 use Rattle.op_steps.specs.Store.{LanesStand, SlotSeen}
 use Rattle.op_steps.proofs.CauseLemmas.{commit_turn_cause}
+use Rattle.op_steps.proofs.ChangeLetterLemmas.{commit_letters}
 use Rattle.op_steps.proofs.DataLemmas.{data_read, last_rises}
-use Rattle.op_steps.proofs.LookLemmas.{all_read}
-use Rattle.op_steps.proofs.NoteLemmas.{audit_noted, entry_counts, entry_noted, same_entry}
+use Rattle.op_steps.proofs.MovesLemmas.{turn_moves}
+use Rattle.op_steps.proofs.NoteLemmas.{audit_noted, calm_noted, entry_counts, entry_noted, same_entry}
 
 -- nothing is shown of the states
 moves_bare : (slot : ℕ) (entry : Option Entry) (Shows : State → State → Type 0) (records after : Records) (state now : State)
@@ -93,6 +94,7 @@ module _ {D : Type 0} (ghosts : Ghosts D) where
         stay = left.stay;
         moves = subst (λ e. EntryMoves was.numbers.index e (ShowsBy e NoneShown) records state left.after left.now) (sym (same_entry stub))
             (moves_bare was.numbers.index (entry_of stub) (ShowsTrash deed answer was.holding.trash now.holding.trash) records left.after state left.now left.moves);
+        calm = calm_noted (quorum_of was.numbers) stub records state left.after left.now left.calm;
         holds = λ unseen front rest d.
             let hands : Hands = hands_of (claims_at was.numbers.index (among front claim rest)) in
             let may : MayCommitData deed now.holding (disks_of unseen was.numbers.set.out (views ghosts old)) hands hands = record {
@@ -114,20 +116,22 @@ module _ {D : Type 0} (ghosts : Ghosts D) where
               pins_are = λ p there. d.pins_are p (subst (λ (l : List Pinned). Contains l p) pins there);
             } in
             data_read now.numbers now.holding unseen (views ghosts old) (views ghosts new) (among front claim rest) (among front claim rest) left.after left.now
-            (all_read ghosts old new x.read) refl
+            x.read refl
             (subst₂ (λ s i. HoldsAt s i (last_of now.numbers) now.holding unseen (views ghosts old) (among front claim rest) left.after left.now)
             (sym x.turns.numbers.set) (sym x.turns.numbers.index) inner);
       }
 
   pub commit_is_turn : CommitIsTurn ghosts
-  commit_is_turn was now deed at answer stub old new claim x = record {
-    numbers = x.turns.numbers;
-    note_is = entry_noted was.numbers answer stub x.turns.stub_is;
-    audit = audit_noted stub was.entries now.entries x.turns.audit;
-    faults = entry_counts was.numbers answer stub was.faults now.faults x.turns.stub_is x.turns.faults;
-    claims = record { slot = refl; elsewhere = λ other. refl };
-    read = all_read ghosts old new x.read;
-    cause = commit_turn_cause ghosts was now claim old new deed None at tt answer stub x.turns.stub_is x.says x.turns.spent.0 x.turns.faults
-        (λ id is. absurd (none-some (x.checks.refused id is).0.0 (x.checks.refused id is).0.1)) x.cause;
-    leaves = commit_leaves was now deed at answer stub old new claim x;
-  }
+  commit_is_turn was now deed at answer stub old new claim x = turn_moves ghosts was now (noted stub) NoneShown claim claim (views ghosts old) (views ghosts new) (
+      record {
+        numbers = x.turns.numbers;
+        note_is = entry_noted was.numbers answer stub x.turns.stub_is;
+        audit = audit_noted stub was.entries now.entries x.turns.audit;
+        faults = entry_counts was.numbers answer stub was.faults now.faults x.turns.stub_is x.turns.faults;
+        claims = record { slot = refl; elsewhere = λ other. refl };
+        read = x.read;
+        account = commit_turn_cause ghosts was now claim old new deed None at tt answer stub x.turns.stub_is x.says x.turns.spent.0 x.turns.faults
+            (λ id is. absurd (none-some (x.checks.refused id is).0.0 (x.checks.refused id is).0.1)) (λ fault is id none. absurd (none-some id none)) x.cause;
+        letters = commit_letters ghosts was now deed None at answer stub old new x.says x.cause;
+        leaves = commit_leaves was now deed at answer stub old new claim x;
+      })

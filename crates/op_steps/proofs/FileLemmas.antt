@@ -3,21 +3,19 @@ use Rattle.std.proofs.Common.{◌≡◌, ◌≤◌, ◌∙◌, ℕ, IsTrue, List
 use Rattle.std.proofs.lemmas.Bool.{cases_eq, cases_lt}
 use Rattle.std.proofs.lemmas.List.{get_or_past}
 use Rattle.desk_base.specs.Telling.{Effect}
-use Rattle.drive_base.specs.Files.{Files}
+use Rattle.drive_base.proofs.CallLemmas.{calls_go_on}
+use Rattle.drive_base.specs.Calls.{MadeCall}
 use Rattle.drive_base.specs.View.{AllOnlyRead, DriveView, GoesOn, blank_view, view_at}
 use Rattle.drive_base.specs.declared.drive.Drive.{Ghosts}
 use Rattle.drive_base.specs.declared.plan.SetPlan.{SetPlan}
-use Rattle.receipts.specs.Events.{Event, Seen}
+use Rattle.receipts.specs.Events.{Event}
 use Rattle.receipts.specs.Events.Event.{BarredFrom, Called, Fed, Told, Turned}
 use Rattle.op_steps.specs.Claims.{Claim}
 use Rattle.op_steps.specs.Laws.{DrivesKeep, RanKeepsFiles}
 use Rattle.op_steps.specs.Moves.{CallMoves, KeepsOthers}
 use Rattle.op_steps.specs.Steps.{StepMoves}
 use Rattle.op_steps.specs.Store.{Store}
-
--- files that stay
-same_files : (old new : Files) → new ≡ old → KeepsOthers old new
-same_files old new same = subst (λ (f : Files). KeepsOthers old f) (sym same) (record { kept = λ name other. refl; shown = λ name other. refl; loose = λ name other. refl })
+use Rattle.op_steps.proofs.OwnFileLemmas.{keeps_twice, own_calls_keep_others, same_files}
 
 -- a drive that stays
 same_goes : (old new : DriveView) → new ≡ old → GoesOn old new
@@ -32,14 +30,6 @@ drives_stay old new same = record {
   long = ap (λ (l : List DriveView). length l) same;
   goes_on = λ k. same_goes (view_at old k) (view_at new k) (ap (λ (l : List DriveView). view_at l k) same);
   keeps = λ k told. same_keeps (view_at old k) (view_at new k) (ap (λ (l : List DriveView). view_at l k) same);
-}
-
--- what is kept twice
-keeps_twice : (old mid new : Files) → KeepsOthers old mid → KeepsOthers mid new → KeepsOthers old new
-keeps_twice old mid new first second = record {
-  kept = λ name other. second.kept name other ∙ first.kept name other;
-  shown = λ name other. second.shown name other ∙ first.shown name other;
-  loose = λ name other. second.loose name other ∙ first.loose name other;
 }
 
 goes_twice : (old mid new : DriveView) → GoesOn old mid → GoesOn mid new → GoesOn old new
@@ -58,7 +48,7 @@ drives_twice old mid new first second = record {
 }
 
 -- behind the last drive there is none before and after
-past_same : (old new : List DriveView) (k : ℕ) → length new ≡ length old → length old ≤ k → view_at new k ≡ view_at old k
+pub past_same : (old new : List DriveView) (k : ℕ) → length new ≡ length old → length old ≤ k → view_at new k ≡ view_at old k
 past_same old new k long past = get_or_past new k blank_view (omega (arith, long, past)) ∙ sym (get_or_past old k blank_view past)
 
 -- what a drive that tells has stays where drives are only read
@@ -83,16 +73,17 @@ drives_read old new read = record {
 }
 
 -- drives of which one was called
-drives_called : (set : SetPlan) (j : ℕ) (seen : Seen) (claim later : Claim) (old new : List DriveView) → CallMoves set j seen claim later old new → DrivesKeep old new
-drives_called set j seen claim later old new x = record {
+drives_called : (set : SetPlan) (j : ℕ) (made : MadeCall) (claim later : Claim) (old new : List DriveView) → CallMoves set j made claim later old new → DrivesKeep old new
+drives_called set j made claim later old new x = record {
   long = x.long;
   goes_on = λ k. elim (cases_eq k j) [
-    | inl own ↦ subst (λ i. GoesOn (view_at old i) (view_at new i)) (sym own) x.goes_on
+    | inl own ↦ subst (λ i. GoesOn (view_at old i) (view_at new i)) (sym own)
+        (calls_go_on made.call (view_at old j) (view_at new j) x.was_made.model)
     | inr other ↦ same_goes (view_at old k) (view_at new k) (x.others k other)
   ];
   keeps = λ k told. elim (cases_eq k j) [
     | inl own ↦ subst (λ i. KeepsOthers (view_at old i).files (view_at new i).files) (sym own)
-        (x.keeps (subst (λ i. IsTrue (view_at old i).tells) own told))
+        (own_calls_keep_others claim made.call (view_at old j) (view_at new j) x.may x.was_made.model (subst (λ i. IsTrue (view_at old i).tells) own told))
     | inr other ↦ same_keeps (view_at old k) (view_at new k) (x.others k other)
   ];
 }
@@ -103,7 +94,7 @@ module _ {D T : Type 0} (ghosts : Ghosts D) (takes breaks : Effect T) where
   step_files set (Turned k made shown) old new x =
       subst (λ (s : Store D T). DrivesKeep old.disks s.disks) (sym x.leaves) (drives_read old.disks x.disks x.moves.read)
   step_files set (BarredFrom k why) old new x = drives_stay old.disks new.disks (ap (λ (s : Store D T). s.disks) x.leaves)
-  step_files set (Called k seen) old new x = drives_called set k seen old.claim new.claim old.disks new.disks x.moves
+  step_files set (Called k made) old new x = drives_called set k made old.claim new.claim old.disks new.disks x.moves
   step_files set (Fed bytes cut) old new x = drives_stay old.disks new.disks (ap (λ (s : Store D T). s.disks) x.leaves)
   step_files set (Told telling cut) old new x = drives_stay old.disks new.disks (ap (λ (s : Store D T). s.disks) x.leaves)
 

@@ -72,7 +72,7 @@ last_section (Turned k (Some made) shown ∷ log) (first ∷ front) own e = (
     subst (λ (s : Section). LastSection (Turned k (Some made) shown ∷ log) (s ∷ front) own) same
     (past_event (Turned k (Some made) shown) log front own (last_section log front own rest)))
 last_section (BarredFrom k why ∷ log) front own e = past_event (BarredFrom k why) log front own (last_section log front own e)
-last_section (Called k seen ∷ log) front own e = past_event (Called k seen) log front own (last_section log front own e)
+last_section (Called k made ∷ log) front own e = past_event (Called k made) log front own (last_section log front own e)
 last_section (Fed bytes cut ∷ log) front own e = past_event (Fed bytes cut) log front own (last_section log front own e)
 last_section (Told telling cut ∷ log) front own e = past_event (Told telling cut) log front own (last_section log front own e)
 
@@ -82,7 +82,7 @@ still_event : (slot : ℕ) (event : Event) (more : List Section) → section_in 
 still_event slot (Turned k None shown) more e = λ same. refl
 still_event slot (Turned k (Some made) shown) more e = absurd cc
 still_event slot (BarredFrom k why) more e = tt
-still_event slot (Called k seen) more e = tt
+still_event slot (Called k made) more e = tt
 still_event slot (Fed bytes cut) more e = tt
 still_event slot (Told telling cut) more e = tt
 
@@ -90,7 +90,7 @@ none_past : (event : Event) (more : List Section) → section_in event ++ more �
 none_past (Turned k None shown) more e = e
 none_past (Turned k (Some made) shown) more e = absurd cc
 none_past (BarredFrom k why) more e = e
-none_past (Called k seen) more e = e
+none_past (Called k made) more e = e
 none_past (Fed bytes cut) more e = e
 none_past (Told telling cut) more e = e
 
@@ -112,14 +112,14 @@ idle_before slot [] all k d low = absurd (omega (arith, low))
 idle_before slot (Turned j None shown ∷ log) all zero d low = λ own. tt
 idle_before slot (Turned j (Some made) shown ∷ log) all zero d low = λ own. all 0 (record { note = made; shown = shown }) (omega arith)
 idle_before slot (BarredFrom j why ∷ log) all zero d low = tt
-idle_before slot (Called j seen ∷ log) all zero d low = tt
+idle_before slot (Called j made ∷ log) all zero d low = tt
 idle_before slot (Fed bytes cut ∷ log) all zero d low = tt
 idle_before slot (Told telling cut ∷ log) all zero d low = tt
 idle_before slot (Turned j None shown ∷ log) all (suc k) d low = idle_before slot log all k d (omega (arith, low))
 idle_before slot (Turned j (Some made) shown ∷ log) all (suc k) d low =
     idle_before slot log (shifted ChangesNothing (record { note = made; shown = shown }) (sections_of log) all) k d (omega (arith, low))
 idle_before slot (BarredFrom j why ∷ log) all (suc k) d low = idle_before slot log all k d (omega (arith, low))
-idle_before slot (Called j seen ∷ log) all (suc k) d low = idle_before slot log all k d (omega (arith, low))
+idle_before slot (Called j made ∷ log) all (suc k) d low = idle_before slot log all k d (omega (arith, low))
 idle_before slot (Fed bytes cut ∷ log) all (suc k) d low = idle_before slot log all k d (omega (arith, low))
 idle_before slot (Told telling cut ∷ log) all (suc k) d low = idle_before slot log all k d (omega (arith, low))
 

@@ -1,8 +1,9 @@
 -- Entries run with what their sections showed, those of one log after those of another; and so slots are led by them.
-use Rattle.std.proofs.Common.{◌≡◌, ◌∙◌, ℕ, List, [], ◌∷◌, ◌++◌, Option, Some, None, inl, inr, refl, sym, subst}
+use Rattle.std.proofs.Common.{◌∙◌, ℕ, List, [], ◌∷◌, ◌++◌, Option, Some, None, inl, inr, refl, sym, subst}
 use Rattle.std.proofs.lemmas.Grind.{flat_map-append}
 use Rattle.audit_trail.specs.declared.entry.Deed.{Deed}
 use Rattle.audit_trail.specs.declared.entry.Entry.{Entry}
+use Rattle.drive_base.specs.Plan.{write_drives}
 use Rattle.drive_base.specs.View.{DriveView}
 use Rattle.drive_base.specs.declared.drive.Drive.{Ghosts}
 use Rattle.drive_base.specs.declared.plan.SetPlan.{SetPlan}
@@ -11,10 +12,13 @@ use Rattle.slot_history.specs.Standing.{Records}
 use Rattle.slot_history.specs.State.{State}
 use Rattle.slot_history.specs.Waiting.{Lates}
 use Rattle.slot_history.proofs.RunLemmas.{runs_join}
+use Rattle.slot_core.specs.Calming.{IsCalmUnder, SectionCalms}
 use Rattle.slot_core.specs.Turning.{EntryMoves}
+use Rattle.slot_core.specs.Views.{quorum_of}
+use Rattle.slot_core.proofs.CalmingLemmas.{calm_by_entry}
 use Rattle.receipts.specs.Events.{Log, Note, Shown}
 use Rattle.op_steps.specs.Claims.{Claim}
-use Rattle.op_steps.specs.Leading.{AllLead, Entered, LeadsTo, RunsShowing, ShowingJoins, ShowingParts, ShowingRuns, Standing, entered_at, entered_by, entered_in}
+use Rattle.op_steps.specs.Leading.{AllLead, Entered, IsCalmAfter, IsCalmBy, LeadsTo, RunsShowing, ShowingJoins, ShowingParts, ShowingRuns, Standing, entered_at, entered_by, entered_in}
 use Rattle.op_steps.specs.Moves.{ShowsBy, TurnLeaves}
 use Rattle.op_steps.specs.Notes.{entry_in}
 use Rattle.op_steps.specs.Store.{SlotSeen}
@@ -59,9 +63,29 @@ entry_shows slot None shown records after state moved x = ([], x.1)
 entry_shows slot (Some entry) shown records after state moved x =
     (x.0.before, x.0.after, (x.0.lates, x.0.late_steps), x.0.moves, x.1, own_lates entry.deed x.0.after moved x.0.own)
 
+-- what some entries and then others leave calm
+pub calm_joined : (one two : List Entered) (name : List ℕ) (calm : Type 0) → IsCalmBy (one ++ two) name calm → IsCalmBy two name (IsCalmBy one name calm)
+calm_joined [] two name calm is = is
+calm_joined (e ∷ one) two name calm is = calm_joined one two name (IsCalmAfter e.entry name calm) is
+
+-- they leave it so whatever made it calm at first
+pub calm_so : (run : List Entered) (name : List ℕ) (calm other : Type 0) → (calm → other) → IsCalmBy run name calm → IsCalmBy run name other
+calm_so [] name calm other so is = so is
+calm_so (e ∷ run) name calm other so is = calm_so run name (IsCalmAfter e.entry name calm) (IsCalmAfter e.entry name other)
+    (λ after. elim after [ inl made ↦ inl made | inr stays ↦ inr (so stays.0, stays.1) ]) is
+
+-- what one section leaves calm
+entry_calm : (w : ℕ) (entry : Option Entry) (shown : Shown) (records : Records) (state : State) (after : Records) (now : State) (name : List ℕ)
+    → SectionCalms w entry records state after now → IsCalmBy (entered_by entry shown) name (IsCalmUnder w records state name) → IsCalmUnder w after now name
+entry_calm w None shown records state after now name left calm = calm_by_entry w None records state after now name left calm (λ begun. begun)
+entry_calm w (Some told) shown records state after now name left calm = elim calm [
+  | inl made ↦ left.made name made.0 made.1
+  | inr stays ↦ calm_by_entry w (Some told) records state after now name left stays.0 stays.1
+]
+
 -- no entry leads a slot on
 pub leads_stay : (set : SetPlan) (slot : ℕ) (at : Standing) → LeadsTo set slot [] at at
-leads_stay set slot at = record { stay = λ name k out. refl; runs = ([], refl) }
+leads_stay set slot at = record { stay = λ name k out. refl; runs = ([], refl); calm = λ name calm. calm }
 
 -- a slot is led by some entries and then by others
 pub leads_join : (set : SetPlan) (slot : ℕ) (one two : List Entered) (was mid now : Standing) → LeadsTo set slot one was mid → LeadsTo set slot two mid now
@@ -69,6 +93,9 @@ pub leads_join : (set : SetPlan) (slot : ℕ) (one two : List Entered) (was mid 
 leads_join set slot one two was mid now first second = record {
   stay = λ name k out. second.stay name k out ∙ first.stay name k out;
   runs = showing_joins slot one two was.state mid.state now.state first.runs second.runs;
+  calm = λ name calm. let w = write_drives set.drives set.parity in
+      second.calm name (calm_so two name (IsCalmBy one name (IsCalmUnder w was.records was.state name)) (IsCalmUnder w mid.records mid.state name) (first.calm name)
+      (calm_joined one two name (IsCalmUnder w was.records was.state name) calm));
 }
 
 -- so it is of each slot, over one log and then another
@@ -85,4 +112,5 @@ module _ {D : Type 0} (ghosts : Ghosts D) where
   leaves_lead was now note shown claim later disks_old disks_new at x = record {
     stay = x.stay;
     runs = entry_shows was.numbers.index (entry_in note) shown at.records x.records_after at.state x.state_after x.moves;
+    calm = λ name calm. entry_calm (quorum_of was.numbers) (entry_in note) shown at.records at.state x.records_after x.state_after name x.calm calm;
   }

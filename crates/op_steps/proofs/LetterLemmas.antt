@@ -48,7 +48,7 @@ all_good n serving letters same k low bit =
     ap (λ (l : List Why). letter_at l k) same ∙ get_or-replicate n k Good (Lacks Format) low
 
 -- what passes a test is counted after a map too
-count_map : {X : Type 0} (p : X → Bool) (xs : List X) → count_by (λ (b : Bool). b) (map p xs) ≡ count_by p xs
+pub count_map : {X : Type 0} (p : X → Bool) (xs : List X) → count_by (λ (b : Bool). b) (map p xs) ≡ count_by p xs
 count_map p [] = refl
 count_map {X} p (x ∷ xs) =
     let one = sum_by-cons (λ (b : Bool). cond b 1 0) (p x) (map p xs) in

@@ -1,14 +1,21 @@
 pub mod AcceptLemmas
+pub mod Accounts
 pub mod BucketLookLemmas
 pub mod CallingLemmas
 pub mod CalmLemmas
+pub mod CalmLogLemmas
+pub mod CalmRegisterLemmas
 pub mod CauseLemmas
+pub mod CauseLetterLemmas
+pub mod ChangeLetterLemmas
 pub mod CommitLemmas
 pub mod CompleteLemmas
 pub mod DataLemmas
+pub mod DriveLetterLemmas
 pub mod FileLemmas
 pub mod GetLemmas
 pub mod GetOwesLemmas
+pub mod HealthyLemmas
 pub mod HoldingLemmas
 pub mod LeadingLemmas
 pub mod LetterLemmas
@@ -17,8 +24,10 @@ pub mod LookLemmas
 pub mod LookLogLemmas
 pub mod ManifestLemmas
 pub mod MomentLemmas
+pub mod MovesLemmas
 pub mod NamesLemmas
 pub mod NoteLemmas
+pub mod OwnFileLemmas
 pub mod PendingLemmas
 pub mod ReadBackLemmas
 pub mod ReadFilesLemmas
@@ -34,6 +43,7 @@ pub mod ReadTextLemmas
 pub mod RefusedLemmas
 pub mod RefusingLemmas
 pub mod RequestLemmas
+pub mod RuleLemmas
 pub mod RunLemmas
 pub mod SectionLemmas
 pub mod SlotLemmas
@@ -42,4 +52,5 @@ pub mod StayLemmas
 pub mod StepDataLemmas
 pub mod StepLemmas
 pub mod TellLemmas
+pub mod TrailLemmas
 pub mod TurnLemmas

@@ -6,13 +6,11 @@ use Rattle.std.proofs.lemmas.Bool.Decides.{eqb_tells}
 use Rattle.std.proofs.lemmas.Grind.{flat_map-append}
 use Rattle.std.proofs.lemmas.List.Elements.{Contains-append_left, Contains-append_right, filter-append}
 use Rattle.desk_base.specs.Telling.{Effect}
-use Rattle.drive_base.specs.Files.{Files}
 use Rattle.drive_base.specs.View.{AllOnlyRead, DriveView, view_at}
 use Rattle.drive_base.specs.declared.drive.Drive.{Ghosts}
 use Rattle.drive_base.specs.declared.plan.SetPlan.{SetPlan}
 use Rattle.receipts.specs.Events.{Event}
 use Rattle.receipts.specs.Events.Event.{BarredFrom, Called, Fed, Told, Turned}
-use Rattle.body_print.specs.Names.{manifest_name, shard_name}
 use Rattle.stamp_id.specs.declared.version.VersionId.{VersionId}
 use Rattle.slot_history.specs.Contents.{NamedData}
 use Rattle.slot_history.specs.Standing.{Flying}
@@ -29,6 +27,7 @@ use Rattle.op_steps.specs.Moves.{LosesFile}
 use Rattle.op_steps.specs.Steps.{IsSlotAt, StepMoves}
 use Rattle.op_steps.specs.Store.{AreInOrder, SlotSeen, Store}
 use Rattle.op_steps.proofs.FileLemmas.{read_files}
+use Rattle.op_steps.proofs.OwnFileLemmas.{own_calls_lose_own_files, same_lost}
 use Rattle.op_steps.proofs.SlotLemmas.{order_index, order_set, slot_at, slot_is_one}
 
 -- the claims of a slot, with one that is of the slot among them
@@ -46,11 +45,6 @@ own_in_hand front rest claim id there =
     subst (λ (l : List VersionId). Contains l id) (sym (flat_map-append (λ (c : Claim). c.taken) front (claim ∷ rest)))
     (Contains-append_right (flat_map (λ (c : Claim). c.taken) front) (claim.taken ++ flat_map (λ (c : Claim). c.taken) rest) id
     (Contains-append_left claim.taken (flat_map (λ (c : Claim). c.taken) rest) id there))
-
--- a drive loses nothing where its files stay
-keeps_all : (id : VersionId) (old new : Files) → new ≡ old → LosesFile id old new → ⊥
-keeps_all id old new same (inl (bytes, was, gone)) = gone (ap (λ (f : Files). f.kept (manifest_name id)) same ∙ was)
-keeps_all id old new same (inr (bytes, was, gone)) = gone (ap (λ (f : Files). f.kept (shard_name id)) same ∙ was)
 
 module _ {D T : Type 0} (ghosts : Ghosts D) (takes breaks : Effect T) where
   -- what a claim of a slot took isn't live there, and is of that slot
@@ -82,20 +76,20 @@ module _ {D T : Type 0} (ghosts : Ghosts D) (takes breaks : Effect T) where
   live_files_stay set event old new unseen front rest at k id was order small step held is live told loses = by_event event step
     where
       by_event : (e : Event) → StepMoves ghosts takes breaks set e old new → (f : Flying) × (old.claim.flight ≡ Some f) × (f.id ≡ id)
-      by_event (Turned j made shown) x = absurd (keeps_all id (view_at old.disks k).files (view_at new.disks k).files (read_files old.disks new.disks k
+      by_event (Turned j made shown) x = absurd (same_lost id (view_at old.disks k).files (view_at new.disks k).files (read_files old.disks new.disks k
           (subst (λ (l : List DriveView). AllOnlyRead old.disks l) (sym (ap (λ (s : Store D T). s.disks) x.leaves)) x.moves.read) told) loses)
-      by_event (BarredFrom j why) x = absurd (keeps_all id (view_at old.disks k).files (view_at new.disks k).files (ap (λ (s : Store D T). (view_at s.disks k).files) x.leaves) loses)
-      by_event (Fed bytes cut) x = absurd (keeps_all id (view_at old.disks k).files (view_at new.disks k).files (ap (λ (s : Store D T). (view_at s.disks k).files) x.leaves) loses)
-      by_event (Told telling cut) x = absurd (keeps_all id (view_at old.disks k).files (view_at new.disks k).files (ap (λ (s : Store D T). (view_at s.disks k).files) x.leaves) loses)
-      by_event (Called j seen) x = elim (cases_eq k j) [
+      by_event (BarredFrom j why) x = absurd (same_lost id (view_at old.disks k).files (view_at new.disks k).files (ap (λ (s : Store D T). (view_at s.disks k).files) x.leaves) loses)
+      by_event (Fed bytes cut) x = absurd (same_lost id (view_at old.disks k).files (view_at new.disks k).files (ap (λ (s : Store D T). (view_at s.disks k).files) x.leaves) loses)
+      by_event (Told telling cut) x = absurd (same_lost id (view_at old.disks k).files (view_at new.disks k).files (ap (λ (s : Store D T). (view_at s.disks k).files) x.leaves) loses)
+      by_event (Called j made) x = elim (cases_eq k j) [
         | inl same ↦
             let own = own_there set old order small in
-            elim (x.moves.removes id (subst (λ (n : ℕ). IsTrue (view_at old.disks n).tells) same told)
-            (subst (λ (n : ℕ). LosesFile id (view_at old.disks n).files (view_at new.disks n).files) same loses)) [
+            elim (own_calls_lose_own_files old.claim made.call (view_at old.disks j) (view_at new.disks j) id x.moves.may x.moves.was_made.model
+            (subst (λ (n : ℕ). IsTrue (view_at old.disks n).tells) same told) (subst (λ (n : ℕ). LosesFile id (view_at old.disks n).files (view_at new.disks n).files) same loses)) [
               | inl taken ↦ absurd (not_taken set old unseen front rest at order held id was is live own.0 own.1 taken)
               | inr mine ↦ mine
             ]
-        | inr other ↦ absurd (keeps_all id (view_at old.disks k).files (view_at new.disks k).files (ap (λ (v : DriveView). v.files) (x.moves.others k other)) loses)
+        | inr other ↦ absurd (same_lost id (view_at old.disks k).files (view_at new.disks k).files (ap (λ (v : DriveView). v.files) (x.moves.others k other)) loses)
       ]
 
   -- data that is named isn't that of a put under way

@@ -44,7 +44,8 @@ saying bucket stub made is says = subst (λ s. Says s (SaysKept (bucket_register
 
 -- a look that was done showed the content
 looked_at : (bucket content : List ℕ) (numbers : SlotNumbers) (stub : Option Stub) (x : Writes numbers None stub) → numbers.index ≡ bucket_slot bucket
-    → Says stub (SaysKept (bucket_register bucket)) → LooksAt bucket content (record { note = note_of x.0; shown = ContentShown content })
+    → Says stub (SaysKept (bucket_register bucket))
+    → LooksAt (bucket_slot bucket) (bucket_register bucket) content (record { note = note_of x.0; shown = ContentShown content })
 looked_at bucket content numbers stub x index says = record {
   entry = look_entry bucket numbers x.2.0 None x.0 index x.2.1 x.2.2 (saying bucket stub x.0 x.1 says);
   unrefused = ap (option_and_then refusal_by) x.2.2.fault_is;

@@ -33,7 +33,7 @@ use Rattle.register_core.specs.Manifests.{AreManifestLetters, IsManifestDamage, 
 use Rattle.register_core.proofs.SeenLemmas.{element}
 
 -- a count that rose within a call rose over it
-rose_wider : (before after old new : ℕ) → FailedWhile before after old new → Rose old new
+pub rose_wider : (before after old new : ℕ) → FailedWhile before after old new → Rose old new
 rose_wider before after old new (low, rose, high) = (
   omega (arith, low, rose.0, high),
   elim rose.1 [
@@ -42,7 +42,7 @@ rose_wider before after old new (low, rose, high) = (
   ],
 )
 
-too_long_is : (most : ℕ) (file : List ℕ) (damage : Damage) → IsTooLong most file damage → most < length file
+pub too_long_is : (most : ℕ) (file : List ℕ) (damage : Damage) → IsTooLong most file damage → most < length file
 too_long_is most file (Short n) long = absurd long
 too_long_is most file (Digest stored computed) long = absurd long
 too_long_is most file (Kind kind) long = absurd long
@@ -50,7 +50,7 @@ too_long_is most file (Spelling place) long = absurd long
 too_long_is most file (Long n) long = omega (arith, long.0, long.1)
 
 -- the file of a manifest that verifies has no damage
-undamaged : ManifestsAreNoLonger LONGEST_FILE → (set : SetPlan) (print : List ℕ) (m : Manifest) (damage : Damage) → Verifies set print m
+pub undamaged : ManifestsAreNoLonger LONGEST_FILE → (set : SetPlan) (print : List ℕ) (m : Manifest) (damage : Damage) → Verifies set print m
     → IsManifestDamage set print (file_of m) damage → ⊥
 undamaged lengths set print m damage verifies (inl long) =
     let more = too_long_is LONGEST_FILE (file_of m) damage long in

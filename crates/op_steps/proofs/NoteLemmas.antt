@@ -5,6 +5,9 @@ use Rattle.call_types.specs.declared.refusal.KeyRefusal.{KeyRefusal}
 use Rattle.call_types.specs.declared.refusal.KeyRefusal.TheVariants as key
 use Rattle.register_core.specs.declared.faults.QuorumFault.{QuorumFault}
 use Rattle.register_core.specs.declared.faults.QuorumFault.TheVariants.{NoMemory as NoMemoryQuorum, ReadQuorum, Undecided, WriteQuorum}
+use Rattle.slot_history.specs.Standing.{Records}
+use Rattle.slot_history.specs.State.{State}
+use Rattle.slot_core.specs.Calming.{SectionCalms}
 use Rattle.slot_core.specs.Stubs.{AuditCounts as CountsOfAnswer, AuditHas as HasOfStub, StubOfEntry, Writes, WritesNone, entry_of}
 use Rattle.slot_core.specs.Views.{SlotNumbers}
 use Rattle.slot_core.specs.declared.fault.SlotFault.{SlotFault}
@@ -16,6 +19,11 @@ use Rattle.op_steps.specs.Notes.{AuditCounts, AuditHas, CountsBy, HasTicket, IsN
 pub same_entry : (stub : Option Stub) → entry_in (noted stub) ≡ entry_of stub
 same_entry None = refl
 same_entry (Some stub) = refl
+
+-- what a section leaves calm, by its note
+pub calm_noted : (w : ℕ) (stub : Option Stub) (records : Records) (state : State) (after : Records) (now : State)
+    → SectionCalms w (entry_of stub) records state after now → SectionCalms w (entry_in (noted stub)) records state after now
+calm_noted w stub records state after now calm = subst (λ (e : Option Entry). SectionCalms w e records state after now) (sym (same_entry stub)) calm
 
 -- it is that of its section
 writes_noted : (numbers : SlotNumbers) (fault : Option SlotFault) (stub : Option Stub) → Writes numbers fault stub → IsNoted numbers (noted stub)

@@ -44,7 +44,7 @@ pub still_same : (slot : ℕ) (event : Event) (from to : Standing) → IsStill s
 still_same slot (Turned k made shown) from to still (inl own) = none_moves slot (entry_in made) shown from to (still own.0) own.1
 still_same slot (Turned k made shown) from to still (inr other) = other.1
 still_same slot (BarredFrom k why) from to still same = same
-still_same slot (Called k seen) from to still same = same
+still_same slot (Called k made) from to still same = same
 still_same slot (Fed bytes cut) from to still same = same
 still_same slot (Told telling cut) from to still same = same
 
@@ -175,6 +175,6 @@ module _ (drives w last w_new last_new : ℕ) (flights flights_new : List Flying
   names_back (Turned k made shown) leaves (inl own) x = entry_back (entry_in made) shown (leaves own.0) own.1 x
   names_back (Turned k made shown) leaves (inr other) x = subst (λ (s : Standing). Names name named s) other.1 x
   names_back (BarredFrom k why) leaves same x = subst (λ (s : Standing). Names name named s) same x
-  names_back (Called k seen) leaves same x = subst (λ (s : Standing). Names name named s) same x
+  names_back (Called k made) leaves same x = subst (λ (s : Standing). Names name named s) same x
   names_back (Fed bytes cut) leaves same x = subst (λ (s : Standing). Names name named s) same x
   names_back (Told telling cut) leaves same x = subst (λ (s : Standing). Names name named s) same x

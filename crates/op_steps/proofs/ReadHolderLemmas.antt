@@ -8,6 +8,7 @@ use Rattle.call_types.specs.declared.why.FileKind.TheVariants.{Format}
 use Rattle.call_types.specs.declared.why.Why.{Why}
 use Rattle.call_types.specs.declared.why.Why.TheVariants.{Good, Lacks}
 use Rattle.desk_base.specs.Telling.{Effect}
+use Rattle.drive_base.specs.Calls.{MadeCall, Seen}
 use Rattle.drive_base.specs.DriveSet.{count_in}
 use Rattle.drive_base.specs.Plan.{data_drives, write_drives}
 use Rattle.drive_base.specs.View.{view_at}
@@ -28,7 +29,7 @@ use Rattle.shard_file.specs.Shards.{AreShardBlocks, shard_bytes}
 use Rattle.shard_file.specs.Stripes.{stripe_count, stripe_size}
 use Rattle.slot_history.specs.Contents.{NamedData}
 use Rattle.slot_data.specs.Disks.{AtLeast, Disks, HasHolders, kept_on}
-use Rattle.receipts.specs.Events.{Log, Seen}
+use Rattle.receipts.specs.Events.{Log, Saw}
 use Rattle.receipts.specs.Events.Event.{Called}
 use Rattle.receipts.specs.Letters.{FewBlocks, IsInUse, NoneServes, Serves, Wanted, Wants}
 use Rattle.op_steps.specs.Claims.{Claim, disks_of}
@@ -97,14 +98,14 @@ module _ {D T : Type 0} (ghosts : Ghosts D) (takes breaks : Effect T) (set : Set
   module _ (a : Held) (log : Log) (new : Store D T) (ran : Ran ghosts takes breaks set log store new) (serve : CallsServe ghosts takes breaks set disks log store new ran)
       (along : Along ghosts takes breaks set unseen front rest slot small name named log store new ran) where
     -- a call at its moment
-    pub at_call : (k : ℕ) (seen : Seen) → Contains log (Called k seen)
-        → ReadMoment ghosts takes breaks set unseen front rest slot small name named a.m a.canonical disks store.disks a.some log store new k seen
-    at_call k seen in_log = read_moment ghosts takes breaks set unseen front rest slot small name named a.m a.canonical disks store.disks a.some log store new ran serve
-        along (keeps_first set named.id a.m store.disks) k seen in_log
+    pub at_call : (k : ℕ) (made : MadeCall) → Contains log (Called k made)
+        → ReadMoment ghosts takes breaks set unseen front rest slot small name named a.m a.canonical disks store.disks a.some log store new k made
+    at_call k made in_log = read_moment ghosts takes breaks set unseen front rest slot small name named a.m a.canonical disks store.disks a.some log store new ran serve
+        along (keeps_first set named.id a.m store.disks) k made in_log
 
-    so : (k : ℕ) → k < set.drives → IsBitSet disks k → (seen : Seen) → Contains log (Called k seen) → SeenOf (KeepsUnder set named.id a.m (view_at store.disks k)) seen
-    so k inside bit seen in_log = seen_of ghosts takes breaks set unseen front rest slot small name named a.m a.canonical disks store.disks a.some log store new k seen
-        inside (in_use k inside bit) bit (at_call k seen in_log)
+    so : (k : ℕ) → k < set.drives → IsBitSet disks k → (seen : Seen) → Saw log k seen → SeenOf (KeepsUnder set named.id a.m (view_at store.disks k)) seen
+    so k inside bit seen saw = seen_of ghosts takes breaks set unseen front rest slot small name named a.m a.canonical disks store.disks a.some log store new k
+        saw.made seen saw.tells inside (in_use k inside bit) bit (at_call k saw.made saw.called)
 
     -- some drive gave a manifest that serves
     pub served : ManifestsAreNoLonger LONGEST_FILE → (whys : List Why) → NoneServes set wanted whys log → ⊥

@@ -7,11 +7,14 @@ use Rattle.std.proofs.lemmas.List.Elements.{Contains-append_left}
 use Rattle.std.proofs.lemmas.Option.{get_or_from_slice_get, none-some, slice_get-map, slice_get_within}
 use Rattle.call_types.specs.declared.why.Why.{Why}
 use Rattle.desk_base.specs.Telling.{Effect}
+use Rattle.drive_base.specs.Calls.{MadeCall, Tells}
+use Rattle.drive_base.specs.Calls.Seen.{Showed}
 use Rattle.drive_base.specs.DriveSet.{count_in}
 use Rattle.drive_base.specs.Plan.{data_drives, write_drives}
 use Rattle.drive_base.specs.View.{view_at}
 use Rattle.drive_base.specs.declared.drive.Drive.{Ghosts}
 use Rattle.drive_base.specs.declared.plan.SetPlan.{SetPlan}
+use Rattle.file_access.proofs.SightLemmas.{calls_tell_what_was_so}
 use Rattle.stamp_id.specs.declared.version.VersionId.{VersionId}
 use Rattle.body_print.specs.Clashes.{IsClash}
 use Rattle.body_print.specs.Names.{manifest_name}
@@ -25,9 +28,8 @@ use Rattle.manifest_file.proofs.PrintText.{tells_parts, texts_are_bytes}
 use Rattle.slot_history.specs.Contents.{NamedData}
 use Rattle.slot_history.proofs.MemberLemmas.{other_is_other, same_or_other}
 use Rattle.slot_data.specs.Disks.{Disks}
-use Rattle.receipts.specs.Events.{Log, Seen}
+use Rattle.receipts.specs.Events.{Log, Saw}
 use Rattle.receipts.specs.Events.Event.{Called, Turned}
-use Rattle.receipts.specs.Events.Seen.{Showed}
 use Rattle.receipts.specs.Letters.{FewBlocks, IsInUse, Serves, Wanted}
 use Rattle.op_steps.specs.Claims.{Claim}
 use Rattle.op_steps.specs.Laws.{AllHold, EachStepKeepsData, RanKeepsHistory}
@@ -37,6 +39,7 @@ use Rattle.op_steps.specs.Steps.{Ran}
 use Rattle.op_steps.specs.Store.{AreInOrder, Store}
 use Rattle.op_steps.proofs.ReadFilesLemmas.{HoldsData, stands_in}
 use Rattle.op_steps.proofs.ReadHolderLemmas.{Held, at_call, given, held_there, served}
+use Rattle.op_steps.proofs.ReadLetterLemmas.{saw_in}
 use Rattle.op_steps.proofs.ReadMomentLemmas.{Along, Parted, ReadMoment, along_back, along_section, in_whole, part_at}
 use Rattle.op_steps.proofs.ReadNamedLemmas.{data_found, found_leaves, found_names}
 use Rattle.op_steps.proofs.ReadStayLemmas.{Holds}
@@ -135,13 +138,13 @@ module _ {D T : Type 0} (ghosts : Ghosts D) (takes breaks : Effect T) (set : Set
       (in_use : (k : ℕ) → k < set.drives → IsBitSet disks k → IsInUse set k)
       (enough : set.drives + data_drives set.drives set.parity ≤ count_in disks set.drives + write_drives set.drives set.parity)
       (h : Held ghosts takes breaks set unseen claims [] b.slot b.small b.name b.named disks wanted b.id_is b.print_is b.reaches in_use enough old b.holds) where
-    abbrev Moment : ℕ → Seen → Type 0
-    Moment k seen = ReadMoment ghosts takes breaks set unseen claims [] b.slot b.small b.name b.named h.m h.canonical disks old.disks h.some front old b.to k seen
+    abbrev Moment : ℕ → MadeCall → Type 0
+    Moment k made = ReadMoment ghosts takes breaks set unseen claims [] b.slot b.small b.name b.named h.m h.canonical disks old.disks h.some front old b.to k made
 
     -- at its moment no drive keeps another
-    kept_is_held : (k : ℕ) (seen : Seen) (moment : Moment k seen) → (IsBitSet set.out k → ⊥) → k < set.drives → (file : List ℕ)
+    kept_is_held : (k : ℕ) (made : MadeCall) (moment : Moment k made) → (IsBitSet set.out k → ⊥) → k < set.drives → (file : List ℕ)
         → (view_at moment.x.before.disks k).files.kept (manifest_name wanted.id) ≡ Some file → file ≡ file_of h.m
-    kept_is_held k seen moment used inside file kept =
+    kept_is_held k made moment used inside file kept =
         let at = stands_in ghosts takes breaks set unseen claims [] b.slot b.small b.name b.named moment.x.before moment.holds in
         let disks_then = moment.x.before.disks in
         let count = at.tell.count in
@@ -154,28 +157,31 @@ module _ {D T : Type 0} (ghosts : Ghosts D) (takes breaks : Effect T) (set : Set
         (moment.keeps.manifests h.some.drive b.named.id (file_of h.m) h.some.within h.some.in_use (inl refl) h.some.kept))
 
     another : (m : Manifest) → Serves set wanted m → (m ≡ h.m → ⊥) → IsClash (text_under m) (text_under h.m) ⊎ NamesOther m h.m → (drive : ℕ)
-        → Moment drive (Showed (manifest_name wanted.id) 0 (file_of m)) → ShowsAnother ghosts takes breaks set disks wanted log old new
-    another m serves apart how drive moment =
+        (made : MadeCall) → Tells made (Showed (manifest_name wanted.id) 0 (file_of m)) → Moment drive made → ShowsAnother ghosts takes breaks set disks wanted log old new
+    another m serves apart how drive made tells moment =
         let at = stands_in ghosts takes breaks set unseen claims [] b.slot b.small b.name b.named moment.x.before moment.holds in
         let moves = moment.x.step.moves in
         let within = moves.within in
         let count = at.tell.count in
         let inside : drive < set.drives = omega (arith, within, count) in
-        let used = moves.in_use tt in
-        let seen = Showed (manifest_name wanted.id) 0 (file_of m) in
+        let used = moves.in_use in
         let unkept : (file : List ℕ) → (view_at moment.x.before.disks drive).files.kept (manifest_name wanted.id) ≡ Some file → file_of m ≢ take (length (file_of m)) file =
         λ file kept begins. apart (first_file m h.m serves.canonical h.canonical
-        (begins ∙ ap (take (length (file_of m))) (kept_is_held drive seen moment used inside file kept))) in
+        (begins ∙ ap (take (length (file_of m))) (kept_is_held drive made moment used inside file kept))) in
         record {
           drive = drive;
           within = inside;
           is_other = λ bit.
               let shows = (moment.serves bit).shows (manifest_name wanted.id) (wanted.id, inl refl) in
-              let piece = moves.was_so.2 (at.tell.tell drive inside used) in
+              let so = calls_tell_what_was_so made (Showed (manifest_name wanted.id) 0 (file_of m)) (view_at moment.x.before.disks drive)
+              (view_at moment.x.after.disks drive) moves.was_made tells in
+              let piece = so.2 (at.tell.tell drive inside used) in
               unkept piece.0 (sym shows ∙ piece.1) piece.2;
           shown = m;
           serves = serves;
-          called = in_whole ghosts takes breaks set log [] front b.more old old b.to new (Called drive seen) b.whole refl b.leads_on moment.x;
+          made = made;
+          tells = tells;
+          called = in_whole ghosts takes breaks set log [] front b.more old old b.to new (Called drive made) b.whole refl b.leads_on moment.x;
           unkept = unkept;
           holder = h.some.drive;
           is_of_set = h.bit;
@@ -186,9 +192,9 @@ module _ {D T : Type 0} (ghosts : Ghosts D) (takes breaks : Effect T) (set : Set
           differ = how;
         }
 
-    moment_at : (k : ℕ) (seen : Seen) → Contains front (Called k seen) → Moment k seen
-    moment_at k seen there = at_call ghosts takes breaks set unseen claims [] b.slot b.small b.name b.named disks wanted b.id_is b.print_is b.reaches in_use enough old
-        b.holds h front b.to b.ran b.serve b.along k seen there
+    moment_at : (k : ℕ) (made : MadeCall) → Contains front (Called k made) → Moment k made
+    moment_at k made there = at_call ghosts takes breaks set unseen claims [] b.slot b.small b.name b.named disks wanted b.id_is b.print_is b.reaches in_use enough old
+        b.holds h front b.to b.ran b.serve b.along k made there
 
     -- too few blocks
     blocked : (next : ℕ) (whys : List Why) → FewBlocks set wanted next whys front → ShowsAnother ghosts takes breaks set disks wanted log old new
@@ -207,13 +213,12 @@ module _ {D T : Type 0} (ghosts : Ghosts D) (takes breaks : Effect T) (set : Set
             other_bytes = texts_are_bytes h.m h.canonical;
             differ = differ;
             same = sym few.serves.printed ∙ h.serves.printed;
-          })) few.drive shown
+          })) few.drive shown.made shown.tells (moment_at few.drive shown.made shown.called)
     ]
       where
-        shown : Moment few.drive (Showed (manifest_name wanted.id) 0 (file_of few.manifest))
-        shown = moment_at few.drive (Showed (manifest_name wanted.id) 0 (file_of few.manifest))
-            (subst (λ (l : Log). Contains l (Called few.drive (Showed (manifest_name wanted.id) 0 (file_of few.manifest)))) (sym few.is_since.parts)
-            (Contains-append_left few.is_since.before few.since (Called few.drive (Showed (manifest_name wanted.id) 0 (file_of few.manifest))) few.is_since.showed))
+        shown : Saw front few.drive (Showed (manifest_name wanted.id) 0 (file_of few.manifest))
+        shown = saw_in few.is_since.before front (λ event there. subst (λ (l : Log). Contains l event) (sym few.is_since.parts)
+            (Contains-append_left few.is_since.before few.since event there)) few.drive (Showed (manifest_name wanted.id) 0 (file_of few.manifest)) few.is_since.showed
 
         by_part : text_under few.manifest ≡ text_under h.m → PartThere h.m.parts few.number (cut_of few.part)
             → ShowsAnother ghosts takes breaks set disks wanted log old new
@@ -235,7 +240,7 @@ module _ {D T : Type 0} (ghosts : Ghosts D) (takes breaks : Effect T) (set : Set
               part_is = few.next_in.is;
               other_is = x.is;
               differ = differ;
-            })) few.drive shown
+            })) few.drive shown.made shown.tells (moment_at few.drive shown.made shown.called)
 
   -- over the part that a read is
   part_goes_on : ManifestsAreNoLonger LONGEST_FILE → (disks : ℕ) (wanted : Wanted) (front log : Log) (old new : Store D T)

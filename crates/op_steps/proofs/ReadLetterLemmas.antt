@@ -5,6 +5,8 @@ use Rattle.sha2.specs.Sha256.{sha256}
 use Rattle.call_types.specs.declared.why.FileKind.TheVariants.{Format, Manifest as TheManifest, Register, Shard}
 use Rattle.call_types.specs.declared.why.Why.{Why}
 use Rattle.call_types.specs.declared.why.Why.TheVariants.{Behind, Damaged, Failed, Good, Lacks}
+use Rattle.drive_base.specs.Calls.{Seen}
+use Rattle.drive_base.specs.Calls.Seen.{CutShort, Faulted, Missing, Showed, Sized, Unwritten}
 use Rattle.drive_base.specs.declared.plan.SetPlan.{SetPlan}
 use Rattle.body_print.specs.Names.{manifest_name, shard_name}
 use Rattle.manifest_file.specs.Spelling.{file_of}
@@ -13,30 +15,31 @@ use Rattle.manifest_file.specs.declared.manifest.Manifest.{Manifest}
 use Rattle.manifest_file.specs.declared.manifest.TheConstants.{LONGEST_FILE}
 use Rattle.shard_file.specs.Shards.{AreShardBlocks, root_of, shard_bytes, table_of}
 use Rattle.shard_file.specs.Stripes.{stripe_count}
-use Rattle.receipts.specs.Events.{Event, Log, Seen}
+use Rattle.receipts.specs.Events.{Event, Log, Saw}
 use Rattle.receipts.specs.Events.Event.{Called}
-use Rattle.receipts.specs.Events.Seen.{CutShort, Faulted, Missing, Showed, Sized, Uncalled, Unwritten, Wrote}
 use Rattle.receipts.specs.Letters.{BlockLetter, IsBadShard, IsInUse, ManifestLetter, Serves, ShowedAt, ShowedBlock, ShowedTable, Wanted, Wants}
 use Rattle.op_steps.proofs.ReadShardLemmas.{block_is, block_within, digest_is, piece_of_piece, table_is, table_within}
 
--- what a call gave is so of the files that a drive keeps
+-- what a call told is so of the files that a drive keeps
 abbrev pub SeenOf : (List ℕ → List ℕ → Type 0) → Seen → Type 0
 SeenOf Kept (Sized name n) = (file : List ℕ) → Kept name file → n ≡ length file
 SeenOf Kept (Showed name at bytes) = (file : List ℕ) → Kept name file → bytes ≡ take (length bytes) (drop at file)
 SeenOf Kept (CutShort name at long place) = (file : List ℕ) → Kept name file → length file < at + long
 SeenOf Kept (Missing name) = (file : List ℕ) → Kept name file → ⊥
 SeenOf Kept (Unwritten name) = Unit {0}
-SeenOf Kept Wrote = Unit {0}
-SeenOf Kept (Faulted before after) = ⊥
-SeenOf Kept Uncalled = Unit {0}
+SeenOf Kept (Faulted name before after) = ⊥
 
-module _ (set : SetPlan) (log : Log) (k : ℕ) (Kept : List ℕ → List ℕ → Type 0) (so : (seen : Seen) → Contains log (Called k seen) → SeenOf Kept seen)
+-- what a part of a log saw the log saw
+pub saw_in : (since log : Log) → ((event : Event) → Contains since event → Contains log event) → (k : ℕ) (seen : Seen) → Saw since k seen → Saw log k seen
+saw_in since log later k seen saw = record { made = saw.made; called = later (Called k saw.made) saw.called; tells = saw.tells }
+
+module _ (set : SetPlan) (log : Log) (k : ℕ) (Kept : List ℕ → List ℕ → Type 0) (so : (seen : Seen) → Saw log k seen → SeenOf Kept seen)
     (in_use : IsInUse set k) where
   -- a drive that keeps a manifest which serves has no letter that says it gave none
   pub manifest_given : ManifestsAreNoLonger LONGEST_FILE → (wanted : Wanted) (m : Manifest) → Kept (manifest_name wanted.id) (file_of m) → Serves set wanted m
       → (why : Why) → ManifestLetter set wanted log k why → ⊥
   manifest_given lengths wanted m kept serves Good letter = letter
-  manifest_given lengths wanted m kept serves (Failed before after) letter = so (Faulted before after) letter.1
+  manifest_given lengths wanted m kept serves (Failed before after) letter = so (Faulted (manifest_name wanted.id) before after) letter.1
   manifest_given lengths wanted m kept serves (Damaged damage) (used, inl (long, sized, more)) =
       let size = so (Sized (manifest_name wanted.id) long) sized (file_of m) kept in
       let few = set.few_drives in
@@ -78,7 +81,7 @@ module _ (set : SetPlan) (log : Log) (k : ℕ) (Kept : List ℕ → List ℕ →
         from = x.from;
         gap = x.gap;
         more = x.more;
-        called = later (Called k (Showed name x.from x.more)) x.called;
+        called = saw_in since log later k (Showed name x.from x.more) x.called;
         place_is = x.place_is;
         piece = x.piece;
       }
@@ -95,7 +98,8 @@ module _ (set : SetPlan) (log : Log) (k : ℕ) (Kept : List ℕ → List ℕ →
           bad.differs (ap (λ (t : List ℕ). take 32 (drop (32 * wants.stripe) t)) table
           ∙ (digest_is wants.d wants.part.length blocks fit wants.stripe low ∙ ap sha256 (sym block)))
       none_bad (inr (inr cut)) =
-          let ends = so (CutShort (shard_name wants.part.id) cut.place cut.long cut.ends) (later _ cut.short) (shard_bytes blocks) kept in
+          let ends = so (CutShort (shard_name wants.part.id) cut.place cut.long cut.ends)
+          (saw_in since log later k (CutShort (shard_name wants.part.id) cut.place cut.long cut.ends) cut.short) (shard_bytes blocks) kept in
           elim cut.asked [
             | inl table ↦
                 let there = table_within wants.d wants.part.length blocks fit some in
@@ -112,11 +116,12 @@ module _ (set : SetPlan) (log : Log) (k : ℕ) (Kept : List ℕ → List ℕ →
       -- a drive that keeps the part's shard has a good letter
       pub block_good : (why : Why) → BlockLetter set wants log since k why → why ≡ Good
       block_good Good letter = refl
-      block_good (Failed before after) letter = absurd (so (Faulted before after) (later (Called k (Faulted before after)) letter.1))
+      block_good (Failed before after) letter =
+          absurd (so (Faulted (shard_name wants.part.id) before after) (saw_in since log later k (Faulted (shard_name wants.part.id) before after) letter.1))
       block_good (Damaged damage) letter = absurd (none_bad letter.1)
       block_good (Behind ballot) letter = absurd letter
       block_good (Lacks Format) letter = absurd (in_use letter)
       block_good (Lacks Register) letter = absurd letter
       block_good (Lacks TheManifest) letter = absurd letter
       block_good (Lacks Shard) letter =
-          absurd (so (Missing (shard_name wants.part.id)) (later (Called k (Missing (shard_name wants.part.id))) letter.1) (shard_bytes blocks) kept)
+          absurd (so (Missing (shard_name wants.part.id)) (saw_in since log later k (Missing (shard_name wants.part.id)) letter.1) (shard_bytes blocks) kept)

@@ -2,6 +2,7 @@
 use Rattle.std.proofs.Common.{◌≡◌, ◌∙◌, ◌<◌, ℕ, zero, suc, List, [], ◌∷◌, ◌++◌, Contains, ap, append_assoc, inl, refl, subst, sym, arith}
 use Rattle.std.specs.Prelude.{All}
 use Rattle.desk_base.specs.Telling.{Effect}
+use Rattle.drive_base.specs.Calls.{MadeCall}
 use Rattle.drive_base.specs.View.{DriveView}
 use Rattle.drive_base.specs.declared.drive.Drive.{Ghosts}
 use Rattle.drive_base.specs.declared.plan.SetPlan.{SetPlan}
@@ -12,7 +13,7 @@ use Rattle.slot_history.specs.Contents.{NamedData}
 use Rattle.slot_history.specs.Standing.{Stands}
 use Rattle.slot_core.specs.Views.{last_of, quorum_of}
 use Rattle.slot_data.specs.Disks.{Disks}
-use Rattle.receipts.specs.Events.{Event, Log, Seen}
+use Rattle.receipts.specs.Events.{Event, Log}
 use Rattle.receipts.specs.Events.Event.{Called}
 use Rattle.op_steps.specs.Claims.{Claim}
 use Rattle.op_steps.specs.Leading.{Standing}
@@ -23,6 +24,7 @@ use Rattle.op_steps.specs.Store.{Store}
 use Rattle.op_steps.proofs.ReadBackLemmas.{Names, names_back, still_same}
 use Rattle.op_steps.proofs.ReadFilesLemmas.{HoldsData, KeepsFiles, KeepsManifest, keeps_then, step_keeps}
 use Rattle.op_steps.proofs.ReadStayLemmas.{Holds, SlotMoves, step_on}
+use Rattle.op_steps.proofs.RunLemmas.{ran_join}
 use Rattle.op_steps.proofs.SlotLemmas.{order_set, slot_at}
 
 module _ {D T : Type 0} (ghosts : Ghosts D) (takes breaks : Effect T) (set : SetPlan) where
@@ -41,11 +43,6 @@ module _ {D T : Type 0} (ghosts : Ghosts D) (takes breaks : Effect T) (set : Set
       let x = part_at disks first second next new ran serve.1 in
       record { mid = x.mid; led = (next, step, x.led); leads_on = x.leads_on; serve = (serve.0, x.serve); serve_on = x.serve_on }
 
-  pub rejoined : (first second : Log) (old mid new : Store D T) → Ran ghosts takes breaks set first old mid → Ran ghosts takes breaks set second mid new
-      → Ran ghosts takes breaks set (first ++ second) old new
-  rejoined [] second old mid new same ran = subst (λ (s : Store D T). Ran ghosts takes breaks set second s new) same ran
-  rejoined (event ∷ first) second old mid new (next, step, led) ran = (next, step, rejoined first second next mid new led ran)
-
   -- what took place in a part of a log took place in the log
   abbrev pub in_whole : (log before part after : Log) (old from to new : Store D T) (event : Event) → log ≡ before ++ (part ++ after)
       → Ran ghosts takes breaks set before old from → Ran ghosts takes breaks set after to new → TookPlace ghosts takes breaks set part from to event
@@ -57,9 +54,9 @@ module _ {D T : Type 0} (ghosts : Ghosts D) (takes breaks : Effect T) (set : Set
         ∙ (ap (λ (l : Log). before ++ l) (append_assoc x.front (event ∷ x.rest) after) ∙ sym (append_assoc before x.front (event ∷ (x.rest ++ after)))));
     before = x.before;
     after = x.after;
-    led = rejoined before x.front old from x.before led x.led;
+    led = ran_join ghosts takes breaks set before x.front old from x.before led x.led;
     step = x.step;
-    leads_on = rejoined x.rest after x.after to new x.leads_on leads_on;
+    leads_on = ran_join ghosts takes breaks set x.rest after x.after to new x.leads_on leads_on;
   }
 
   module _ (unseen : Disks) (front rest : List Claim) (slot : ℕ) (small : slot < 64) (name : List ℕ) (named : NamedData) where
@@ -121,16 +118,16 @@ module _ {D T : Type 0} (ghosts : Ghosts D) (takes breaks : Effect T) (set : Set
 
     module _ (m : Manifest) (canonical : IsCanonical m) (disks : ℕ) (first : List DriveView) (some : KeepsManifest set named.id m first) where
       -- a call of a data drive at its moment
-      pub record ReadMoment (log : Log) (old new : Store D T) (k : ℕ) (seen : Seen) : Type 0 where
-        pub x : TookPlace ghosts takes breaks set log old new (Called k seen)
+      pub record ReadMoment (log : Log) (old new : Store D T) (k : ℕ) (made : MadeCall) : Type 0 where
+        pub x : TookPlace ghosts takes breaks set log old new (Called k made)
         pub holds : HoldsData ghosts takes breaks set unseen front rest slot small name named x.before
         pub keeps : KeepsFiles set named.id m first x.before.disks
-        pub serves : CallServes set disks (Called k seen) x.before.disks x.after.disks
+        pub serves : CallServes set disks (Called k made) x.before.disks x.after.disks
 
       pub read_moment : (log : Log) (old new : Store D T) (ran : Ran ghosts takes breaks set log old new) → CallsServe ghosts takes breaks set disks log old new ran
-          → Along log old new ran → KeepsFiles set named.id m first old.disks → (k : ℕ) (seen : Seen) → Contains log (Called k seen) → ReadMoment log old new k seen
-      read_moment [] old new ran serve along keeps k seen (j, inside, e) = absurd (omega (arith, inside))
-      read_moment (event ∷ log) old new (mid, step, ran) serve along keeps k seen (zero, inside, e) = record {
+          → Along log old new ran → KeepsFiles set named.id m first old.disks → (k : ℕ) (made : MadeCall) → Contains log (Called k made) → ReadMoment log old new k made
+      read_moment [] old new ran serve along keeps k made (j, inside, e) = absurd (omega (arith, inside))
+      read_moment (event ∷ log) old new (mid, step, ran) serve along keeps k made (zero, inside, e) = record {
         x = record {
           front = [];
           rest = log;
@@ -145,7 +142,7 @@ module _ {D T : Type 0} (ghosts : Ghosts D) (takes breaks : Effect T) (set : Set
         keeps = keeps;
         serves = subst (λ (v : Event). CallServes set disks v old.disks mid.disks) e serve.0;
       }
-      read_moment (event ∷ log) old new (mid, step, ran) serve along keeps k seen (suc j, inside, e) =
+      read_moment (event ∷ log) old new (mid, step, ran) serve along keeps k made (suc j, inside, e) =
           let kept : KeepsManifest set named.id m old.disks = record {
             drive = some.drive;
             within = some.within;
@@ -154,7 +151,7 @@ module _ {D T : Type 0} (ghosts : Ghosts D) (takes breaks : Effect T) (set : Set
           } in
           let next = read_moment log mid new ran serve.1 along.1 (keeps_then set named.id m first old.disks mid.disks keeps
           (step_keeps ghosts takes breaks set unseen front rest slot small name named m canonical old along.0 kept event mid step))
-          k seen (j, omega (arith, inside), e) in
+          k made (j, omega (arith, inside), e) in
           record {
             x = record {
               front = event ∷ next.x.front;

@@ -29,7 +29,7 @@ abbrev pub SlotMoves : ℕ → Event → Standing → Standing → Type 0
 SlotMoves slot (Turned k made shown) from to = ((k ≡ slot) × EntryMoves slot (entry_in made) (ShowsBy (entry_in made) shown) from.records from.state to.records to.state)
     ⊎ ((k ≢ slot) × (to ≡ from))
 SlotMoves slot (BarredFrom k why) from to = to ≡ from
-SlotMoves slot (Called k seen) from to = to ≡ from
+SlotMoves slot (Called k made) from to = to ≡ from
 SlotMoves slot (Fed bytes cut) from to = to ≡ from
 SlotMoves slot (Told telling cut) from to = to ≡ from
 
@@ -110,8 +110,8 @@ module _ {D T : Type 0} (ghosts : Ghosts D) (takes breaks : Effect T) (set : Set
   step_on slot (BarredFrom k why) old new step x = stays slot (BarredFrom k why) old new step x
       (same_holds ghosts takes breaks old new unseen front rest x.at (ap (λ (s : Store D T). s.slots) step.leaves) (ap (λ (s : Store D T). s.disks) step.leaves)
       (ap (λ (s : Store D T). s.claim) step.leaves) x.held) refl
-  step_on slot (Called k seen) old new step x = stays slot (Called k seen) old new step x
-      (called_holds ghosts takes breaks set k seen old new unseen front rest x.at x.order x.low step x.held) refl
+  step_on slot (Called k made) old new step x = stays slot (Called k made) old new step x
+      (called_holds ghosts takes breaks set k made old new unseen front rest x.at x.order x.low step x.held) refl
   step_on slot (Fed bytes cut) old new step x = stays slot (Fed bytes cut) old new step x
       (same_holds ghosts takes breaks old new unseen front rest x.at (ap (λ (s : Store D T). s.slots) step.leaves) (ap (λ (s : Store D T). s.disks) step.leaves)
       (ap (λ (s : Store D T). s.claim) step.leaves) x.held) refl

@@ -1,11 +1,13 @@
 -- The events of a log took place, with their causes.
 use Rattle.std.proofs.Common.{Some, zero, suc, [], ◌∷◌, MatchOption, ap, refl, subst, arith}
 use Rattle.desk_base.specs.Telling.{Effect}
+use Rattle.drive_base.specs.View.{view_at}
 use Rattle.drive_base.specs.declared.drive.Drive.{Ghosts}
+use Rattle.file_access.proofs.SightLemmas.{calls_tell_what_was_so}
 use Rattle.receipts.specs.Events.{Event}
 use Rattle.receipts.specs.Events.Event.{BarredFrom, Called, Turned}
 use Rattle.op_steps.specs.Causes.{RefusalCause}
-use Rattle.op_steps.specs.Refusing.{BarsHaveCauses, CallsWereSo, EventsTookPlace, RefusalsHaveCauses}
+use Rattle.op_steps.specs.Refusing.{BarsHaveCauses, CallsWereMade, CallsWereSo, EventsTookPlace, RefusalsHaveCauses}
 use Rattle.op_steps.specs.Steps.{StepMoves}
 
 module _ {D T : Type 0} (ghosts : Ghosts D) (takes breaks : Effect T) where
@@ -46,6 +48,13 @@ module _ {D T : Type 0} (ghosts : Ghosts D) (takes breaks : Effect T) where
   bars_have set log old new k why ran there =
       let x = events_took_place set log old new (BarredFrom k why) ran there in (x, x.step.cause)
 
+  pub calls_were_made : CallsWereMade ghosts takes breaks
+  calls_were_made set log old new k made ran there =
+      let x = events_took_place set log old new (Called k made) ran there in (x, x.step.moves.was_made, x.step.moves.may)
+
   pub calls_were_so : CallsWereSo ghosts takes breaks
-  calls_were_so set log old new k seen ran there =
-      let x = events_took_place set log old new (Called k seen) ran there in (x, x.step.moves.was_so)
+  calls_were_so set log old new k seen ran saw =
+      let x = calls_were_made set log old new k saw.made ran saw.called in (
+        x.0,
+        calls_tell_what_was_so saw.made seen (view_at x.0.before.disks k) (view_at x.0.after.disks k) x.1 saw.tells,
+      )

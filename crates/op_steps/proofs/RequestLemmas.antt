@@ -21,11 +21,11 @@ use Rattle.op_steps.specs.Claims.{Claim, among, claims_at, is_at}
 use Rattle.op_steps.specs.Laws.{AllHold, EachStepKeepsData, HoldsAfter, RanKeepsHistory}
 use Rattle.op_steps.specs.Leading.{Standing}
 use Rattle.op_steps.specs.Notes.{refusal_by}
-use Rattle.op_steps.specs.Requests.{HasAllLanes, IsOfSlot, ServesAt, StepServes}
-use Rattle.op_steps.specs.Serving.{AreEnough, DrivesServe, IsManifestName, IsMarkedOn, IsNameOf, IsOfCall, SectionComplete}
+use Rattle.op_steps.specs.Requests.{HasAllLanes, ServesAt, StepServes}
+use Rattle.op_steps.specs.Serving.{AreEnough, DrivesServe, IsManifestName, IsMarkedOn, IsNameOf, IsOfNoPart}
 use Rattle.op_steps.specs.Steps.{Ran, StepMoves}
 use Rattle.op_steps.specs.Store.{AreInOrder, Store}
-use Rattle.op_steps.proofs.SlotLemmas.{order_index, order_set}
+use Rattle.op_steps.proofs.SlotLemmas.{order_set}
 
 -- a claim of a slot is among those of the slot
 pub own_there : (index : ℕ) (front : List Claim) (claim : Claim) (rest : List Claim) → claim.slot ≡ index → Contains (claims_at index (among front claim rest)) claim
@@ -35,7 +35,7 @@ own_there index front claim rest at = subst (λ (l : List Claim). Contains l cla
       | inr other ↦ absurd (other.1 at)
     ]))
 
-module _ {D T : Type 0} (ghosts : Ghosts D) (takes breaks : Effect T) (section : SectionComplete ghosts) (step_law : EachStepKeepsData ghosts takes breaks)
+module _ {D T : Type 0} (ghosts : Ghosts D) (takes breaks : Effect T) (step_law : EachStepKeepsData ghosts takes breaks)
     (history : RanKeepsHistory ghosts takes breaks) (set : SetPlan) (unseen : Disks) (lanes disks : ℕ) where
   module _ (k : ℕ) (note : Note) (shown : Shown) (old mid : Store D T) (front rest : List Claim) (at : ℕ → Standing) (order : AreInOrder set old.slots old.disks)
       (held : AllHold ghosts.tells ghosts.files unseen old front rest at) (x : StepMoves ghosts takes breaks set (Turned k (Some note) shown) old mid) where
@@ -44,16 +44,6 @@ module _ {D T : Type 0} (ghosts : Ghosts D) (takes breaks : Effect T) (section :
 
     holds : HoldsAfter ghosts.tells ghosts.files unseen old front rest (at k) x.was
     holds = held k x.was x.is
-
-    -- the entry of a section is of its call, by what the claim has listed in its slot
-    of_call : (entry : Option Entry) → IsOfSlot old.claim.slot k entry → IsOfCall x.was.holding old.claim entry
-    of_call Option.None is = tt
-    of_call (Some made) is = (
-      is.0,
-      λ at name.
-          let own : old.claim.slot ≡ x.was.numbers.index = sym (is.1 at name) ∙ sym (order_index set old.slots old.disks k x.was order x.is) in
-          (holds.holds.met old.claim (own_there x.was.numbers.index front old.claim rest own)).flight,
-    )
 
     -- where all lanes serve the value is marked on one of them
     marked : (entry : Option Entry) → HasAllLanes set lanes entry → IsMarkedOn lanes (at k).records (at k).state entry
@@ -82,10 +72,10 @@ module _ {D T : Type 0} (ghosts : Ghosts D) (takes breaks : Effect T) (section :
         (marked note.entry enough.0, (subst (λ (s : SetPlan). AreEnough ghosts s lanes disks (Unit {0}) (Undecided j u whys)) (sym set_is) (tt, enough.1)).1)
     enough_by NoMemory enough = enough
 
-    section_not : (fault : QuorumFault) → IsOfSlot old.claim.slot k note.entry → StepServes ghosts takes breaks set lanes disks (Turned k (Some note) shown) old mid x
+    section_not : (fault : QuorumFault) → IsOfNoPart note.entry → StepServes ghosts takes breaks set lanes disks (Turned k (Some note) shown) old mid x
         → AreEnough ghosts set lanes disks (HasAllLanes set lanes note.entry) fault → note.refusal ≡ refusal_by (Quorum fault) → ⊥
-    section_not fault is serve enough refused = section x.was x.now note shown old.claim mid.claim old.disks x.disks (at k).records (at k).state unseen
-        (among front old.claim rest) lanes disks fault x.moves holds.stands holds.holds (of_call note.entry is)
+    section_not fault is serve enough refused = x.moves.complete.enough (at k).records (at k).state unseen
+        (among front old.claim rest) lanes disks fault holds.stands holds.holds is
         (subst (λ (s : SetPlan). DrivesServe (IsNameOf note.entry) s.out lanes (views ghosts x.was.lanes) (views ghosts x.now.lanes)) (sym set_is) serve.0)
         (subst (λ (s : SetPlan). DrivesServe IsManifestName s.out disks old.disks x.disks) (sym set_is) serve.1)
         (enough_by fault enough) refused
@@ -93,7 +83,7 @@ module _ {D T : Type 0} (ghosts : Ghosts D) (takes breaks : Effect T) (section :
   pub log_not : (log : Log) (old new : Store D T) (front rest : List Claim) (at : ℕ → Standing) (k : ℕ) (note : Note) (shown : Shown) (fault : QuorumFault)
       → AreInOrder set old.slots old.disks → old.claim.slot < 64 → AllHold ghosts.tells ghosts.files unseen old front rest at
       → (ran : Ran ghosts takes breaks set log old new) → (there : Contains log (Turned k (Some note) shown))
-      → ServesAt ghosts takes breaks set lanes disks log old new ran there.0 → IsOfSlot old.claim.slot k note.entry
+      → ServesAt ghosts takes breaks set lanes disks log old new ran there.0 → IsOfNoPart note.entry
       → AreEnough ghosts set lanes disks (HasAllLanes set lanes note.entry) fault → note.refusal ≡ refusal_by (Quorum fault) → ⊥
   log_not [] old new front rest at k note shown fault order low held ran (j, inside, e) serve is enough refused = absurd (omega (arith, inside))
   log_not (event ∷ log) old new front rest at k note shown fault order low held (mid, step, ran) (zero, inside, e) serve is enough refused =
@@ -103,4 +93,4 @@ module _ {D T : Type 0} (ghosts : Ghosts D) (takes breaks : Effect T) (section :
       let first = step_law set event old mid unseen front rest at order low step held in
       let ordered = (history set (event ∷ []) old mid order (mid, step, refl)).0 in
       log_not log mid new front rest first.1.later k note shown fault ordered (subst (λ (n : ℕ). n < 64) (sym first.0) low) first.1.holds ran
-      (j, omega (arith, inside), e) serve (subst (λ (n : ℕ). IsOfSlot n k note.entry) (sym first.0) is) enough refused
+      (j, omega (arith, inside), e) serve is enough refused

@@ -1,44 +1,93 @@
--- Logs of steps that go on by one step.
-use Rattle.std.proofs.Common.{◌∙◌, List, [], ◌∷◌, ◌++◌, append-nil, append_assoc, ap, refl, subst, sym}
+-- Logs of steps, one behind another.
+use Rattle.std.proofs.Common.{◌∙◌, List, [], ◌∷◌, ◌++◌, append-nil, append_assoc, ap, inl, inr, refl, subst, sym}
 use Rattle.desk_base.specs.Telling.{Effect}
+use Rattle.drive_base.specs.View.{DriveView}
 use Rattle.drive_base.specs.declared.drive.Drive.{Ghosts}
 use Rattle.drive_base.specs.declared.plan.SetPlan.{SetPlan}
 use Rattle.slot_core.specs.declared.stub.Stub.{Stub}
-use Rattle.receipts.specs.Events.{Event, Log, notes_of}
+use Rattle.receipts.specs.Events.{Log, notes_of}
+use Rattle.receipts.specs.Events.Event.{Called, Fed, Told}
 use Rattle.receipts.proofs.JoinLemmas.{notes_join}
 use Rattle.op_steps.specs.Claims.{Claim}
-use Rattle.op_steps.specs.Going.{AddsNotes, RanSo, StepsSo}
+use Rattle.op_steps.specs.Going.{AddsNotes, RanSo}
 use Rattle.op_steps.specs.Notes.{notes_by}
-use Rattle.op_steps.specs.Steps.{Ran, StepMoves}
-use Rattle.op_steps.specs.Store.{Store}
+use Rattle.op_steps.specs.Steps.{Ran}
+use Rattle.op_steps.specs.Store.{FeedSeen, SlotSeen, Store, TellerSeen, store_of}
+use Rattle.op_steps.specs.Words.{CallsSo, FeedsSo, TellsSo}
 
--- a log's notes and those of one event more are those of the log that goes on by it
-pub notes_more : (log : Log) (event : Event) (s t u : List Stub) → AddsNotes log s t → AddsNotes (event ∷ []) t u → AddsNotes (log ++ event ∷ []) s u
-notes_more log event s t u some one = one ∙ (ap (λ notes. notes ++ notes_of (event ∷ [])) some
-    ∙ (append_assoc (notes_by s) (notes_of log) (notes_of (event ∷ [])) ∙ ap (λ notes. notes_by s ++ notes) (sym (notes_join log (event ∷ [])))))
+-- the notes of two logs, one behind another, are those of both
+pub notes_more : (log more : Log) (s t u : List Stub) → AddsNotes log s t → AddsNotes more t u → AddsNotes (log ++ more) s u
+notes_more log more s t u one two = two ∙ (ap (λ notes. notes ++ notes_of more) one
+    ∙ (append_assoc (notes_by s) (notes_of log) (notes_of more) ∙ ap (λ notes. notes_by s ++ notes) (sym (notes_join log more))))
 
 module _ {D T : Type 0} (ghosts : Ghosts D) (takes breaks : Effect T) (set : SetPlan) where
-  -- a log goes on by one step
-  pub ran_more : (log : Log) (event : Event) (a b c : Store D T) → Ran ghosts takes breaks set log a b → StepMoves ghosts takes breaks set event b c
-      → Ran ghosts takes breaks set (log ++ event ∷ []) a c
-  ran_more [] event a b c same step = (c, subst (λ s. StepMoves ghosts takes breaks set event s c) same step, refl)
-  ran_more (first ∷ log) event a b c ran step = (ran.0, ran.1, ran_more log event ran.0 b c ran.2 step)
+  -- a log leads on where another ends
+  pub ran_join : (log more : Log) (old mid new : Store D T) → Ran ghosts takes breaks set log old mid → Ran ghosts takes breaks set more mid new
+      → Ran ghosts takes breaks set (log ++ more) old new
+  ran_join [] more old mid new same ran = subst (λ (s : Store D T). Ran ghosts takes breaks set more s new) same ran
+  ran_join (event ∷ log) more old mid new (next, step, led) ran = (next, step, ran_join log more next mid new led ran)
 
   -- nothing was done
   pub so_none : (Old : Claim → Log → Type 0) (store : Claim → Store D T) (stubs : List Stub) → RanSo ghosts takes breaks Old Old set store store stubs stubs
   so_none Old store stubs claim log holds =
       (claim, [], subst (λ l. Old claim l) (sym (append-nil log)) holds, refl, sym (append-nil (notes_by stubs)))
 
-  -- one step more was
+  -- more was done
   pub so_more : (Old Mid New : Claim → Log → Type 0) (old mid new : Claim → Store D T) (s t u : List Stub)
-      → RanSo ghosts takes breaks Old Mid set old mid s t → StepsSo ghosts takes breaks Mid New set mid new t u → RanSo ghosts takes breaks Old New set old new s u
-  so_more Old Mid New old mid new s t u ran steps claim log holds =
-      let one = ran claim log holds in
-      let two = steps one.0 (log ++ one.1) one.2 in
-      let event = two.1 in (
+      → RanSo ghosts takes breaks Old Mid set old mid s t → RanSo ghosts takes breaks Mid New set mid new t u → RanSo ghosts takes breaks Old New set old new s u
+  so_more Old Mid New old mid new s t u first second claim log holds =
+      let one = first claim log holds in
+      let two = second one.0 (log ++ one.1) one.2 in (
         two.0,
-        one.1 ++ event ∷ [],
-        subst (λ l. New two.0 l) (append_assoc log one.1 (event ∷ [])) two.2,
-        ran_more one.1 event (old claim) (mid one.0) (new two.0) one.3 two.3,
-        notes_more one.1 event s t u one.4 two.4,
+        one.1 ++ two.1,
+        subst (λ l. New two.0 l) (append_assoc log one.1 two.1) two.2,
+        ran_join one.1 two.1 (old claim) (mid one.0) (new two.0) one.3 two.3,
+        notes_more one.1 two.1 s t u one.4 two.4,
+      )
+
+  -- a step at data drives is one call, or nothing was done
+  pub called_so : (Old New : Claim → Log → Type 0) (slots : List (SlotSeen D)) (old new : List DriveView) (feed : FeedSeen) (teller : TellerSeen T) (stubs : List Stub)
+      → CallsSo Old New set old new → RanSo ghosts takes breaks Old New set (λ claim. store_of slots old claim feed teller)
+      (λ claim. store_of slots new claim feed teller) stubs stubs
+  called_so Old New slots old new feed teller stubs calls claim log holds = elim (calls claim log holds) [
+    | inl one ↦ (
+      one.0,
+      Called one.1 one.2 ∷ [],
+      one.3,
+      (store_of slots new one.0 feed teller, record { moves = one.4; leaves = refl }, refl),
+      sym (append-nil (notes_by stubs)),
+    )
+    | inr none ↦ (
+      claim,
+      [],
+      subst (λ l. New claim l) (sym (append-nil log)) none.0,
+      ap (λ (disks : List DriveView). store_of slots disks claim feed teller) none.1,
+      sym (append-nil (notes_by stubs)),
+    )
+  ]
+
+  -- bytes taken of the body are one step
+  pub fed_so : (Old New : Claim → Log → Type 0) (slots : List (SlotSeen D)) (disks : List DriveView) (old new : FeedSeen) (teller : TellerSeen T) (stubs : List Stub)
+      → FeedsSo Old New old new → RanSo ghosts takes breaks Old New set (λ claim. store_of slots disks claim old teller)
+      (λ claim. store_of slots disks claim new teller) stubs stubs
+  fed_so Old New slots disks old new teller stubs feeds claim log holds =
+      let one = feeds claim log holds in (
+        claim,
+        Fed one.0 one.1 ∷ [],
+        one.2,
+        (store_of slots disks claim new teller, record { moves = one.3; leaves = refl }, refl),
+        sym (append-nil (notes_by stubs)),
+      )
+
+  -- and so is a telling
+  pub told_so : (Old New : Claim → Log → Type 0) (slots : List (SlotSeen D)) (disks : List DriveView) (feed : FeedSeen) (old new : TellerSeen T) (stubs : List Stub)
+      → TellsSo takes breaks Old New old new → RanSo ghosts takes breaks Old New set (λ claim. store_of slots disks claim feed old)
+      (λ claim. store_of slots disks claim feed new) stubs stubs
+  told_so Old New slots disks feed old new stubs tells claim log holds =
+      let one = tells claim log holds in (
+        claim,
+        Told one.0 one.1 ∷ [],
+        one.2,
+        (store_of slots disks claim feed new, record { moves = one.3; leaves = refl }, refl),
+        sym (append-nil (notes_by stubs)),
       )

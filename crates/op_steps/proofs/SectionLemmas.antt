@@ -25,10 +25,14 @@ use Rattle.register_core.specs.Loops.{letter_at}
 use Rattle.register_core.specs.Serving.{ServingLaneIsRead}
 use Rattle.register_core.specs.declared.faults.QuorumFault.{QuorumFault}
 use Rattle.register_core.specs.declared.faults.QuorumFault.TheVariants.{NoMemory, ReadQuorum, Undecided, WriteQuorum}
+use Rattle.manifest_file.proofs.Sizes.{no_longer}
+use Rattle.register_file.proofs.Lawful.{register_lawful}
+use Rattle.register_file.proofs.Sizes.{files_no_longer}
 use Rattle.register_core.proofs.SeenLemmas.{element}
-use Rattle.slot_history.specs.Standing.{IsLawfulUnder, Records}
+use Rattle.register_core.proofs.ServingLemmas.{serving_lane_is_read}
+use Rattle.slot_history.specs.Standing.{Flying, IsLawfulUnder, Records}
 use Rattle.slot_history.specs.State.{State}
-use Rattle.slot_data.specs.Disks.{Disks, kept_on}
+use Rattle.slot_data.specs.Disks.{Disks, IsPartName, kept_on}
 use Rattle.slot_data.specs.Holding.{Holding}
 use Rattle.slot_rules.specs.Rules.{longest_for, rule_for}
 use Rattle.slot_core.specs.Causes.{LookCause}
@@ -38,13 +42,12 @@ use Rattle.slot_core.specs.Views.{last_of}
 use Rattle.slot_core.specs.declared.fault.SlotFault.TheVariants.{Quorum}
 use Rattle.slot_core.proofs.SettlingLemmas.{name_held}
 use Rattle.receipts.specs.Events.{Note, Shown}
-use Rattle.op_steps.specs.Causes.{CommitRefuses, IsPutOf, LanesRefuse, LookRefuses, NamesRefuse, RefusalCause}
 use Rattle.op_steps.specs.Claims.{Claim, DataHolds, HoldsAt, counted_on, disks_of}
-use Rattle.op_steps.specs.Moves.{TurnMoves}
 use Rattle.op_steps.specs.Notes.{refusal_by}
-use Rattle.op_steps.specs.Serving.{AreEnough, DriveServes, DrivesServe, HasItsPut, IsManifestName, IsMarkedOn, IsNameOf, IsOfCall, SectionComplete}
+use Rattle.op_steps.specs.Serving.{AreEnough, DriveServes, DrivesServe, IsManifestName, IsMarkedOn, IsNameOf, IsOfNoPart}
 use Rattle.op_steps.specs.Store.{LanesStand, SlotSeen}
 use Rattle.op_steps.proofs.AcceptLemmas.{Accepts, IsListedPut, deed_accepts, look_accepts}
+use Rattle.op_steps.proofs.Accounts.{CommitRefuses, IsNotUnlisted, LanesRefuse, LookRefuses, NamesRefuse, RefusalAccount, TurnDoes}
 use Rattle.op_steps.proofs.CalmLemmas.{AreCalm}
 use Rattle.op_steps.proofs.LetterLemmas.{AreGood, good_enough}
 use Rattle.op_steps.proofs.PendingLemmas.{ServeData, decided}
@@ -61,7 +64,7 @@ counted_in_use unseen out disks k inside in_use =
     ]
 
 -- a lane that serves gave its names
-names_good : (why : Why) (out : Type 0) (old new : ℕ) → NamesLetter out why old new → (out → ⊥) → (Rose old new → ⊥) → why ≡ Good
+pub names_good : (why : Why) (out : Type 0) (old new : ℕ) → NamesLetter out why old new → (out → ⊥) → (Rose old new → ⊥) → why ≡ Good
 names_good Good out old new is in_use calm = refl
 names_good (Failed before after) out old new is in_use calm = absurd (calm is.3)
 names_good (Damaged damage) out old new is in_use calm = absurd is
@@ -71,14 +74,19 @@ names_good (Lacks Register) out old new is in_use calm = absurd is
 names_good (Lacks Manifest) out old new is in_use calm = absurd is
 names_good (Lacks Shard) out old new is in_use calm = absurd is
 
--- the put that a section ends is listed
-listed_put : (holding : Holding) (claim : Claim) (put : Option VersionId) → IsPutOf claim put → HasItsPut holding claim → IsListedPut holding.flights put
-listed_put holding claim None is has = tt
-listed_put holding claim (Some id) is has = (is.0, has is.0 is.1, is.2)
+-- what can't be where the put that a section ends is listed can't be
+pub with_listed : (flights : List Flying) (put : Option VersionId) → IsNotUnlisted flights put → (IsListedPut flights put → ⊥) → ⊥
+with_listed flights None may never = never tt
+with_listed flights (Some id) may never = may id refl (λ listed. never (listed.flight, listed.there, listed.id_is))
+
+-- a lane that serves is read
+pub lane_is_read : ServingLaneIsRead
+lane_is_read longest out k name read why tells files old new lane =
+    serving_lane_is_read register_lawful.read files_no_longer longest name read why (IsBitSet out k) tells files old new lane
 
 module _ {D : Type 0} (ghosts : Ghosts D) where
   -- that drives of a set serve is said of each drive
-  serve_each : (IsName : List ℕ → Type 0) (out serving n : ℕ) (old new : List D) → length old ≡ n → length new ≡ n
+  pub serve_each : (IsName : List ℕ → Type 0) (out serving n : ℕ) (old new : List D) → length old ≡ n → length new ≡ n
       → DrivesServe IsName out serving (views ghosts old) (views ghosts new) → (k : ℕ) (d : D) → k < n → IsBitSet serving k
       → DriveServes IsName out k (view ghosts (slice_index_or old k d)) (view ghosts (slice_index_or new k d))
   serve_each IsName out serving n old new long_old long_new serve k d low bit =
@@ -114,8 +122,8 @@ module _ {D : Type 0} (ghosts : Ghosts D) where
 
   module _ (law : ServingLaneIsRead) (lengths : ManifestsAreNoLonger LONGEST_FILE) (was now : SlotSeen D) (note : Note) (shown : Shown) (claim later : Claim)
       (old new : List DriveView) (records : Records) (state : State) (unseen : Disks) (claims : List Claim) (lanes disks : ℕ)
-      (moves : TurnMoves ghosts was now (Some note) shown claim later old new) (stands : LanesStand ghosts.tells ghosts.files was records state)
-      (holds : DataHolds was.numbers was.holding unseen old claims records state) (of_call : IsOfCall was.holding claim note.entry)
+      (moves : TurnDoes ghosts was now (Some note) shown claim later old new) (stands : LanesStand ghosts.tells ghosts.files was records state)
+      (holds : DataHolds was.numbers was.holding unseen old claims records state) (no_part : IsOfNoPart note.entry)
       (lanes_serve : DrivesServe (IsNameOf note.entry) was.numbers.set.out lanes (views ghosts was.lanes) (views ghosts now.lanes))
       (disks_serve : DrivesServe IsManifestName was.numbers.set.out disks old new) where
     long_was : length was.lanes ≡ was.numbers.set.drives
@@ -138,8 +146,8 @@ module _ {D : Type 0} (ghosts : Ghosts D) where
       lawful : IsLawfulUnder was.numbers.set.drives (last_of was.numbers) was.holding.flights (records made.name) made.name
       lawful = stands.stands.lawful_under made.name
 
-      of_made : IsOfCall was.holding claim (Some made)
-      of_made = subst (IsOfCall was.holding claim) is of_call
+      plain : IsPartName made.name → ⊥
+      plain = subst IsOfNoPart is no_part
 
       serves : (rule : List ℕ → Option ℕ) (longest : ℕ) → Accepts rule longest (records made.name)
           → RegisterServes ghosts.tells ghosts.files ghosts.count was.numbers.set lanes made.name rule longest (records made.name) was.lanes now.lanes
@@ -207,36 +215,40 @@ module _ {D : Type 0} (ghosts : Ghosts D) where
             → LookRefuses ghosts was now made fault disks_old disks_new → ⊥
         look_not fault enough x =
             let content = look_accepts was.numbers.set.drives (last_of was.numbers) was.holding.flights (records made.name) made.name
-            of_made.0 lawful in
+            plain lawful in
             cause_not ghosts.tells ghosts.files ghosts.count law Forgets untold_forgets was.numbers.set lanes made.name (rule_for made.name) (longest_for made.name)
             (records made.name) was.lanes now.lanes (serves (rule_for made.name) (longest_for made.name) content) fault disks_old disks_new
             (against (rule_for made.name) (longest_for made.name) content fault enough) was.numbers now.numbers refl x.cause
 
         commit_content : (fault : QuorumFault) (x : CommitRefuses ghosts was now claim made fault disks_old disks_new) (rule : List ℕ → Option ℕ) (longest : ℕ)
-            → IsRuleOf was.numbers x.deed x.put rule longest → Accepts rule longest (records made.name)
-        commit_content fault x rule longest rule_is =
+            → IsRuleOf was.numbers x.deed x.put rule longest → IsListedPut was.holding.flights x.put → Accepts rule longest (records made.name)
+        commit_content fault x rule longest rule_is listed =
             deed_accepts was.numbers.set.drives was.numbers was.holding.flights (records made.name) x.deed x.put rule longest
             (subst (λ (n : List ℕ). IsLawfulUnder was.numbers.set.drives (last_of was.numbers) was.holding.flights (records made.name) n) x.name_is lawful)
-            (λ at name. listed_put was.holding claim x.put x.put_is (of_made.1 at (x.name_is ∙ name))) rule_is
+            (λ at name. listed) rule_is
 
-        commit_not : (fault : QuorumFault) → AreEnough ghosts was.numbers.set lanes disks (IsMarkedOn lanes records state note.entry) fault
-            → CommitRefuses ghosts was now claim made fault disks_old disks_new → ⊥
-        commit_not fault enough x = elim x.cause [
+        listed_not : (fault : QuorumFault) → AreEnough ghosts was.numbers.set lanes disks (IsMarkedOn lanes records state note.entry) fault
+            → (x : CommitRefuses ghosts was now claim made fault disks_old disks_new) → IsListedPut was.holding.flights x.put → ⊥
+        listed_not fault enough x listed = elim x.cause [
           | inl look ↦
-              let content = commit_content fault x look.rule look.longest look.rule_is in
+              let content = commit_content fault x look.rule look.longest look.rule_is listed in
               cause_not ghosts.tells ghosts.files ghosts.count law Forgets untold_forgets was.numbers.set lanes made.name look.rule look.longest
               (records made.name) was.lanes now.lanes (serves look.rule look.longest content) fault disks_old disks_new
               (against look.rule look.longest content fault enough) was.numbers now.numbers refl
               (subst (λ (n : List ℕ). LookCause ghosts.tells ghosts.files ghosts.count was.numbers now.numbers n look.rule look.longest fault was.lanes now.lanes
               disks_old disks_new) (sym x.name_is) look.cause)
           | inr (at, reply, wrote) ↦
-              let content = commit_content fault x wrote.rule wrote.longest wrote.rule_is in
+              let content = commit_content fault x wrote.rule wrote.longest wrote.rule_is listed in
               own_not ghosts.tells ghosts.files ghosts.count law Forgets untold_forgets was.numbers.set lanes made.name wrote.rule wrote.longest
               (records made.name) was.lanes now.lanes (serves wrote.rule wrote.longest content) fault disks_old disks_new
               (against wrote.rule wrote.longest content fault enough) was.numbers now.numbers wrote.content wrote.own refl
               (subst (λ (n : List ℕ). OwnIsWritten ghosts.tells ghosts.files ghosts.count was.numbers now.numbers n wrote.rule wrote.longest wrote.content wrote.own
               (Err fault) was.lanes now.lanes disks_old disks_new) (sym x.name_is) wrote.written)
         ]
+
+        commit_not : (fault : QuorumFault) → AreEnough ghosts was.numbers.set lanes disks (IsMarkedOn lanes records state note.entry) fault
+            → CommitRefuses ghosts was now claim made fault disks_old disks_new → ⊥
+        commit_not fault enough x = with_listed was.holding.flights x.put x.listed (listed_not fault enough x)
 
       names_not : (fault : QuorumFault) → AreEnough ghosts was.numbers.set lanes disks (IsMarkedOn lanes records state note.entry) fault
           → NamesRefuse ghosts was now made fault → ⊥
@@ -266,8 +278,8 @@ module _ {D : Type 0} (ghosts : Ghosts D) where
       ]
     ]
 
-    cause_by : (why : Option Refusal) → note.refusal ≡ why → MatchOption why (Unit {0}) (λ w. RefusalCause ghosts w note.entry was now claim old new)
-    cause_by why is = subst (λ (r : Option Refusal). MatchOption r (Unit {0}) (λ w. RefusalCause ghosts w note.entry was now claim old new)) is moves.cause
+    cause_by : (why : Option Refusal) → note.refusal ≡ why → MatchOption why (Unit {0}) (λ w. RefusalAccount ghosts w note.entry was now claim old new)
+    cause_by why is = subst (λ (r : Option Refusal). MatchOption r (Unit {0}) (λ w. RefusalAccount ghosts w note.entry was now claim old new)) is moves.account
 
     refused_not : (fault : QuorumFault) → AreEnough ghosts was.numbers.set lanes disks (IsMarkedOn lanes records state note.entry) fault
         → note.refusal ≡ refusal_by (Quorum fault) → ⊥
@@ -276,6 +288,14 @@ module _ {D : Type 0} (ghosts : Ghosts D) where
     refused_not (Undecided k u whys) enough is = lanes_not note.entry refl (Undecided k u whys) enough (cause_by (refusal_by (Quorum (Undecided k u whys))) is)
     refused_not NoMemory enough is = enough
 
-  pub section_complete : ServingLaneIsRead → ManifestsAreNoLonger LONGEST_FILE → SectionComplete ghosts
-  section_complete law lengths was now note shown claim later old new records state unseen claims lanes disks fault moves stands holds of_call lanes_serve disks_serve =
-      refused_not law lengths was now note shown claim later old new records state unseen claims lanes disks moves stands holds of_call lanes_serve disks_serve fault
+  -- a section isn't refused so, by its account
+  pub section_enough : (was now : SlotSeen D) (note : Note) (shown : Shown) (claim later : Claim) (old new : List DriveView)
+      → TurnDoes ghosts was now (Some note) shown claim later old new → (records : Records) (state : State) (unseen : Disks) (claims : List Claim)
+      (lanes disks : ℕ) (fault : QuorumFault)
+      → LanesStand ghosts.tells ghosts.files was records state → DataHolds was.numbers was.holding unseen old claims records state → IsOfNoPart note.entry
+      → DrivesServe (IsNameOf note.entry) was.numbers.set.out lanes (views ghosts was.lanes) (views ghosts now.lanes)
+      → DrivesServe IsManifestName was.numbers.set.out disks old new
+      → AreEnough ghosts was.numbers.set lanes disks (IsMarkedOn lanes records state note.entry) fault → note.refusal ≡ refusal_by (Quorum fault) → ⊥
+  section_enough was now note shown claim later old new moves records state unseen claims lanes disks fault stands holds no_part lanes_serve disks_serve =
+      refused_not lane_is_read no_longer was now note shown claim later old new records state unseen claims lanes disks moves stands holds no_part lanes_serve disks_serve
+      fault

@@ -8,17 +8,18 @@ use Rattle.call_types.specs.declared.why.FileKind.TheVariants.{Format, Manifest,
 use Rattle.call_types.specs.declared.why.Why.{Why}
 use Rattle.call_types.specs.declared.why.Why.TheVariants.{Behind, Damaged, Failed, Good, Lacks}
 use Rattle.desk_base.specs.Telling.{Effect}
+use Rattle.drive_base.specs.Calls.Seen.{Faulted, Unwritten}
 use Rattle.drive_base.specs.DriveSet.{count_in}
 use Rattle.drive_base.specs.Plan.{write_drives}
 use Rattle.drive_base.specs.View.{view_at}
 use Rattle.drive_base.specs.declared.drive.Drive.{Ghosts}
 use Rattle.drive_base.specs.declared.plan.SetPlan.{SetPlan}
 use Rattle.fault_base.specs.Counts.{Rose}
+use Rattle.file_access.proofs.SightLemmas.{calls_tell_what_was_so}
 use Rattle.stamp_id.specs.declared.version.VersionId.{VersionId}
 use Rattle.slot_data.specs.Disks.{Disks}
-use Rattle.receipts.specs.Events.{Log, Note, Shown}
+use Rattle.receipts.specs.Events.{Log, Note, Saw, Shown}
 use Rattle.receipts.specs.Events.Event.{Called, Turned}
-use Rattle.receipts.specs.Events.Seen.{Faulted, Unwritten}
 use Rattle.receipts.specs.Letters.{FewTook, StageLetter}
 use Rattle.op_steps.specs.Causes.{RefusalCause}
 use Rattle.op_steps.specs.Claims.{Claim}
@@ -59,17 +60,18 @@ module _ {D T : Type 0} (ghosts : Ghosts D) (takes breaks : Effect T) (step_law 
         cause.2 (record { flight = put.0; there = met.flight put.0 put.1; id_is = put.2 })
 
     -- a call of the log that failed raised its drive's count over the log
-    faulted_rose : (k before after : ℕ) → Contains log (Called k (Faulted before after)) → Rose (view_at old.disks k).count (view_at new.disks k).count
-    faulted_rose k before after in_log =
-        let x = moment ghosts takes breaks step_law history files set log old new unseen claims [] at (Called k (Faulted before after)) order low held ran in_log in
+    faulted_rose : (k : ℕ) (name : List ℕ) (before after : ℕ) → Saw log k (Faulted name before after) → Rose (view_at old.disks k).count (view_at new.disks k).count
+    faulted_rose k name before after saw =
+        let x = moment ghosts takes breaks step_law history files set log old new unseen claims [] at (Called k saw.made) order low held ran saw.called in
+        let so = calls_tell_what_was_so saw.made (Faulted name before after) (view_at x.mid.disks k) (view_at x.later.disks k) x.step.moves.was_made saw.tells in
         let first = (x.before.goes_on k).count in
         let last = (x.after.goes_on k).count in
-        rose_within (view_at old.disks k).count (view_at x.mid.disks k).count (view_at x.later.disks k).count (view_at new.disks k).count first x.step.moves.was_so.2 last
+        rose_within (view_at old.disks k).count (view_at x.mid.disks k).count (view_at x.later.disks k).count (view_at new.disks k).count first so.2 last
 
     -- no call of it says that nothing is being written
-    none_unwritten : (k : ℕ) (name : List ℕ) → Contains log (Called k (Unwritten name)) → ⊥
-    none_unwritten k name in_log =
-        let x = moment ghosts takes breaks step_law history files set log old new unseen claims [] at (Called k (Unwritten name)) order low held ran in_log in
+    none_unwritten : (k : ℕ) (name : List ℕ) → Saw log k (Unwritten name) → ⊥
+    none_unwritten k name saw =
+        let x = moment ghosts takes breaks step_law history files set log old new unseen claims [] at (Called k saw.made) order low held ran saw.called in
         let slot = x.slot in
         let count = x.order.count in
         let within : x.mid.claim.slot < length x.mid.slots = omega (arith, slot, low, count) in
@@ -78,7 +80,7 @@ module _ {D T : Type 0} (ghosts : Ghosts D) (takes breaks : Effect T) (step_law 
         let here = slice_index_or x.mid.slots x.mid.claim.slot own in
         let after = x.held x.mid.claim.slot here mine in
         let kept : SlotKept = record { numbers = here.numbers; holding = here.holding; records = (x.at x.mid.claim.slot).records; state = (x.at x.mid.claim.slot).state } in
-        x.step.moves.written unseen claims [] kept tt (order_index set x.mid.slots x.mid.disks x.mid.claim.slot here x.order mine) (record {
+        x.step.moves.written unseen claims [] kept (name, saw.tells) (order_index set x.mid.slots x.mid.disks x.mid.claim.slot here x.order mine) (record {
           set_is = order_set set x.mid.slots x.mid.disks x.mid.claim.slot here x.order mine;
           stands = after.stands.stands;
           holds = after.holds;
@@ -87,7 +89,10 @@ module _ {D T : Type 0} (ghosts : Ghosts D) (takes breaks : Effect T) (step_law 
     letter_good : (disks : ℕ) (id : VersionId) → DisksAreCalm set disks old.disks new.disks → (k : ℕ) (why : Why) → k < set.drives → IsBitSet disks k
         → StageLetter set id log k why → why ≡ Good
     letter_good disks id calm k Good inside bit letter = refl
-    letter_good disks id calm k (Failed before after) inside bit letter = absurd ((calm k inside bit).1 (faulted_rose k before after letter.1))
+    letter_good disks id calm k (Failed before after) inside bit letter = absurd ((calm k inside bit).1 (elim letter.1 [
+      | inl shard ↦ faulted_rose k _ before after shard
+      | inr manifest ↦ faulted_rose k _ before after manifest
+    ]))
     letter_good disks id calm k (Damaged damage) inside bit letter = absurd letter
     letter_good disks id calm k (Behind ballot) inside bit letter = absurd letter
     letter_good disks id calm k (Lacks Format) inside bit letter = absurd ((calm k inside bit).0 letter)

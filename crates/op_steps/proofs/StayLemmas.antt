@@ -1,6 +1,5 @@
 -- A section that leaves what the slot holds in memory leaves the data of any claim.
-use Rattle.std.proofs.Common.{◌≡◌, ℕ, List, Contains, Option, refl, sym, subst, subst₂, arith}
-use Rattle.audit_trail.specs.declared.entry.Entry.{Entry}
+use Rattle.std.proofs.Common.{◌≡◌, List, Contains, Option, refl, sym, subst, subst₂, arith}
 use Rattle.drive_base.specs.View.{AllOnlyRead, DriveView}
 use Rattle.drive_base.specs.declared.drive.Drive.{Ghosts}
 use Rattle.receipts.specs.Events.{Shown}
@@ -11,14 +10,14 @@ use Rattle.slot_core.specs.Hands.{HandsStay}
 use Rattle.slot_core.specs.Numbers.{NumbersMove}
 use Rattle.slot_core.specs.Stubs.{entry_of}
 use Rattle.slot_core.specs.Turning.{EntryMoves, Leaves}
-use Rattle.slot_core.specs.Views.{last_of}
+use Rattle.slot_core.specs.Views.{last_of, quorum_of}
 use Rattle.slot_core.specs.declared.stub.Stub.{Stub}
 use Rattle.op_steps.specs.Claims.{Claim, HoldsAt, IsMet, among, claims_at, disks_of, hands_of}
 use Rattle.op_steps.specs.Moves.{ShowsBy, TurnLeaves}
 use Rattle.op_steps.specs.Notes.{noted}
 use Rattle.op_steps.specs.Store.{LanesStand, SlotSeen}
 use Rattle.op_steps.proofs.DataLemmas.{data_read, last_rises}
-use Rattle.op_steps.proofs.NoteLemmas.{same_entry}
+use Rattle.op_steps.proofs.NoteLemmas.{calm_noted, same_entry}
 
 module _ {D : Type 0} (ghosts : Ghosts D) where
   -- what such a section says, with the data drives that were only read
@@ -42,6 +41,7 @@ module _ {D : Type 0} (ghosts : Ghosts D) where
         stay = left.stay;
         moves = subst (λ e. EntryMoves was.numbers.index e (ShowsBy e shown) records state left.after left.now) (sym (same_entry stub))
             (x.shows records left.after state left.now left.moves);
+        calm = calm_noted (quorum_of was.numbers) stub records state left.after left.now left.calm;
         holds = λ unseen front rest d.
             let inner : HoldsAt was.numbers.set was.numbers.index (last_of now.numbers) now.holding unseen old (among front claim rest) left.after left.now = record {
               tell = d.tell;

@@ -3,10 +3,11 @@ use Rattle.std.proofs.Common.{◌≡◌, ◌≢◌, ◌<◌, ◌∙◌, ℕ, Lis
 use Rattle.std.proofs.lemmas.Bool.Decides.{eqb_tells}
 use Rattle.desk_base.specs.Telling.{Effect}
 use Rattle.drive_base.specs.declared.drive.Drive.{Ghosts}
+use Rattle.drive_base.specs.Calls.{MadeCall}
 use Rattle.drive_base.specs.View.{AllOnlyRead}
 use Rattle.drive_base.specs.declared.plan.SetPlan.{SetPlan}
 use Rattle.slot_data.specs.Disks.{Disks}
-use Rattle.receipts.specs.Events.{Event, Note, Seen, Shown}
+use Rattle.receipts.specs.Events.{Event, Note, Shown}
 use Rattle.receipts.specs.Events.Event.{BarredFrom, Called, Fed, Told, Turned}
 use Rattle.op_steps.specs.Claims.{Claim, DataHolds, among}
 use Rattle.op_steps.specs.Laws.{AllHold, EachStepKeepsData, HoldsAfter, HoldsLater}
@@ -106,11 +107,11 @@ module _ {D T : Type 0} (ghosts : Ghosts D) (takes breaks : Effect T) where
       record { set_is = order_set set store.slots store.disks k was order is; stands = x.stands.stands; holds = x.holds }
 
   -- over a call of a data drive the data of each slot holds, since that of the op's own slot does
-  pub called_holds : (set : SetPlan) (i : ℕ) (seen : Seen) (old new : Store D T) (unseen : Disks) (front rest : List Claim) (at : ℕ → Standing)
-      → AreInOrder set old.slots old.disks → old.claim.slot < 64 → Calls set i seen old new → AllHold ghosts.tells ghosts.files unseen old front rest at
+  pub called_holds : (set : SetPlan) (i : ℕ) (made : MadeCall) (old new : Store D T) (unseen : Disks) (front rest : List Claim) (at : ℕ → Standing)
+      → AreInOrder set old.slots old.disks → old.claim.slot < 64 → Calls set i made old new → AllHold ghosts.tells ghosts.files unseen old front rest at
       → AllHold ghosts.tells ghosts.files unseen new front rest at
   unfolding kept_of
-  called_holds set i seen old new unseen front rest at order low x held k was later =
+  called_holds set i made old new unseen front rest at order low x held k was later =
       let is : IsSlotAt old.slots k was = subst (λ l. IsSlotAt l k was) (ap (λ (s : Store D T). s.slots) x.leaves) later in
       let within : old.claim.slot < length old.slots = (let count = order.count in omega (arith, count, low)) in
       let own = slice_index_or old.slots old.claim.slot was in
@@ -136,10 +137,10 @@ module _ {D T : Type 0} (ghosts : Ghosts D) (takes breaks : Effect T) where
     holds = same_holds old new unseen front rest at (ap (λ (s : Store D T). s.slots) x.leaves) (ap (λ (s : Store D T). s.disks) x.leaves)
         (ap (λ (s : Store D T). s.claim) x.leaves) held;
   }
-  step_holds set (Called j seen) old new unseen front rest at order low x held = record {
+  step_holds set (Called j made) old new unseen front rest at order low x held = record {
     later = at;
     lead = λ k. leads_stay set k (at k);
-    holds = called_holds set j seen old new unseen front rest at order low x held;
+    holds = called_holds set j made old new unseen front rest at order low x held;
   }
   step_holds set (Fed bytes cut) old new unseen front rest at order low x held = record {
     later = at;
@@ -158,7 +159,7 @@ module _ {D T : Type 0} (ghosts : Ghosts D) (takes breaks : Effect T) where
   pub same_slot : (set : SetPlan) (event : Event) (old new : Store D T) → StepMoves ghosts takes breaks set event old new → new.claim.slot ≡ old.claim.slot
   same_slot set (Turned i made shown) old new x = x.moves.claims.slot
   same_slot set (BarredFrom i why) old new x = ap (λ (s : Store D T). s.claim.slot) x.leaves
-  same_slot set (Called i seen) old new x = x.moves.slot
+  same_slot set (Called i made) old new x = x.moves.slot
   same_slot set (Fed bytes cut) old new x = ap (λ (s : Store D T). s.claim.slot) x.leaves
   same_slot set (Told telling cut) old new x = ap (λ (s : Store D T). s.claim.slot) x.leaves
 

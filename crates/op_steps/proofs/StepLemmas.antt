@@ -97,7 +97,7 @@ module _ {D T : Type 0} (ghosts : Ghosts D) (takes breaks : Effect T) where
       subst (λ (s : Store D T). AreInOrder set s.slots s.disks) (sym x.leaves)
       (order_stays set old.slots old.disks x.disks k x.was x.now order x.is x.moves.numbers x.moves.read.long)
   step_order set (BarredFrom k why) old new order x = subst (λ (s : Store D T). AreInOrder set s.slots s.disks) (sym x.leaves) order
-  step_order set (Called k seen) old new order x =
+  step_order set (Called k made) old new order x =
       subst (λ (l : List (SlotSeen D)). AreInOrder set l new.disks) (sym (ap (λ (s : Store D T). s.slots) x.leaves))
       (record { count = order.count; index = order.index; set_is = order.set_is; drives = x.moves.long ∙ order.drives })
   step_order set (Fed bytes cut) old new order x = subst (λ (s : Store D T). AreInOrder set s.slots s.disks) (sym x.leaves) order
@@ -133,7 +133,7 @@ module _ {D T : Type 0} (ghosts : Ghosts D) (takes breaks : Effect T) where
   step_went set (Turned j note shown) old new order x k was now is later = turned_slot set j note shown old new order x k was now is later
   step_went set (BarredFrom j why) old new order x k was now is later =
       same_went k was now (stays old new k was now (ap (λ (s : Store D T). s.slots) x.leaves) is later)
-  step_went set (Called j seen) old new order x k was now is later =
+  step_went set (Called j made) old new order x k was now is later =
       same_went k was now (stays old new k was now (ap (λ (s : Store D T). s.slots) x.leaves) is later)
   step_went set (Fed bytes cut) old new order x k was now is later =
       same_went k was now (stays old new k was now (ap (λ (s : Store D T). s.slots) x.leaves) is later)

@@ -1,7 +1,6 @@
 -- What is paid once a reply without a body is told.
-use Rattle.std.proofs.Common.{◌≡◌, ◌⊎◌, ◌<◌, ◌∙◌, ℕ, zero, suc, List, [], ◌∷◌, ◌++◌, All, Option, Some, None, append-nil, inl, inr, refl, sym, ap, ap₂, arith}
+use Rattle.std.proofs.Common.{◌≡◌, ◌<◌, ◌∙◌, zero, suc, [], ◌∷◌, ◌++◌, All, Option, Some, None, append-nil, inl, inr, refl, sym, ap, ap₂, arith}
 use Rattle.std.proofs.lemmas.Grind.{flat_map-append}
-use Rattle.std.specs.List.{flat_map}
 use Rattle.call_types.specs.declared.feed.Cut.{Cut}
 use Rattle.call_types.specs.declared.feed.Cut.TheVariants as cut_of
 use Rattle.call_types.specs.declared.reply.Reply.{Reply}
@@ -28,7 +27,7 @@ one_untold event none (suc k) d l = let below : suc k < 1 = l in absurd (omega a
 none_in : (event : Event) → IsUntold event → told_in event ≡ []
 none_in (Turned k made shown) none = refl
 none_in (BarredFrom k why) none = refl
-none_in (Called k seen) none = refl
+none_in (Called k made) none = refl
 none_in (Fed bytes cut) none = refl
 none_in (Told telling None) none = absurd none
 none_in (Told telling (Some cut)) none = refl

@@ -1,5 +1,5 @@
 -- Commits of slots that end no put, as steps: what they say of themselves is all that a step of any claim says.
-use Rattle.std.specs.Prelude.{◌≡◌, ℕ, List, None, Option, Result}
+use Rattle.std.specs.Prelude.{ℕ, List, None, Option, Result}
 use Rattle.drive_base.specs.View.{views}
 use Rattle.drive_base.specs.declared.drive.Drive.{Ghosts}
 use Rattle.slot_rules.specs.declared.commit.Commit.{Commit}

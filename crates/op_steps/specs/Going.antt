@@ -1,5 +1,5 @@
 -- What the loop over an op's steps keeps, and what it leaves.
-use Rattle.std.specs.Prelude.{◌≡◌, ℕ, List, [], ◌∷◌, ◌++◌, Option}
+use Rattle.std.specs.Prelude.{◌≡◌, ℕ, List, ◌++◌, Option}
 use Rattle.call_types.specs.Feeds.{FeedView}
 use Rattle.call_types.specs.declared.feed.Cut.{Cut}
 use Rattle.desk_base.specs.Answering.{Task}
@@ -8,11 +8,11 @@ use Rattle.desk_base.specs.Telling.{Effect}
 use Rattle.drive_base.specs.declared.drive.Drive.{Ghosts}
 use Rattle.drive_base.specs.declared.plan.SetPlan.{SetPlan}
 use Rattle.slot_core.specs.declared.stub.Stub.{Stub}
-use Rattle.receipts.specs.Events.{Event, Log, notes_of}
+use Rattle.receipts.specs.Events.{Log, notes_of}
 use Rattle.receipts.specs.Paying.{Pays}
 use Rattle.op_steps.specs.Claims.{Claim, no_claim}
 use Rattle.op_steps.specs.Notes.{notes_by}
-use Rattle.op_steps.specs.Steps.{Ran, StepMoves}
+use Rattle.op_steps.specs.Steps.{Ran}
 use Rattle.op_steps.specs.Store.{Store}
 use Rattle.op_steps.specs.Words.{LetsGo}
 
@@ -37,13 +37,7 @@ abbrev pub AddsNotes : Log → List Stub → List Stub → Type 0
 AddsNotes log old new = notes_by new ≡ notes_by old ++ notes_of log
 
 module _ {D T : Type 0} (ghosts : Ghosts D) (takes breaks : Effect T) where
-  -- one step was done: one event more, which moved the store; a store is given by what is held of it
-  abbrev pub StepsSo : (Claim → Log → Type 0) → (Claim → Log → Type 0) → SetPlan → (Claim → Store D T) → (Claim → Store D T) → List Stub → List Stub → Type 0
-  StepsSo Old New set old new stubs_old stubs_new = (claim : Claim) (log : Log) → Old claim log
-      → (later : Claim) × (event : Event) × New later (log ++ event ∷ []) × StepMoves ghosts takes breaks set event (old claim) (new later)
-      × AddsNotes (event ∷ []) stubs_old stubs_new
-
-  -- several were
+  -- steps were done, none, one or more: each is an event of the log, which led from one store to the other; a store is given by what is held of it
   abbrev pub RanSo : (Claim → Log → Type 0) → (Claim → Log → Type 0) → SetPlan → (Claim → Store D T) → (Claim → Store D T) → List Stub → List Stub → Type 0
   RanSo Old New set old new stubs_old stubs_new = (claim : Claim) (log : Log) → Old claim log
       → (later : Claim) × (more : Log) × New later (log ++ more) × Ran ghosts takes breaks set more (old claim) (new later) × AddsNotes more stubs_old stubs_new

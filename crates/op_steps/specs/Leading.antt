@@ -1,14 +1,17 @@
 -- Where the entries of a log lead the slots of a store, with what their sections showed.
-use Rattle.std.specs.Prelude.{◌≡◌, ℕ, List, [], ◌∷◌, ◌++◌, if◌then◌else◌, map, nat_eq, Option, Some, None}
+use Rattle.std.specs.Prelude.{◌≡◌, ◌⊎◌, ℕ, List, [], ◌∷◌, ◌++◌, if◌then◌else◌, map, nat_eq, Option, Some, None}
 use Rattle.std.specs.Int.{IsBitSet}
 use Rattle.std.specs.List.{flat_map}
 use Rattle.audit_trail.specs.declared.entry.Entry.{Entry}
+use Rattle.drive_base.specs.Plan.{write_drives}
 use Rattle.drive_base.specs.declared.plan.SetPlan.{SetPlan}
+use Rattle.stamp_id.specs.declared.stamp.ChangeId.{ChangeId}
 use Rattle.vote_core.specs.Lane.{lane_at}
 use Rattle.slot_history.specs.Moving.{Moves, Runs}
 use Rattle.slot_history.specs.Standing.{Records}
 use Rattle.slot_history.specs.State.{State}
 use Rattle.slot_history.specs.Waiting.{Lates}
+use Rattle.slot_core.specs.Calming.{HasBegun, HasMade, IsCalmUnder}
 use Rattle.receipts.specs.Events.{Event, Log, Shown}
 use Rattle.receipts.specs.Events.Event.{BarredFrom, Called, Fed, Told, Turned}
 use Rattle.op_steps.specs.Moves.{ShowsBy}
@@ -28,7 +31,7 @@ entered_by (Some entry) shown = record { entry = entry; shown = shown } ∷ []
 abbrev pub entered_in : ℕ → Event → List Entered
 entered_in slot (Turned k note shown) = if nat_eq k slot then entered_by (entry_in note) shown else []
 entered_in slot (BarredFrom k why) = []
-entered_in slot (Called k seen) = []
+entered_in slot (Called k made) = []
 entered_in slot (Fed bytes cut) = []
 entered_in slot (Told telling cut) = []
 
@@ -53,10 +56,22 @@ pub record Standing : Type 0 where
   pub records : Records
   pub state : State
 
--- a slot is led by these entries from what its lanes stood for to what they stand for now, with the same records in the place of lanes that are out
+-- an entry made a change of this name's register, or the register was calm and the entry began none there that was refused
+abbrev pub IsCalmAfter : Entry → List ℕ → Type 0 → Type 0
+IsCalmAfter entry name calm = ((change : ChangeId) × HasMade (Some entry) name change) ⊎ (calm × (HasBegun (Some entry) name → ⊥))
+
+-- so one entry after another leaves a register calm, which was so at first by this
+abbrev pub IsCalmBy : List Entered → List ℕ → Type 0 → Type 0
+IsCalmBy [] name calm = calm
+IsCalmBy (e ∷ run) name calm = IsCalmBy run name (IsCalmAfter e.entry name calm)
+
+-- a slot is led by these entries from what its lanes stood for to what they stand for now, with the same records in the place of lanes that are out; a register
+-- is calm that these entries leave so
 pub record LeadsTo (set : SetPlan) (slot : ℕ) (run : List Entered) (was now : Standing) : Type 0 where
   pub stay : (name : List ℕ) (k : ℕ) → IsBitSet set.out k → lane_at (now.records name) k ≡ lane_at (was.records name) k
   pub runs : RunsShowing slot run was.state now.state
+  pub calm : (name : List ℕ) → IsCalmBy run name (IsCalmUnder (write_drives set.drives set.parity) was.records was.state name)
+      → IsCalmUnder (write_drives set.drives set.parity) now.records now.state name
 
 -- each slot is led so by its entries in a log
 abbrev pub AllLead : SetPlan → Log → (ℕ → Standing) → (ℕ → Standing) → Type 0

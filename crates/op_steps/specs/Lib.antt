@@ -1,8 +1,12 @@
 pub mod BucketLooks
 pub mod Calling
+pub mod CalmRegisters
+pub mod Calls
 pub mod Causes
+pub mod ChangeLetters
 pub mod Claims
 pub mod Committing
+pub mod DriveLetters
 pub mod Getting
 pub mod Going
 pub mod Holding
@@ -13,6 +17,7 @@ pub mod Looking
 pub mod Moves
 pub mod Naming
 pub mod Notes
+pub mod OwnFiles
 pub mod Reads
 pub mod Ready
 pub mod Refusing
@@ -20,4 +25,5 @@ pub mod Requests
 pub mod Serving
 pub mod Steps
 pub mod Store
+pub mod Trails
 pub mod Words

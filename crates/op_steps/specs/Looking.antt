@@ -1,11 +1,11 @@
 -- Looks of slots and reads of data drives, as steps: what they say of themselves is all that a step of any claim says.
 use Rattle.std.specs.Prelude.{◌≡◌, ◌≢◌, ℕ, ◌<◌, List, length, Option, Result, Ok, Err}
 use Rattle.std.specs.Int.{IsBitSet}
+use Rattle.drive_base.specs.Calls.{MadeCall, WasMade}
+use Rattle.drive_base.specs.Trail.{IsReading}
 use Rattle.drive_base.specs.View.{AllOnlyRead, DriveView, view_at, views}
 use Rattle.drive_base.specs.declared.plan.SetPlan.{SetPlan}
 use Rattle.drive_base.specs.declared.drive.Drive.{Ghosts}
-use Rattle.register_caller.specs.Steps.{FilesStay}
-use Rattle.register_core.specs.Loops.{CountsRise, TellsStay}
 use Rattle.slot_core.specs.Causes.{PeekCause}
 use Rattle.slot_core.specs.Hands.{HandsStay}
 use Rattle.slot_core.specs.Sections.{SaysKept, ShowsContent}
@@ -13,10 +13,10 @@ use Rattle.slot_core.specs.Stubs.{Says, completed_by}
 use Rattle.slot_core.specs.Turning.{Leaves, Turns}
 use Rattle.slot_core.specs.declared.fault.SlotFault.{SlotFault}
 use Rattle.slot_core.specs.declared.stub.Stub.{Stub}
-use Rattle.receipts.specs.Events.{Seen, Shown}
+use Rattle.receipts.specs.Events.{Shown}
 use Rattle.receipts.specs.Events.Shown.{ContentShown, NoneShown}
 use Rattle.op_steps.specs.Claims.{Claim}
-use Rattle.op_steps.specs.Moves.{CallMoves, IsCall, SaysUnwritten, TurnMoves, WasSo}
+use Rattle.op_steps.specs.Moves.{CallMoves, TurnMoves}
 use Rattle.op_steps.specs.Notes.{noted}
 use Rattle.op_steps.specs.Store.{SlotSeen}
 
@@ -27,11 +27,8 @@ shown_by (Err fault) = NoneShown
 
 module _ {D : Type 0} (ghosts : Ghosts D) where
   -- data drives were only read
-  pub record AreOnlyRead (old new : List D) : Type 0 where
-    pub long : length new ≡ length old
-    pub files : FilesStay ghosts.tells ghosts.files ghosts.count old new
-    pub tells : TellsStay ghosts.tells ghosts.files ghosts.count old new
-    pub counts : CountsRise ghosts.tells ghosts.files ghosts.count old new
+  abbrev pub AreOnlyRead : List D → List D → Type 0
+  AreOnlyRead old new = AllOnlyRead (views ghosts old) (views ghosts new)
 
   -- what a section says that looks at a register
   pub record LookSays (was now : SlotSeen D) (name : List ℕ) (answer : Result (List ℕ) SlotFault) (stub : Option Stub) (old new : List D) : Type 0 where
@@ -48,16 +45,16 @@ module _ {D : Type 0} (ghosts : Ghosts D) where
       → LookSays was now name answer stub old new
       → TurnMoves ghosts was now (noted stub) (shown_by answer) claim claim (views ghosts old) (views ghosts new)
 
--- a call of a data drive in use, which gave this, or none, and by which all drives were only read
-pub record ReadSays (set : SetPlan) (k : ℕ) (seen : Seen) (old new : List DriveView) : Type 0 where
+-- a reading of a data drive in use, and of no other
+pub record ReadSays (set : SetPlan) (k : ℕ) (made : MadeCall) (old new : List DriveView) : Type 0 where
   pub within : k < length old
-  pub in_use : IsCall seen → IsBitSet set.out k → ⊥
-  pub was_so : WasSo seen (view_at old k) (view_at new k)
-  pub reads : SaysUnwritten seen → ⊥
-  pub read : AllOnlyRead old new
+  pub in_use : IsBitSet set.out k → ⊥
+  pub was_made : WasMade made (view_at old k) (view_at new k)
+  pub reading : IsReading made.call
+  pub long : length new ≡ length old
   pub others : (other : ℕ) → other ≢ k → view_at new other ≡ view_at old other
 
 -- it is a step that leaves any claim
 abbrev pub ReadIsCall : Type 0
-ReadIsCall = (set : SetPlan) (k : ℕ) (seen : Seen) (old new : List DriveView) (claim : Claim) → ReadSays set k seen old new
-    → CallMoves set k seen claim claim old new
+ReadIsCall = (set : SetPlan) (k : ℕ) (made : MadeCall) (old new : List DriveView) (claim : Claim) → ReadSays set k made old new
+    → CallMoves set k made claim claim old new

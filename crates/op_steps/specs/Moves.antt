@@ -1,38 +1,41 @@
 -- What one step does to what it works on.
-use Rattle.std.specs.Prelude.{◌≡◌, ◌≢◌, ◌⊎◌, ℕ, ◌+◌, ◌<◌, ◌≤◌, IsTrue, List, Contains, length, min, max, Option, Some, None, MatchOption}
+use Rattle.std.specs.Prelude.{◌≡◌, ◌≢◌, ◌⊎◌, ℕ, ◌<◌, ◌≤◌, List, length, Option, Some, None, MatchOption}
 use Rattle.std.specs.Int.{IsBitSet}
-use Rattle.std.specs.Io.KnownBytes.{IsAtEnd}
 use Rattle.audit_trail.specs.declared.entry.Entry.{Entry}
 use Rattle.body_print.specs.Names.{loose_manifest_name, loose_shard_name, manifest_name, shard_name}
-use Rattle.call_types.specs.Feeds.{Gave}
+use Rattle.call_types.specs.Feeds.{FeedEnded, Gave}
 use Rattle.call_types.specs.declared.feed.Cut.{Cut}
 use Rattle.call_types.specs.declared.feed.Cut.TheVariants.{BodyCut, NoMemory, ReadFault, ShardCut, WriteFault}
 use Rattle.desk_base.specs.Telling.{Effect, Telling}
+use Rattle.drive_base.specs.Calls.{MadeCall, Tells, WasMade}
+use Rattle.drive_base.specs.Calls.Seen.{Unwritten}
 use Rattle.drive_base.specs.Files.{Files}
 use Rattle.drive_base.specs.declared.drive.Drive.{Ghosts}
-use Rattle.drive_base.specs.View.{AllOnlyRead, DriveView, GoesOn, view_at}
+use Rattle.drive_base.specs.View.{AllOnlyRead, DriveView, view_at}
 use Rattle.drive_base.specs.declared.plan.SetPlan.{SetPlan}
 use Rattle.fault_base.specs.Counts.{Rose}
-use Rattle.field_reader.specs.Spelling.{IsBytes}
-use Rattle.file_access.specs.Reading.{HasLength, IsPieceAt}
+use Rattle.stamp_id.specs.declared.stamp.ChangeId.{ChangeId}
 use Rattle.stamp_id.specs.declared.version.VersionId.{VersionId}
 use Rattle.vote_core.specs.Lane.{lane_at}
-use Rattle.slot_history.specs.Standing.{Flying, Records, Stands}
+use Rattle.slot_history.specs.Standing.{Records, Stands}
 use Rattle.slot_history.specs.State.{IsHeld, State}
 use Rattle.slot_data.specs.Disks.{Disks}
 use Rattle.slot_data.specs.Holding.{Holding}
+use Rattle.slot_core.specs.Calming.{HasMade, SectionCalms}
 use Rattle.slot_core.specs.Listing.{IsGiven, IsListable}
 use Rattle.slot_core.specs.Numbers.{NumbersMove}
 use Rattle.slot_core.specs.Turning.{EntryMoves}
 use Rattle.slot_core.specs.Views.{SlotNumbers, last_of, quorum_of}
-use Rattle.receipts.specs.Events.{Note, Seen, Shown}
-use Rattle.receipts.specs.Events.Seen.{CutShort, Faulted, Missing, Showed, Sized, Uncalled, Unwritten, Wrote}
+use Rattle.receipts.specs.Events.{Note, Shown}
 use Rattle.receipts.specs.Events.Shown.{ContentShown, NamesShown, NoneShown}
 use Rattle.receipts.specs.declared.barred.Barred.{Barred}
 use Rattle.receipts.specs.declared.barred.Barred.TheVariants as barred
+use Rattle.op_steps.specs.Calls.{MayCall}
 use Rattle.op_steps.specs.Causes.{TurnCause}
+use Rattle.op_steps.specs.ChangeLetters.{ChangeLetters}
 use Rattle.op_steps.specs.Claims.{Claim, DataHolds, among}
 use Rattle.op_steps.specs.Notes.{AuditCounts, AuditHas, IsNoted, entry_in}
+use Rattle.op_steps.specs.Serving.{TurnComplete}
 use Rattle.op_steps.specs.Store.{FeedSeen, LanesStand, SlotSeen, TellerSeen}
 
 -- what a section showed is so of the state before its deed: the content is that of its entry's register; of the registers that are held and that some
@@ -50,7 +53,8 @@ pub record ClaimMoves (index : ℕ) (claim later : Claim) : Type 0 where
 
 module _ {D : Type 0} (ghosts : Ghosts D) where
   -- what a section leaves of lanes that stood for a state: they stand for a state to which its entry moved, with the same records in the place of lanes that
-  -- are out, and whatever other ops hold, the data goes on to hold, with any files on drives that are out
+  -- are out; the register of which it made a change is calm, and each calm one that it only looked at is as it was; and whatever other ops hold, the data goes
+  -- on to hold, with any files on drives that are out
   pub record TurnLeaves (was now : SlotSeen D) (note : Option Note) (shown : Shown) (claim later : Claim) (disks_old disks_new : List DriveView)
       (records : Records) (state : State) : Type 0 where
     pub records_after : Records
@@ -58,11 +62,12 @@ module _ {D : Type 0} (ghosts : Ghosts D) where
     pub stands : LanesStand ghosts.tells ghosts.files now records_after state_after
     pub stay : (name : List ℕ) (k : ℕ) → IsBitSet was.numbers.set.out k → lane_at (records_after name) k ≡ lane_at (records name) k
     pub moves : EntryMoves was.numbers.index (entry_in note) (ShowsBy (entry_in note) shown) records state records_after state_after
+    pub calm : SectionCalms (quorum_of was.numbers) (entry_in note) records state records_after state_after
     pub holds : (unseen : Disks) (front rest : List Claim) → DataHolds was.numbers was.holding unseen disks_old (among front claim rest) records state
         → DataHolds now.numbers now.holding unseen disks_new (among front later rest) records_after state_after
 
-  -- one section of a slot: one turn more, with its note; its entry is what the audit got; data drives are only read; where it was refused, why; and what it
-  -- leaves of its lanes
+  -- one section of a slot: one turn more, with its note; its entry is what the audit got; data drives are only read; where it was refused, why; against
+  -- which drives that serve it can't be; where it made a change, which lanes took it; and what it leaves of its lanes
   pub record TurnMoves (was now : SlotSeen D) (note : Option Note) (shown : Shown) (claim later : Claim) (disks_old disks_new : List DriveView) : Type 0 where
     pub numbers : NumbersMove was.numbers now.numbers
     pub note_is : IsNoted was.numbers note
@@ -71,6 +76,8 @@ module _ {D : Type 0} (ghosts : Ghosts D) where
     pub claims : ClaimMoves was.numbers.index claim later
     pub read : AllOnlyRead disks_old disks_new
     pub cause : TurnCause ghosts note was now claim disks_old disks_new
+    pub complete : TurnComplete ghosts note was now claim disks_old disks_new
+    pub letters : (name : List ℕ) (change : ChangeId) → HasMade (entry_in note) name change → ChangeLetters ghosts was now name change
     pub leaves : (records : Records) (state : State) → LanesStand ghosts.tells ghosts.files was records state
         → TurnLeaves was now note shown claim later disks_old disks_new records state
 
@@ -79,27 +86,9 @@ abbrev pub BarCause : Barred → SlotNumbers → Type 0
 BarCause barred.Spent numbers = 18446744073709551615 ≤ numbers.turns
 BarCause barred.NoMemory numbers = Unit {0}
 
--- what a call of a drive gave was so at its moment, by what a drive that tells showed, and its count of faults
-abbrev pub WasSo : Seen → DriveView → DriveView → Type 0
-WasSo (Sized name n) old new = (new.count ≡ old.count) × (IsTrue old.tells → HasLength old.files name n)
-WasSo (Showed name at bytes) old new = (new.count ≡ old.count) × IsBytes bytes × (IsTrue old.tells → IsPieceAt old.files name at bytes)
-WasSo (CutShort name at long place) old new = (new.count ≡ old.count) × (IsTrue old.tells → (file : List ℕ) × (old.files.shown name ≡ Some file)
-    × (length file < at + long) × (place ≡ min (max at (length file)) 18446744073709551615))
-WasSo (Missing name) old new = (new.count ≡ old.count) × (IsTrue old.tells → old.files.shown name ≡ None)
-WasSo (Unwritten name) old new = (new.count ≡ old.count) × (IsTrue old.tells → old.files.loose name ≡ None)
-WasSo Wrote old new = new.count ≡ old.count
-WasSo (Faulted before after) old new = (before ≡ old.count) × (after ≡ new.count) × Rose old.count new.count
-WasSo Uncalled old new = new ≡ old
-
--- a call was made
-abbrev pub IsCall : Seen → Type 0
-IsCall Uncalled = ⊥
-IsCall other = Unit {0}
-
--- it gave that nothing was being written under a loose name
-abbrev pub SaysUnwritten : Seen → Type 0
-SaysUnwritten (Unwritten name) = Unit {0}
-SaysUnwritten other = ⊥
+-- a call told that nothing was being written under a loose name
+abbrev pub SaysUnwritten : MadeCall → Type 0
+SaysUnwritten made = (loose : List ℕ) × Tells made (Unwritten loose)
 
 -- a name is one under which a drive keeps data, or one under which data is being written
 abbrev pub IsDataName : List ℕ → Type 0
@@ -136,21 +125,17 @@ pub record KeepsData (set : SetPlan) (unseen : Disks) (disks : List DriveView) (
   pub stands : RecordsStand slot.numbers slot.holding slot.records slot.state
   pub holds : DataHolds slot.numbers slot.holding unseen disks claims slot.records slot.state
 
--- a step at a data drive, and none at another: one call, where the drive is in use, or none. A drive that tells keeps what is no data, and of data all but
--- files that the op took, or of its own put. Where the data of the op's own slot holds, no drive says that nothing is being written under a loose name, and
--- whatever other ops hold, the data of each slot goes on to hold
-pub record CallMoves (set : SetPlan) (k : ℕ) (seen : Seen) (claim later : Claim) (old new : List DriveView) : Type 0 where
+-- one call of a data drive in use, and none of another, which the op may make (`MayCall`). Where the data of the op's own slot holds, no drive tells that
+-- nothing is being written under a loose name, and whatever other ops hold, the data of each slot goes on to hold
+pub record CallMoves (set : SetPlan) (k : ℕ) (made : MadeCall) (claim later : Claim) (old new : List DriveView) : Type 0 where
   pub within : k < length old
-  pub in_use : IsCall seen → IsBitSet set.out k → ⊥
-  pub was_so : WasSo seen (view_at old k) (view_at new k)
-  pub goes_on : GoesOn (view_at old k) (view_at new k)
-  pub keeps : IsTrue (view_at old k).tells → KeepsOthers (view_at old k).files (view_at new k).files
-  pub removes : (id : VersionId) → IsTrue (view_at old k).tells → LosesFile id (view_at old k).files (view_at new k).files
-      → Contains claim.taken id ⊎ ((f : Flying) × (claim.flight ≡ Some f) × (f.id ≡ id))
+  pub in_use : IsBitSet set.out k → ⊥
+  pub was_made : WasMade made (view_at old k) (view_at new k)
+  pub may : MayCall claim made.call
   pub long : length new ≡ length old
   pub others : (other : ℕ) → other ≢ k → view_at new other ≡ view_at old other
   pub slot : later.slot ≡ claim.slot
-  pub written : (unseen : Disks) (front rest : List Claim) (own : SlotKept) → SaysUnwritten seen → own.numbers.index ≡ claim.slot
+  pub written : (unseen : Disks) (front rest : List Claim) (own : SlotKept) → SaysUnwritten made → own.numbers.index ≡ claim.slot
       → KeepsData set unseen old (among front claim rest) own → ⊥
   pub holds : (unseen : Disks) (front rest : List Claim) (own slot : SlotKept) → own.numbers.index ≡ claim.slot
       → KeepsData set unseen old (among front claim rest) own → KeepsData set unseen old (among front claim rest) slot
@@ -161,7 +146,7 @@ abbrev pub FeedCause : Option Cut → FeedSeen → FeedSeen → Type 0
 FeedCause None old new = new.faults ≡ old.faults
 FeedCause (Some ReadFault) old new = Rose old.faults new.faults
 FeedCause (Some (BodyCut read stated)) old new = (read ≡ new.view.given) × (stated ≡ new.view.stated) × (new.view.given < new.view.stated)
-    × IsAtEnd new.view.left × (new.faults ≡ old.faults)
+    × FeedEnded new.view × (new.faults ≡ old.faults)
 FeedCause (Some WriteFault) old new = ⊥
 FeedCause (Some (ShardCut whys)) old new = ⊥
 FeedCause (Some NoMemory) old new = ⊥

@@ -15,6 +15,8 @@ use Rattle.call_types.specs.declared.reply.Reply.TheVariants.{Found}
 use Rattle.call_types.specs.declared.version.Version.{Version}
 use Rattle.call_types.specs.declared.why.Why.{Why}
 use Rattle.desk_base.specs.Telling.{Effect}
+use Rattle.drive_base.specs.Calls.{MadeCall, Tells}
+use Rattle.drive_base.specs.Calls.Seen.{Showed}
 use Rattle.drive_base.specs.DriveSet.{count_in}
 use Rattle.drive_base.specs.Plan.{data_drives, write_drives}
 use Rattle.drive_base.specs.View.{DriveView, view_at}
@@ -26,7 +28,6 @@ use Rattle.manifest_file.specs.declared.manifest.Manifest.{Manifest}
 use Rattle.manifest_file.specs.declared.manifest.ManifestPart.{ManifestPart}
 use Rattle.receipts.specs.Events.{Event, Log, Note, Shown}
 use Rattle.receipts.specs.Events.Event.{BarredFrom, Called, Fed, Told, Turned}
-use Rattle.receipts.specs.Events.Seen.{Showed}
 use Rattle.receipts.specs.Letters.{FewBlocks, IsInUse, NoneServes, Serves, Wanted}
 use Rattle.receipts.specs.Paying.{LeavesAll}
 use Rattle.receipts.specs.Reading.{IsWanted}
@@ -55,7 +56,7 @@ pub record FindsData (wanted : Wanted) (entry : Entry) : Type 0 where
 abbrev pub LeavesSlot : ℕ → Event → Type 0
 LeavesSlot slot (Turned k made shown) = k ≡ slot → MatchOption (entry_in made) (Unit {0}) (λ entry. LeavesAll entry.deed)
 LeavesSlot slot (BarredFrom k why) = Unit {0}
-LeavesSlot slot (Called k seen) = Unit {0}
+LeavesSlot slot (Called k made) = Unit {0}
 LeavesSlot slot (Fed bytes cut) = Unit {0}
 LeavesSlot slot (Told telling cut) = Unit {0}
 
@@ -63,7 +64,7 @@ LeavesSlot slot (Told telling cut) = Unit {0}
 abbrev pub IsStill : ℕ → Event → Type 0
 IsStill slot (Turned k made shown) = k ≡ slot → entry_in made ≡ None
 IsStill slot (BarredFrom k why) = Unit {0}
-IsStill slot (Called k seen) = Unit {0}
+IsStill slot (Called k made) = Unit {0}
 IsStill slot (Fed bytes cut) = Unit {0}
 IsStill slot (Told telling cut) = Unit {0}
 
@@ -85,7 +86,7 @@ pub record ReadsData (wanted : Wanted) (log : Log) : Type 0 where
 abbrev pub CallServes : SetPlan → ℕ → Event → List DriveView → List DriveView → Type 0
 CallServes set disks (Turned k made shown) old new = Unit {0}
 CallServes set disks (BarredFrom k why) old new = Unit {0}
-CallServes set disks (Called k seen) old new = IsBitSet disks k → DriveServes IsDataName set.out k (view_at old k) (view_at new k)
+CallServes set disks (Called k made) old new = IsBitSet disks k → DriveServes IsDataName set.out k (view_at old k) (view_at new k)
 CallServes set disks (Fed bytes cut) old new = Unit {0}
 CallServes set disks (Told telling cut) old new = Unit {0}
 
@@ -119,7 +120,9 @@ module _ {D T : Type 0} (ghosts : Ghosts D) (takes breaks : Effect T) where
     pub is_other : IsBitSet disks drive → ⊥
     pub shown : Manifest
     pub serves : Serves set wanted shown
-    pub called : TookPlace ghosts takes breaks set log old new (Called drive (Showed (manifest_name wanted.id) 0 (file_of shown)))
+    pub made : MadeCall
+    pub tells : Tells made (Showed (manifest_name wanted.id) 0 (file_of shown))
+    pub called : TookPlace ghosts takes breaks set log old new (Called drive made)
     pub unkept : (file : List ℕ) → (view_at called.before.disks drive).files.kept (manifest_name wanted.id) ≡ Some file
         → file_of shown ≢ take (length (file_of shown)) file
     pub holder : ℕ

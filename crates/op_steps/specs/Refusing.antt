@@ -2,14 +2,17 @@
 use Rattle.std.specs.Prelude.{◌≡◌, ℕ, ◌∷◌, ◌++◌, Contains, Some}
 use Rattle.call_types.specs.declared.refusal.Refusal.{Refusal}
 use Rattle.desk_base.specs.Telling.{Effect}
+use Rattle.drive_base.specs.Calls.{MadeCall, Seen, WasMade}
 use Rattle.drive_base.specs.View.{view_at}
 use Rattle.drive_base.specs.declared.drive.Drive.{Ghosts}
 use Rattle.drive_base.specs.declared.plan.SetPlan.{SetPlan}
-use Rattle.receipts.specs.Events.{Event, Log, Note, Seen, Shown}
+use Rattle.file_access.specs.Sights.{WasSo}
+use Rattle.receipts.specs.Events.{Event, Log, Note, Saw, Shown}
 use Rattle.receipts.specs.Events.Event.{BarredFrom, Called, Turned}
 use Rattle.receipts.specs.declared.barred.Barred.{Barred}
+use Rattle.op_steps.specs.Calls.{MayCall}
 use Rattle.op_steps.specs.Causes.{RefusalCause}
-use Rattle.op_steps.specs.Moves.{BarCause, WasSo}
+use Rattle.op_steps.specs.Moves.{BarCause}
 use Rattle.op_steps.specs.Steps.{Ran, StepMoves}
 use Rattle.op_steps.specs.Store.{Store}
 
@@ -42,7 +45,14 @@ module _ {D T : Type 0} (ghosts : Ghosts D) (takes breaks : Effect T) where
   BarsHaveCauses = (set : SetPlan) (log : Log) (old new : Store D T) (k : ℕ) (why : Barred) → Ran ghosts takes breaks set log old new
       → Contains log (BarredFrom k why) → (x : TookPlace set log old new (BarredFrom k why)) × BarCause why x.step.was.numbers
 
-  -- and what a call of a data drive gave was so when it took place
+  -- a call of a log was made of its drive when it took place, and was one that its op might make
+  abbrev pub CallsWereMade : Type 0
+  CallsWereMade = (set : SetPlan) (log : Log) (old new : Store D T) (k : ℕ) (made : MadeCall) → Ran ghosts takes breaks set log old new
+      → Contains log (Called k made)
+      → (x : TookPlace set log old new (Called k made)) × WasMade made (view_at x.before.disks k) (view_at x.after.disks k)
+      × MayCall x.before.claim made.call
+
+  -- and what it told was so
   abbrev pub CallsWereSo : Type 0
-  CallsWereSo = (set : SetPlan) (log : Log) (old new : Store D T) (k : ℕ) (seen : Seen) → Ran ghosts takes breaks set log old new
-      → Contains log (Called k seen) → (x : TookPlace set log old new (Called k seen)) × WasSo seen (view_at x.before.disks k) (view_at x.after.disks k)
+  CallsWereSo = (set : SetPlan) (log : Log) (old new : Store D T) (k : ℕ) (seen : Seen) → Ran ghosts takes breaks set log old new → (saw : Saw log k seen)
+      → (x : TookPlace set log old new (Called k saw.made)) × WasSo seen (view_at x.before.disks k) (view_at x.after.disks k)

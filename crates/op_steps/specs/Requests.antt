@@ -2,7 +2,6 @@
 use Rattle.std.specs.Prelude.{◌≡◌, ℕ, zero, suc, ◌<◌, ◌≤◌, List, [], ◌∷◌, ◌++◌, Contains, Option, Some, MatchOption}
 use Rattle.std.specs.Int.{IsBitSet}
 use Rattle.audit_trail.specs.declared.entry.Entry.{Entry}
-use Rattle.call_types.specs.declared.names.Key.{Key}
 use Rattle.call_types.specs.declared.refusal.Refusal.TheVariants.{NotInFlight}
 use Rattle.call_types.specs.declared.why.Why.{Why}
 use Rattle.desk_base.specs.Telling.{Effect}
@@ -14,8 +13,7 @@ use Rattle.drive_base.specs.declared.plan.SetPlan.{SetPlan}
 use Rattle.fault_base.specs.Counts.{Rose}
 use Rattle.stamp_id.specs.declared.version.VersionId.{VersionId}
 use Rattle.register_core.specs.declared.faults.QuorumFault.{QuorumFault}
-use Rattle.slot_history.specs.Names.{key_name}
-use Rattle.slot_data.specs.Disks.{Disks, IsPartName}
+use Rattle.slot_data.specs.Disks.{Disks}
 use Rattle.slot_rules.specs.Rules.{IsRegisterName}
 use Rattle.slot_core.specs.declared.fault.SlotFault.TheVariants.{Quorum}
 use Rattle.receipts.specs.Events.{Event, Log, Note, Shown}
@@ -27,13 +25,9 @@ use Rattle.op_steps.specs.Holding.{StoreHolds}
 use Rattle.op_steps.specs.Leading.{Standing}
 use Rattle.op_steps.specs.Notes.{entry_in, refusal_by}
 use Rattle.op_steps.specs.Reads.{EnoughServe, ReadGoesOn, ReadsData}
-use Rattle.op_steps.specs.Serving.{AreEnough, DrivesServe, IsManifestName, IsNameOf}
+use Rattle.op_steps.specs.Serving.{AreEnough, DrivesServe, IsManifestName, IsNameOf, IsOfNoPart}
 use Rattle.op_steps.specs.Steps.{Ran, StepMoves}
 use Rattle.op_steps.specs.Store.{AreInOrder, SlotSeen, Store, any_effect, store_of}
-
--- an entry of a section of slot k isn't of a part's register, and where it is of a key's the slot is that of the call
-abbrev pub IsOfSlot : ℕ → ℕ → Option Entry → Type 0
-IsOfSlot slot k entry = MatchOption entry (Unit {0}) (λ made. (IsPartName made.name → ⊥) × ((at : Key) → made.name ≡ key_name at → k ≡ slot))
 
 -- an entry is of a bucket's or a key's register, and a set has all lanes
 abbrev pub HasAllLanes : SetPlan → ℕ → Option Entry → Type 0
@@ -51,7 +45,7 @@ module _ {D T : Type 0} (ghosts : Ghosts D) (takes breaks : Effect T) where
       DrivesServe (IsNameOf (entry_in note)) set.out lanes (views ghosts step.was.lanes) (views ghosts step.now.lanes)
       × DrivesServe IsManifestName set.out disks old.disks step.disks
   StepServes set lanes disks (BarredFrom k why) old new step = Unit {0}
-  StepServes set lanes disks (Called k seen) old new step = Unit {0}
+  StepServes set lanes disks (Called k made) old new step = Unit {0}
   StepServes set lanes disks (Fed bytes cut) old new step = Unit {0}
   StepServes set lanes disks (Told telling cut) old new step = Unit {0}
 
@@ -65,7 +59,7 @@ module _ {D T : Type 0} (ghosts : Ghosts D) (takes breaks : Effect T) where
   pub record LogComplete (set : SetPlan) (log : Log) (old new : Store D T) (ran : Ran ghosts takes breaks set log old new) : Type 0 where
     -- no section is refused for a fault of a quorum against which enough of them serve in it
     pub sections : (lanes disks k : ℕ) (note : Note) (shown : Shown) (fault : QuorumFault) (there : Contains log (Turned k (Some note) shown))
-        → ServesAt set lanes disks log old new ran there.0 → IsOfSlot old.claim.slot k note.entry
+        → ServesAt set lanes disks log old new ran there.0 → IsOfNoPart note.entry
         → AreEnough ghosts set lanes disks (HasAllLanes set lanes note.entry) fault → note.refusal ≡ refusal_by (Quorum fault) → ⊥
     -- none in the call's own slot is refused for a put that isn't listed
     pub puts : (note : Note) (shown : Shown) (id : VersionId) → Contains log (Turned old.claim.slot (Some note) shown) → note.refusal ≡ Some (NotInFlight id) → ⊥

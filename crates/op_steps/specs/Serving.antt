@@ -1,9 +1,8 @@
 -- Lanes and data drives that serve, and the section that they don't refuse where they are enough.
-use Rattle.std.specs.Prelude.{◌≡◌, ◌≢◌, ◌⊎◌, ℕ, ◌+◌, ◌<◌, ◌≤◌, IsTrue, List, Contains, length, Option, Some, MatchOption}
+use Rattle.std.specs.Prelude.{◌≡◌, ◌≢◌, ◌⊎◌, ℕ, ◌+◌, ◌<◌, ◌≤◌, IsTrue, List, length, Option, MatchOption}
 use Rattle.std.specs.Int.{IsBitSet}
 use Rattle.audit_trail.specs.declared.entry.Entry.{Entry}
 use Rattle.body_print.specs.Names.{manifest_name}
-use Rattle.call_types.specs.declared.names.Key.{Key}
 use Rattle.call_types.specs.declared.why.FileKind.TheVariants.{Register}
 use Rattle.call_types.specs.declared.why.Why.{Why}
 use Rattle.call_types.specs.declared.why.Why.TheVariants.{Lacks}
@@ -18,16 +17,15 @@ use Rattle.vote_core.specs.Lane.{lane_at}
 use Rattle.register_core.specs.Loops.{letter_at}
 use Rattle.register_core.specs.declared.faults.QuorumFault.{QuorumFault}
 use Rattle.register_core.specs.declared.faults.QuorumFault.TheVariants.{NoMemory, ReadQuorum, Undecided, WriteQuorum}
-use Rattle.slot_history.specs.Names.{key_name}
-use Rattle.slot_history.specs.Standing.{Flying, Records}
+use Rattle.slot_history.specs.Standing.{Records}
 use Rattle.slot_history.specs.State.{State}
 use Rattle.slot_data.specs.Disks.{Disks, IsPartName}
-use Rattle.slot_data.specs.Holding.{Holding}
 use Rattle.slot_rules.specs.Rules.{IsRegisterName}
+use Rattle.slot_core.specs.Calming.{IsCalmUnder, OnlyLooked}
+use Rattle.slot_core.specs.Views.{quorum_of}
 use Rattle.slot_core.specs.declared.fault.SlotFault.TheVariants.{Quorum}
-use Rattle.receipts.specs.Events.{Note, Shown}
+use Rattle.receipts.specs.Events.{Note}
 use Rattle.op_steps.specs.Claims.{Claim, DataHolds}
-use Rattle.op_steps.specs.Moves.{TurnMoves}
 use Rattle.op_steps.specs.Notes.{refusal_by}
 use Rattle.op_steps.specs.Store.{LanesStand, SlotSeen}
 
@@ -49,18 +47,18 @@ IsNameOf entry name = MatchOption entry ⊥ (λ made. name ≡ made.name)
 abbrev pub IsManifestName : List ℕ → Type 0
 IsManifestName name = (id : VersionId) × (name ≡ manifest_name id)
 
--- the put that a claim has, if it has one, is listed
-abbrev pub HasItsPut : Holding → Claim → Type 0
-HasItsPut holding claim = (f : Flying) → claim.flight ≡ Some f → Contains holding.flights f
-
--- an entry isn't of a part's register, and where it is of a key's the put of the claim is listed
-abbrev pub IsOfCall : Holding → Claim → Option Entry → Type 0
-IsOfCall holding claim entry = MatchOption entry (Unit {0}) (λ made. (IsPartName made.name → ⊥) × ((at : Key) → made.name ≡ key_name at → HasItsPut holding claim))
+-- an entry isn't of a part's register
+abbrev pub IsOfNoPart : Option Entry → Type 0
+IsOfNoPart entry = MatchOption entry (Unit {0}) (λ made. IsPartName made.name → ⊥)
 
 -- an entry is of a bucket's or a key's register, and the change of the value there is the base of some lane of a set
 abbrev pub IsMarkedOn : ℕ → Records → State → Option Entry → Type 0
 IsMarkedOn lanes records state entry = MatchOption entry ⊥ (λ made. IsRegisterName made.name × ((k : ℕ) × (k < length (records made.name)) × IsBitSet lanes k
     × ((lane_at (records made.name) k).base.change ≡ (state.registers made.name).change)))
+
+-- an entry says that a section only looked at this name's register
+abbrev pub HasLooked : Option Entry → List ℕ → Type 0
+HasLooked entry name = MatchOption entry ⊥ (λ told. (told.name ≡ name) × OnlyLooked told.deed)
 
 module _ {D : Type 0} (ghosts : Ghosts D) where
   -- no lane of a set had forgotten what was just written to it, by the letters of a write; drives of a type of which each tells never do
@@ -77,13 +75,23 @@ module _ {D : Type 0} (ghosts : Ghosts D) where
       × (set.drives + data_drives set.drives set.parity ≤ count_in disks set.drives + write_drives set.drives set.parity)
   AreEnough set lanes disks marked NoMemory = ⊥
 
-  -- a section of a slot whose lanes stand and whose data holds isn't refused for a fault of a quorum against which enough lanes and data drives serve
-  abbrev pub SectionComplete : Type 0
-  SectionComplete = (was now : SlotSeen D) (note : Note) (shown : Shown) (claim later : Claim) (old new : List DriveView) (records : Records) (state : State)
-      (unseen : Disks) (claims : List Claim) (lanes disks : ℕ) (fault : QuorumFault)
-      → TurnMoves ghosts was now (Some note) shown claim later old new
-      → LanesStand ghosts.tells ghosts.files was records state → DataHolds was.numbers was.holding unseen old claims records state
-      → IsOfCall was.holding claim note.entry
-      → DrivesServe (IsNameOf note.entry) was.numbers.set.out lanes (views ghosts was.lanes) (views ghosts now.lanes)
-      → DrivesServe IsManifestName was.numbers.set.out disks old new
-      → AreEnough was.numbers.set lanes disks (IsMarkedOn lanes records state note.entry) fault → note.refusal ≡ refusal_by (Quorum fault) → ⊥
+  -- a section of a slot whose lanes stand isn't refused for a fault of a quorum
+  pub record SectionComplete (note : Note) (was now : SlotSeen D) (claim : Claim) (old new : List DriveView) : Type 0 where
+    -- against which enough lanes and data drives serve, where the slot's data holds
+    pub enough : (records : Records) (state : State) (unseen : Disks) (claims : List Claim) (lanes disks : ℕ) (fault : QuorumFault)
+        → LanesStand ghosts.tells ghosts.files was records state → DataHolds was.numbers was.holding unseen old claims records state
+        → IsOfNoPart note.entry
+        → DrivesServe (IsNameOf note.entry) was.numbers.set.out lanes (views ghosts was.lanes) (views ghosts now.lanes)
+        → DrivesServe IsManifestName was.numbers.set.out disks old new
+        → AreEnough was.numbers.set lanes disks (IsMarkedOn lanes records state note.entry) fault → note.refusal ≡ refusal_by (Quorum fault) → ⊥
+    -- that only looked at a calm register, of which as many lanes serve as a stripe has data blocks
+    pub calm : (records : Records) (state : State) (name : List ℕ) (lanes : ℕ) (fault : QuorumFault)
+        → LanesStand ghosts.tells ghosts.files was records state → IsRegisterName name → IsCalmUnder (quorum_of was.numbers) records state name
+        → HasLooked note.entry name
+        → DrivesServe (IsNameOf note.entry) was.numbers.set.out lanes (views ghosts was.lanes) (views ghosts now.lanes)
+        → data_drives was.numbers.set.drives was.numbers.set.parity ≤ count_in lanes was.numbers.set.drives
+        → fault ≢ NoMemory → note.refusal ≡ refusal_by (Quorum fault) → ⊥
+
+  -- so no section is that has a note
+  abbrev pub TurnComplete : Option Note → SlotSeen D → SlotSeen D → Claim → List DriveView → List DriveView → Type 0
+  TurnComplete note was now claim old new = MatchOption note (Unit {0}) (λ made. SectionComplete made was now claim old new)

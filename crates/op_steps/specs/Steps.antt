@@ -2,10 +2,11 @@
 use Rattle.std.specs.Prelude.{◌≡◌, ℕ, ◌<◌, List, [], ◌∷◌, length, slice_index_or, slice_set, Option}
 use Rattle.call_types.specs.declared.feed.Cut.{Cut}
 use Rattle.desk_base.specs.Telling.{Effect, Telling}
+use Rattle.drive_base.specs.Calls.{MadeCall}
 use Rattle.drive_base.specs.declared.drive.Drive.{Ghosts}
 use Rattle.drive_base.specs.View.{DriveView}
 use Rattle.drive_base.specs.declared.plan.SetPlan.{SetPlan}
-use Rattle.receipts.specs.Events.{Event, Log, Note, Seen, Shown}
+use Rattle.receipts.specs.Events.{Event, Log, Note, Shown}
 use Rattle.receipts.specs.Events.Event.{BarredFrom, Called, Fed, Told, Turned}
 use Rattle.receipts.specs.declared.barred.Barred.{Barred}
 use Rattle.op_steps.specs.Moves.{BarCause, CallMoves, FeedMoves, TellMoves, TurnMoves}
@@ -33,8 +34,8 @@ pub record IsBarred {D T : Type 0} (k : ℕ) (why : Barred) (old new : Store D T
   pub leaves : new ≡ old
 
 -- one call of a data drive
-pub record Calls {D T : Type 0} (set : SetPlan) (k : ℕ) (seen : Seen) (old new : Store D T) : Type 0 where
-  pub moves : CallMoves set k seen old.claim new.claim old.disks new.disks
+pub record Calls {D T : Type 0} (set : SetPlan) (k : ℕ) (made : MadeCall) (old new : Store D T) : Type 0 where
+  pub moves : CallMoves set k made old.claim new.claim old.disks new.disks
   pub leaves : new ≡ store_of old.slots new.disks new.claim old.feed old.teller
 
 -- bytes taken of the body, and a telling
@@ -51,7 +52,7 @@ module _ {D T : Type 0} (ghosts : Ghosts D) (takes breaks : Effect T) (set : Set
   abbrev pub StepMoves : Event → Store D T → Store D T → Type 0
   StepMoves (Turned k note shown) old new = Turns ghosts k note shown old new
   StepMoves (BarredFrom k why) old new = IsBarred k why old new
-  StepMoves (Called k seen) old new = Calls set k seen old new
+  StepMoves (Called k made) old new = Calls set k made old new
   StepMoves (Fed bytes cut) old new = Feeds bytes cut old new
   StepMoves (Told telling cut) old new = TellsOne takes breaks telling cut old new
 

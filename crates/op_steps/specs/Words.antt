@@ -2,11 +2,12 @@
 use Rattle.std.specs.Prelude.{◌≡◌, ◌⊎◌, ℕ, ◌<◌, List, [], ◌∷◌, ◌++◌, Contains, slice_set, Option}
 use Rattle.call_types.specs.declared.feed.Cut.{Cut}
 use Rattle.desk_base.specs.Telling.{Effect, Telling}
+use Rattle.drive_base.specs.Calls.{MadeCall}
 use Rattle.drive_base.specs.declared.drive.Drive.{Ghosts}
 use Rattle.drive_base.specs.View.{DriveView}
 use Rattle.drive_base.specs.declared.plan.SetPlan.{SetPlan}
 use Rattle.slot_core.specs.declared.stub.Stub.{Stub}
-use Rattle.receipts.specs.Events.{Log, Seen, Shown}
+use Rattle.receipts.specs.Events.{Log, Shown}
 use Rattle.receipts.specs.Events.Event.{BarredFrom, Called, Fed, Told, Turned}
 use Rattle.receipts.specs.declared.barred.Barred.{Barred}
 use Rattle.op_steps.specs.Claims.{Claim, no_claim}
@@ -56,10 +57,14 @@ LetsGo claim log = (claim ≡ no_claim claim.slot) ⊎ ((claim.taken ≡ []) × 
 abbrev pub BarredSo : (Claim → Log → Type 0) → (Claim → Log → Type 0) → OpNext → Barred → Type 0
 BarredSo Old New next why = (claim : Claim) (log : Log) (k : ℕ) → next ≡ Section k → Old claim log → New claim (log ++ BarredFrom k why ∷ [])
 
--- one call of a data drive
+-- one call of a data drive adds its event to the log
+abbrev pub CallsOne : (Claim → Log → Type 0) → SetPlan → Claim → Log → List DriveView → List DriveView → Type 0
+CallsOne New set claim log old new = (later : Claim) × (k : ℕ) × (made : MadeCall) × New later (log ++ Called k made ∷ [])
+    × CallMoves set k made claim later old new
+
+-- so is the next step at data drives, or no call could be made, and then nothing was done
 abbrev pub CallsSo : (Claim → Log → Type 0) → (Claim → Log → Type 0) → SetPlan → List DriveView → List DriveView → Type 0
-CallsSo Old New set old new = (claim : Claim) (log : Log) → Old claim log
-    → (later : Claim) × (k : ℕ) × (seen : Seen) × New later (log ++ Called k seen ∷ []) × CallMoves set k seen claim later old new
+CallsSo Old New set old new = (claim : Claim) (log : Log) → Old claim log → CallsOne New set claim log old new ⊎ (New claim log × (new ≡ old))
 
 -- bytes taken of the body
 abbrev pub FeedsSo : (Claim → Log → Type 0) → (Claim → Log → Type 0) → FeedSeen → FeedSeen → Type 0

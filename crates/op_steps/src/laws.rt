@@ -4,6 +4,8 @@ ghost use Rattle.std.specs.Global.{Global};
 ghost use Rattle.op_steps.specs.Committing.{CommitIsTurn};
 ghost use Rattle.drive_base.specs.declared.plan.SetPlan.{SetPlan};
 ghost use Rattle.op_steps.specs.Calling.{CallsKeep};
+ghost use Rattle.op_steps.specs.ChangeLetters.{HealthyLanesKeep};
+ghost use Rattle.op_steps.specs.CalmRegisters.{CalmReadsGoOn};
 ghost use Rattle.op_steps.specs.Getting.{GetsGoOn, GetsLackNothing};
 ghost use Rattle.op_steps.specs.Holding.{CallKeepsData};
 ghost use Rattle.op_steps.specs.Laws.{EachStepKeepsData, RanKeepsFiles, RanKeepsHistory};
@@ -11,15 +13,15 @@ ghost use Rattle.op_steps.specs.Leading.{ShowingJoins, ShowingParts, ShowingRuns
 ghost use Rattle.op_steps.specs.Looking.{LookIsTurn, ReadIsCall};
 ghost use Rattle.op_steps.specs.Naming.{NamesIsTurn};
 ghost use Rattle.op_steps.specs.LiveFiles.{LiveFilesStay, NamedFilesStay};
-ghost use Rattle.op_steps.specs.Refusing.{BarsHaveCauses, CallsWereSo, EventsTookPlace, RefusalsHaveCauses};
+ghost use Rattle.op_steps.specs.OwnFiles.{OwnCallsKeepOthers, OwnCallsLoseOwnFiles};
+ghost use Rattle.op_steps.specs.Refusing.{BarsHaveCauses, CallsWereMade, CallsWereSo, EventsTookPlace, RefusalsHaveCauses};
 ghost use Rattle.op_steps.specs.Requests.{CallsComplete, RequestComplete};
-ghost use Rattle.op_steps.specs.Serving.{SectionComplete};
 ghost use Rattle.op_steps.specs.Store.{any_effect};
+ghost use Rattle.op_steps.specs.Trails.{LogsAreTrails};
 
 use desk_base::Teller;
 use drive_base::Drive;
 use manifest_file::manifest_laws;
-use register_core::lane_laws;
 
 /// Over any log of steps each slot's audit has got exactly its entries, and what its lanes stand for runs by them, with what their sections showed. It does
 /// nothing.
@@ -32,12 +34,13 @@ pub fn data_law<D: Drive, T: Teller>()
     ensures { EachStepKeepsData D.Drive T.takes T.breaks }
 {}
 
-/// Over a whole call of which only the faults of the teller are seen each slot's audit has got exactly its entries, by which what its lanes stand for runs; data
-/// drives that tell keep what is no data; and the data of every slot goes on to hold, with what the entries lead to, and with what the call leaves in hand. It
-/// does nothing.
+/// Over a whole call of which only the faults of the teller are seen each slot's audit has got exactly its entries, by which what its lanes stand for runs;
+/// data drives that tell keep what is no data; of each data drive, whatever it tells, just the calls of the log were made, and readings by sections; and the
+/// data of every slot goes on to hold, with what the entries lead to, and with what the call leaves in hand. It does nothing.
 pub fn call_law<D: Drive>()
     ensures history { RanKeepsHistory D.Drive any_effect any_effect }
     ensures files { RanKeepsFiles D.Drive any_effect any_effect }
+    ensures trails { LogsAreTrails D.Drive any_effect any_effect }
     ensures data { CallKeepsData D.Drive any_effect any_effect }
 {}
 
@@ -73,12 +76,20 @@ pub fn read_law()
     ensures { ReadIsCall }
 {}
 
-/// In the log of a call of which only the faults of the teller are seen each event took place as a step between two stores through which the log leads, and there
-/// has its cause: each section that was refused, each that could not be done, and what each call of a data drive gave. It does nothing.
+/// A call that an op may make leaves a drive that tells what is no data, and of data all but files that the op took, or of its own put. It does nothing.
+pub fn own_files_law()
+    ensures others { OwnCallsKeepOthers }
+    ensures own { OwnCallsLoseOwnFiles }
+{}
+
+/// In the log of a call of which only the faults of the teller are seen each event took place as a step between two stores through which the log leads, and
+/// there has its cause: each section that was refused and each that could not be done. Each call of a data drive was made there, and what it told was so. It
+/// does nothing.
 pub fn cause_law<D: Drive>()
     ensures took_place { EventsTookPlace D.Drive any_effect any_effect }
     ensures refused { RefusalsHaveCauses D.Drive any_effect any_effect }
     ensures barred { BarsHaveCauses D.Drive any_effect any_effect }
+    ensures made { CallsWereMade D.Drive any_effect any_effect }
     ensures called { CallsWereSo D.Drive any_effect any_effect }
 {}
 
@@ -88,13 +99,16 @@ pub fn live_law<D: Drive, T: Teller>()
     ensures named { NamedFilesStay D.Drive T.takes T.breaks }
 {}
 
-/// Where enough lanes and data drives serve, a section of a slot whose lanes stand and whose data holds isn't refused for a fault of a quorum. It does nothing.
-pub fn complete_law<D: Drive>()
-    ensures { SectionComplete D.Drive }
-{
-    lane_laws();
-    manifest_laws();
-}
+/// Where a section made a change, each lane that is in use, tells and had no fault in it keeps the change as its base. It does nothing.
+pub fn lanes_law<D: Drive>()
+    ensures { HealthyLanesKeep D.Drive }
+{}
+
+/// In the log of a call a section that only looks at a register isn't refused for a fault of a quorum where the entries before it left the register calm, and as
+/// many of its lanes serve as a stripe has data blocks. It does nothing.
+pub fn calm_law<D: Drive, T: Teller>()
+    ensures { CalmReadsGoOn D.Drive T.takes T.breaks }
+{}
 
 /// Over the log of a call on a store that holds, where enough lanes and data drives serve in a section, it isn't refused so; none in the call's own slot is
 /// refused for a put that isn't listed; where enough data drives have no fault over the log, not too few took its body; and where enough of them serve in each of
@@ -102,7 +116,6 @@ pub fn complete_law<D: Drive>()
 pub fn request_law<D: Drive, T: Teller>()
     ensures { RequestComplete D.Drive T.takes T.breaks }
 {
-    lane_laws();
     manifest_laws();
 }
 
@@ -110,7 +123,6 @@ pub fn request_law<D: Drive, T: Teller>()
 pub fn requests_law<D: Drive>()
     ensures { (set : SetPlan) → CallsComplete D.Drive set }
 {
-    lane_laws();
     manifest_laws();
 }
 

@@ -6,9 +6,9 @@
 //! data (`specs/Claims.antt`); each step is said over whatever other ops claim, so ops need to know nothing of one another.
 //!
 //! [`run_op`] does the steps of any op over 64 slots and the data drives, and [`call_op`] serves a call by it. The laws say of any log of steps that the
-//! histories of the slots run by its entries, that each step keeps the data of every slot, and that where enough lanes and data drives serve no section and no
-//! read is refused for want of them. The crate stands on `receipts` for what is owed, on `slot_core`, `slot_history` and `slot_data` for slots and their data, on
-//! `put_stage` for the names of an id's files, and on `desk_base` for calls and tellers.
+//! histories of the slots run by its entries, that each data drive was called as the log says, that each step keeps the data of every slot, and that where
+//! enough lanes and data drives serve no section and no read is refused for want of them. The crate stands on `receipts` for what is owed, on `slot_core`,
+//! `slot_history` and `slot_data` for slots and their data, on `put_stage` for the names of an id's files, and on `desk_base` for calls and tellers.
 #![tactic(auto)]
 
 mod laws;
@@ -20,8 +20,9 @@ mod run;
 mod turning;
 
 pub use laws::{
-    call_law, calls_law, cause_law, commit_law, complete_law, data_law, get_law, history_law,
-    live_law, look_law, names_law, read_law, request_law, requests_law, showing_laws,
+    call_law, calls_law, calm_law, cause_law, commit_law, data_law, get_law, history_law,
+    lanes_law, live_law, look_law, names_law, own_files_law, read_law, request_law, requests_law,
+    showing_laws,
 };
 pub use looking::{Look, Looked, look_at_bucket};
 pub use next::OpNext;

@@ -86,7 +86,7 @@ pub trait Op {
         ensures taken { taken self.new ≡ taken self.old }
         ensures barred { BarredSo (stands self.old) (stands self.new) (step self.old) why };
 
-    /// Makes the one call of a data drive that is due, where one is.
+    /// Makes the one call of a data drive that is due, or for want of memory none.
     fn data<D: Drive>(&mut self, alloc: Global, disks: &mut [D])
         requires disks { length disks.old ≡ (set self.old).drives }
         ensures set { set self.new ≡ set self.old }

@@ -5,7 +5,7 @@ ghost use Rattle.drive_base.specs.View.{views};
 ghost use Rattle.receipts.specs.Events.{Log};
 ghost use Rattle.receipts.specs.Paying.{Pays};
 ghost use Rattle.op_steps.specs.Claims.{Claim, no_claim};
-ghost use Rattle.op_steps.specs.Going.{CallDone, IsFeedAt, RanSo, StepsSo};
+ghost use Rattle.op_steps.specs.Going.{CallDone, IsFeedAt, RanSo};
 ghost use Rattle.op_steps.specs.Store.{AreInOrder, slots_seen, store_of, teller_of};
 ghost use Rattle.op_steps.specs.Words.{LetsGo};
 ghost use Rattle.op_steps.specs.declared.next.OpNext.TheVariants.{Done};
@@ -38,7 +38,7 @@ fn take_step<O: Op, D: Drive, A: Audit, F: Feed, T: Teller>(
     ensures left { O.left op.new < O.left op.old }
     ensures order { AreInOrder (O.set op.old) (slots_seen A.entries A.count slots.new) (views D.Drive disks.new) }
     ensures feed { IsFeedAt (O.task op.old) (O.taken op.new) (F.seen feed.new) }
-    ensures steps { StepsSo D.Drive T.takes T.breaks (O.stands op.old) (O.stands op.new) (O.set op.old)
+    ensures steps { RanSo D.Drive T.takes T.breaks (O.stands op.old) (O.stands op.new) (O.set op.old)
         (λ claim. store_of (slots_seen A.entries A.count slots.old) (views D.Drive disks.old) claim
         (record { view = F.seen feed.old; faults = F.faults feed.old }) (teller_of teller.old (T.faults teller.old)))
         (λ claim. store_of (slots_seen A.entries A.count slots.new) (views D.Drive disks.new) claim

@@ -3,5 +3,9 @@ use Rattle.object_ops.proofs.CallLemmas.{removed_so}
 use Rattle.object_ops.proofs.removing.remove_file.Goals as goal
 
 pub returns : goal.returns
-returns g c = removed_so c.args.name.now c.remove.result (view g.D.Drive c.args.drive.now) (view g.D.Drive c.remove.new.self) c.remove.ensures.tells
-    c.remove.ensures.count c.remove.ensures.files
+returns g c = removed_so c.args.name.now c.remove.result (view g.D.Drive c.args.drive.now) (view g.D.Drive c.remove.new.self) (record {
+  files = c.remove.ensures.files;
+  tells = c.remove.ensures.tells;
+  count = c.remove.ensures.count;
+  trail = c.remove.ensures.trail;
+})

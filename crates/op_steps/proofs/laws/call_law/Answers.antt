@@ -2,6 +2,7 @@ use Rattle.op_steps.proofs.FileLemmas.{files_keep}
 use Rattle.op_steps.proofs.HoldingLemmas.{call_keeps}
 use Rattle.op_steps.proofs.StepDataLemmas.{step_data}
 use Rattle.op_steps.proofs.StepLemmas.{history_runs}
+use Rattle.op_steps.proofs.TrailLemmas.{logs_are_trails}
 use Rattle.op_steps.specs.Store.{any_effect}
 use Rattle.op_steps.proofs.laws.call_law.Goals as goal
 
@@ -10,6 +11,9 @@ returns-clause-history g c = history_runs g.D.Drive any_effect any_effect
 
 pub returns-clause-files : goal.returns-clause-files
 returns-clause-files g c = files_keep g.D.Drive any_effect any_effect
+
+pub returns-clause-trails : goal.returns-clause-trails
+returns-clause-trails g c = logs_are_trails g.D.Drive any_effect any_effect
 
 pub returns-clause-data : goal.returns-clause-data
 returns-clause-data g c = call_keeps g.D.Drive any_effect any_effect (step_data g.D.Drive any_effect any_effect)

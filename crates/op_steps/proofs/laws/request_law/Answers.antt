@@ -1,7 +1,6 @@
 use Rattle.op_steps.proofs.CompleteLemmas.{request_complete}
-use Rattle.op_steps.proofs.SectionLemmas.{section_complete}
 use Rattle.op_steps.proofs.laws.request_law.Goals as goal
 
 pub returns : goal.returns
 returns g c = request_complete g.D.Drive g.T.Teller.takes g.T.Teller.breaks
-    (section_complete g.D.Drive c.lane_laws.ensures.read c.manifest_laws.ensures.lengths) c.manifest_laws.ensures.lengths
+    c.manifest_laws.ensures.lengths

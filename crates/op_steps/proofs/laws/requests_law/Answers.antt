@@ -1,7 +1,5 @@
 use Rattle.op_steps.proofs.CompleteLemmas.{calls_complete}
-use Rattle.op_steps.proofs.SectionLemmas.{section_complete}
 use Rattle.op_steps.proofs.laws.requests_law.Goals as goal
 
 pub returns : goal.returns
-returns g c set = calls_complete g.D.Drive (section_complete g.D.Drive c.lane_laws.ensures.read c.manifest_laws.ensures.lengths)
-    c.manifest_laws.ensures.lengths set
+returns g c set = calls_complete g.D.Drive c.manifest_laws.ensures.lengths set

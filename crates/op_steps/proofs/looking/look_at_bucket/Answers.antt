@@ -14,6 +14,6 @@ returns-clause-looks g c =
       holds = peek.holds;
       cause = peek.cause;
       leaves = peek.leaves;
-      read = record { long = c.peek-turn.auto.disks; files = peek.disk_files; tells = peek.disk_tells; counts = peek.disk_counts };
+      read = peek.disks_read;
     })
     c.looked_of-looked.ensures

@@ -1,4 +1,4 @@
-use Rattle.std.proofs.Common.{◌<◌, ◌∙◌, ◌++◌, ℕ, [], ap, inl, refl, subst, sym, arith}
+use Rattle.std.proofs.Common.{◌<◌, ◌∙◌, ◌++◌, [], ap, inl, refl, subst, sym, arith}
 use Rattle.receipts.specs.Events.{notes_of}
 use Rattle.receipts.specs.Paying.{Pays}
 use Rattle.op_steps.specs.Claims.{no_claim}

@@ -1,6 +1,6 @@
 use Rattle.std.proofs.Common.{rules, ◌≡◌, ◌∙◌, refl, subst, subst₂}
 use Rattle.drive_base.specs.View.{views}
-use Rattle.op_steps.specs.Going.{IsFeedAt, StepsSo}
+use Rattle.op_steps.specs.Going.{IsFeedAt, RanSo}
 use Rattle.op_steps.specs.Store.{AreInOrder, slots_seen, store_of, teller_of}
 use Rattle.receipts.specs.Paying.{Pays}
 use Rattle.op_steps.specs.declared.next.OpNext.TheVariants.{Done}
@@ -31,7 +31,7 @@ loop-alloc-preserved g c =
       feed = subst (λ task. IsFeedAt task (g.O.Op.taken c.take_step.new.op) (g.F.Feed.seen c.take_step.new.feed)) kept.task step.feed;
       ran = so_more g.D.Drive g.T.Teller.takes g.T.Teller.breaks (g.O.Op.set c.args.op.now) (g.O.Op.stands c.args.op.now) (g.O.Op.stands c.loop-alloc.op)
           (g.O.Op.stands c.take_step.new.op) _ _ _ c.args.stubs.now.items c.loop-alloc.stubs.items c.take_step.new.stubs.items kept.ran
-          (subst (λ set. StepsSo g.D.Drive g.T.Teller.takes g.T.Teller.breaks (g.O.Op.stands c.loop-alloc.op) (g.O.Op.stands c.take_step.new.op) set
+          (subst (λ set. RanSo g.D.Drive g.T.Teller.takes g.T.Teller.breaks (g.O.Op.stands c.loop-alloc.op) (g.O.Op.stands c.take_step.new.op) set
           (λ claim. store_of (slots_seen g.A.Audit.entries g.A.Audit.count c.loop-alloc.slots) (views g.D.Drive c.loop-alloc.disks) claim
           (record { view = g.F.Feed.seen c.loop-alloc.feed; faults = g.F.Feed.faults c.loop-alloc.feed })
           (teller_of c.loop-alloc.teller (g.T.Teller.faults c.loop-alloc.teller)))

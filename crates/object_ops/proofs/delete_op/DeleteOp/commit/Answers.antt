@@ -21,7 +21,7 @@ returns-clause-turns g c =
       checks = commit.checks;
       cause = commit.cause;
       leaves = commit.leaves fits;
-      read = record { long = c.commit-turn.auto.disks; files = commit.disk_files; tells = commit.disk_tells; counts = commit.disk_counts };
+      read = commit.disks_read;
     })
     commit.cause c.after_commit.ensures
 

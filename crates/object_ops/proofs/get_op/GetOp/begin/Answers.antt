@@ -26,7 +26,7 @@ returns-clause-turns g c =
       holds = read.holds;
       cause = read.cause;
       leaves = read.leaves;
-      read = record { long = c.begin_read-turn.auto.disks; files = read.disk_files; tells = read.disk_tells; counts = read.disk_counts };
+      read = read.disks_read;
     })
     read.says
     (due_by D.tells D.files D.count (numbers_of c.args.slot.now) (numbers_of c.begin_read-turn.new.self) op.at c.args.mode op.pick turn.answer (completed_by turn.stub)

@@ -25,4 +25,4 @@ returns-in-Some-clause-calls g c =
     let step = c.step-stepped in
     rw (c.go_to.ensures, c.put_in.ensures) (fetch_as op.set op.at op.pick op.ask op.matches op.now g.D.Drive c.in-Some.reading step.new.self step.result op.state c.fetched_state.result op.pin op.reading
     c.args.disks.now step.new.disks c.requires.state (sym c.reading_out.ensures.out ∙ c.in-Some.is) c.fetched_state.ensures step.ensures.stays step.ensures.steps
-    step.ensures.read c.requires.disks step.auto.disks)
+    step.auto.disks)

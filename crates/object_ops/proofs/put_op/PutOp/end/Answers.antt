@@ -47,7 +47,7 @@ returns-in-Commits-clause-turns g c =
       holds = commit.holds;
       checks = commit.checks;
       leaves = commit.leaves;
-      read = record { long = turn.auto.disks; files = commit.disk_files; tells = commit.disk_tells; counts = commit.disk_counts };
+      read = commit.disks_read;
       cause = commit.cause;
     })
     c.put_committed.ensures)

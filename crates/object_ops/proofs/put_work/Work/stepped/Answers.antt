@@ -12,8 +12,8 @@ returns-clause-steps g c =
     record {
       mode_is = c.new.ensures.mode_is;
       flight_is = c.new.ensures.flight_is;
-      once = subst (λ s. StepsOnce D.tells D.files D.count was s c.args.disks.now c.step.new.drives) same c.step.ensures.once;
-      works = subst (λ s. StepWorks D.tells D.files was s c.args.disks.now c.step.new.drives) same c.step.ensures.works;
+      once = subst (λ s. StepsOnce D was s c.args.disks.now c.step.new.drives) same c.step.ensures.once;
+      works = subst (λ s. StepWorks D was s c.args.disks.now c.step.new.drives) same c.step.ensures.works;
       load = subst (λ s. s.load ≡ was.load) same c.step.ensures.load;
       tells = c.step.ensures.tells;
       counts = c.step.ensures.counts;

@@ -1,0 +1,50 @@
+-- The calls of a data drive in a log are the calls that were made of it.
+use Rattle.std.proofs.Common.{◌≡◌, ℕ, List, [], ◌∷◌, cond, length, inl, inr, ap, subst, sym}
+use Rattle.std.proofs.lemmas.Bool.{cases_lt}
+use Rattle.std.proofs.lemmas.Bool.Decides.{eqb_tells}
+use Rattle.desk_base.specs.Telling.{Effect}
+use Rattle.drive_base.specs.Calls.{MadeCall}
+use Rattle.drive_base.specs.Trail.{GrewByReadings}
+use Rattle.drive_base.specs.View.{AllOnlyRead, DriveView, view_at}
+use Rattle.drive_base.specs.declared.drive.Drive.{Ghosts}
+use Rattle.drive_base.specs.declared.plan.SetPlan.{SetPlan}
+use Rattle.receipts.specs.Events.{Event}
+use Rattle.receipts.specs.Events.Event.{BarredFrom, Called, Fed, Told, Turned}
+use Rattle.op_steps.specs.Steps.{Calls, StepMoves}
+use Rattle.op_steps.specs.Store.{Store}
+use Rattle.op_steps.specs.Trails.{AddsCalls, LogsAreTrails}
+use Rattle.op_steps.proofs.FileLemmas.{past_same}
+
+-- what was done to drives that were only read is readings
+pub read_trail : (old new : List DriveView) (k : ℕ) → AllOnlyRead old new → GrewByReadings (view_at old k).trail (view_at new k).trail
+read_trail old new k read = elim (cases_lt k (length old)) [
+  | inl inside ↦ (read.each k inside).trail
+  | inr past ↦ record { more = []; readings = tt; grown = ap (λ (v : DriveView). v.trail) (past_same old new k read.long past) }
+]
+
+module _ {D T : Type 0} (ghosts : Ghosts D) (takes breaks : Effect T) where
+  -- a call of one drive is added to the trail of that drive
+  called_adds : (set : SetPlan) (j : ℕ) (made : MadeCall) (old new : Store D T) → Calls set j made old new → (k : ℕ)
+      → AddsCalls k (Called j made) (view_at old.disks k).trail (view_at new.disks k).trail
+  called_adds set j made old new x k = elim (eqb_tells j k) [
+    | inl own ↦ subst (λ b. (view_at new.disks k).trail ≡ cond b (made.call ∷ (view_at old.disks k).trail) (view_at old.disks k).trail) (sym own.0)
+        (subst (λ (i : ℕ). (view_at new.disks i).trail ≡ made.call ∷ (view_at old.disks i).trail) own.1 x.moves.was_made.model.trail)
+    | inr other ↦ subst (λ b. (view_at new.disks k).trail ≡ cond b (made.call ∷ (view_at old.disks k).trail) (view_at old.disks k).trail) (sym other.0)
+        (ap (λ (v : DriveView). v.trail) (x.moves.others k (λ same. other.1 (sym same))))
+  ]
+
+  -- one step
+  pub step_adds : (set : SetPlan) (event : Event) (old new : Store D T) → StepMoves ghosts takes breaks set event old new → (k : ℕ)
+      → AddsCalls k event (view_at old.disks k).trail (view_at new.disks k).trail
+  step_adds set (Turned j made shown) old new x k =
+      subst (λ (s : Store D T). GrewByReadings (view_at old.disks k).trail (view_at s.disks k).trail) (sym x.leaves) (read_trail old.disks x.disks k x.moves.read)
+  step_adds set (BarredFrom j why) old new x k = ap (λ (s : Store D T). (view_at s.disks k).trail) x.leaves
+  step_adds set (Called j made) old new x k = called_adds set j made old new x k
+  step_adds set (Fed bytes cut) old new x k = ap (λ (s : Store D T). (view_at s.disks k).trail) x.leaves
+  step_adds set (Told telling cut) old new x k = ap (λ (s : Store D T). (view_at s.disks k).trail) x.leaves
+
+  -- and a log
+  pub logs_are_trails : LogsAreTrails ghosts takes breaks
+  logs_are_trails set [] old new same k = ap (λ (s : Store D T). (view_at s.disks k).trail) same
+  logs_are_trails set (event ∷ log) old new (mid, step, ran) k =
+      ((view_at mid.disks k).trail, step_adds set event old mid step k, logs_are_trails set log mid new ran k)

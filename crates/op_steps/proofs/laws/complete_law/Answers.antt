@@ -1,5 +1,0 @@
-use Rattle.op_steps.proofs.SectionLemmas.{section_complete}
-use Rattle.op_steps.proofs.laws.complete_law.Goals as goal
-
-pub returns : goal.returns
-returns g c = section_complete g.D.Drive c.lane_laws.ensures.read c.manifest_laws.ensures.lengths
