@@ -6,6 +6,7 @@ mod FitsLemmas
 mod FreshLemmas
 mod HadLemmas
 mod LifeLemmas
+mod LogLemmas
 mod MadeLemmas
 mod OpenLemmas
 mod PassPartLemmas
@@ -24,6 +25,8 @@ mod SessionLemmas
 mod SharingLemmas
 mod ShutLemmas
 mod SurveyLemmas
+mod TrailLemmas
 mod WayLemmas
 mod WaySendLemmas
+mod WorkedLemmas
 mod WorkerLemmas

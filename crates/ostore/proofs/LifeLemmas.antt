@@ -23,7 +23,7 @@ use Rattle.store_shared.specs.Opening.{AreOpened, with_out}
 use Rattle.store_shared.specs.Passes.{disks_of, set_of, slots_of}
 use Rattle.store_shared.specs.declared.opened.StoreParts.{StoreParts}
 use Rattle.ostore.specs.Lives.{LivesAreComplete, LivesGoOn}
-use Rattle.ostore.specs.Logs.{session_logs}
+use Rattle.ostore.specs.Logs.{pipe_logs}
 use Rattle.ostore.specs.Rigs.{AreClosed}
 use Rattle.ostore.proofs.PlaceLemmas.{closed_at, closed_count, opened_at, seen_at, some_of}
 
@@ -105,7 +105,7 @@ module _ {D A : Type 0} (ghosts : Ghosts D) (entries : A → Option (List Entry)
       let set = rig.set in
       let out = run.opens.opened.out in
       let term = run.opens.opened.term in
-      let logs = session_logs ghosts entries count clock opened stop end wires wires_after run.session in
+      let logs = pipe_logs ghosts entries count clock opened stop end wires wires_after run.session in
       let first = slots_seen entries count (slots_of opened) in
       let last = slots_seen entries count (slots_of stop) in
       let before = views ghosts (disks_of opened) in
@@ -144,5 +144,5 @@ module _ {D A : Type 0} (ghosts : Ghosts D) (entries : A → Option (List Entry)
       let stop = run.stop in
       let before = views ghosts (disks_of opened) in
       let open_holds = opens rig.set used lost unseen at run.parts opened run.opens holds serve in
-      complete (set_of opened) (session_logs ghosts entries count clock opened stop end wires wires_after run.session) (slots_seen entries count (slots_of opened))
+      complete (set_of opened) (pipe_logs ghosts entries count clock opened stop end wires wires_after run.session) (slots_seen entries count (slots_of opened))
       before (slots_seen entries count (slots_of stop)) (views ghosts (disks_of stop)) (counted unseen lost before) [] at (passes opened) open_holds.holds run.calls

@@ -157,6 +157,7 @@ module _ {M R X : Type 0} (answers : Task → M → M → List ℕ → List Tell
             out = session.out;
             moved = session.moved;
             ends = e;
+            counts = session.counts;
           })
           (made_run 0 old session.exchanges session.stop session.run)
           (made_end end (length session.exchanges) session.stop new session.taken session.out before after session.ends)

@@ -93,10 +93,10 @@ module _ {D A O S T C Root : Type 0} (ghosts : Ghosts D) (root : D → Root) (en
       (λ since. sym (parts_are k inside worker.pass) ∙ (ap (λ (h : SharedHolds D A). parts_at h k) since.holds_still ∙ (parts_are k inside worker.began.pass ∙ one)))
 
   -- once doors were served all parts are together again
-  pub all_parts : (first whole : SharedPass D A) (doors doors_after : List O) (status faults faults_after : ℕ)
-      → DoorsServed ghosts root entries count door source sink moment desk clock first whole doors doors_after status faults faults_after
+  pub all_parts : (first whole : SharedPass D A) (doors doors_after : List O) (status starved faults faults_after : ℕ)
+      → DoorsServed ghosts root entries count door source sink moment desk clock first whole doors doors_after status starved faults faults_after
       → HasAllParts (shared_holds first) → HasAllParts (shared_holds whole)
-  all_parts first whole doors doors_after status faults faults_after (inl w) all k inside =
+  all_parts first whole doors doors_after status starved faults faults_after (inl w) all k inside =
       let dealt = dealt_parts k inside first (reverse (map pass_by w.posts)) w.rest w.dealt in
       let Began = λ (b : WorkBegan K C (SharedPass D A) O). HasOne k inside b.pass in
       let posts = all_of_map (HasOne k inside) pass_by w.posts (All-permutation (HasOne k inside) (reverse (map pass_by w.posts)) (map pass_by w.posts)
@@ -120,7 +120,7 @@ module _ {D A O S T C Root : Type 0} (ghosts : Ghosts D) (root : D → Root) (en
       let sum = dealt.0 in
       let full = sym (parts_are k inside first) ∙ all k inside in
       parts_are k inside whole ∙ omega (arith, mid, end, some, picked_some_, picked_rest, both, began_, one, two, three, four, sum, full)
-  all_parts first whole doors doors_after status faults faults_after (inr n) all k inside =
+  all_parts first whole doors doors_after status starved faults faults_after (inr n) all k inside =
       let dealt = dealt_parts k inside first n.passes n.rest n.dealt in
       let end = united_parts k inside n.rest n.passes whole n.united dealt.1 in
       let sum = dealt.0 in

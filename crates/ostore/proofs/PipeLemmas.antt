@@ -13,15 +13,17 @@ use Rattle.store_shared.proofs.HolderKeptLemmas.{kept_stays}
 use Rattle.store_shared.specs.Laws.{AnswersAreCalls, PassesAreInOrder}
 use Rattle.store_shared.specs.OpeningAll.{StoreIsOpen}
 use Rattle.store_shared.specs.Passes.{disks_of, set_of, slots_of}
+use Rattle.store_shared.specs.Trails.{PlainAnswersHaveTrails}
 use Rattle.store_shared.specs.declared.opened.StoreParts.{StoreParts}
 use Rattle.store_shared.specs.declared.pass.PlainPass.{PlainPass}
 use Rattle.term_gate.specs.Terms.{EachTells, IsKept}
 use Rattle.ostore.specs.History.{AllRan, ClosedSlotRan}
 use Rattle.ostore.specs.Laws.{ConnectionsPipe}
-use Rattle.ostore.specs.Logs.{session_logs}
+use Rattle.ostore.specs.Logs.{pipe_logs}
 use Rattle.ostore.specs.declared.rig.Rig.{Rig}
 use Rattle.ostore.proofs.PlaceLemmas.{all_ran}
 use Rattle.ostore.proofs.SessionLemmas.{calls_session}
+use Rattle.ostore.proofs.TrailLemmas.{session_trails}
 
 module _ {D A : Type 0} (ghosts : Ghosts D) (entries : A → Option (List Entry)) (count : A → ℕ) where
   -- the term of a life is kept over it
@@ -34,9 +36,9 @@ module _ {D A : Type 0} (ghosts : Ghosts D) (entries : A → Option (List Entry)
       kept_stays rig.set opens.opened.term mid later kept.long (λ k inside. kept.keeps k (tell k inside tt)) (opens.taken.fresh.kept told)
 
   pub connections_pipe : ((set : SetPlan) → CallsKeep ghosts set) → PassesAreInOrder ghosts entries count
-      → AnswersAreCalls ghosts entries count → ClosedSlotRan entries count ghosts.tells ghosts.files → ConnectionsPipe ghosts entries count
-  connections_pipe keeps passes answers law clock rig after end wires wires_after parts opened stop are opens session closed =
-      let logs = session_logs ghosts entries count clock opened stop end wires wires_after session in
+      → AnswersAreCalls ghosts entries count → PlainAnswersHaveTrails ghosts entries count → ClosedSlotRan entries count ghosts.tells ghosts.files → ConnectionsPipe ghosts entries count
+  connections_pipe keeps passes answers trails law clock rig after end wires wires_after parts opened stop are opens session closed =
+      let logs = pipe_logs ghosts entries count clock opened stop end wires wires_after session in
       let calls = calls_session ghosts entries count keeps passes answers clock opened stop end wires wires_after session in
       let first = slots_seen entries count (slots_of opened) in
       let last = slots_seen entries count (slots_of stop) in
@@ -55,6 +57,7 @@ module _ {D A : Type 0} (ghosts : Ghosts D) (entries : A → Option (List Entry)
         stop = stop;
         session = session;
         calls = calls.ran;
+        trails = session_trails ghosts entries count trails clock opened stop end wires wires_after session;
         closed = closed;
         history = subst (λ l. AllRan entries ghosts.tells ghosts.files (set_of opened) opens.opened.term (joined logs) l after.slots.items) are.slots ran;
         drives = kept.drives;

@@ -1,24 +1,21 @@
 -- A life of `serve`: in each slot the sections of all workers lead from the slot as it was opened to the slot as it was closed.
-use Rattle.std.proofs.Common.{◌≡◌, ◌∙◌, ◌<◌, ◌≤◌, ◌++◌, ◌+◌, ℕ, Bool, true, List, [], ◌∷◌, Option, Some, None, Result, All, Contains, map, length, slice_index_or, refl, sym, ap, subst, inl, inr, arith}
-use Rattle.std.proofs.Math.Logic.{∥∥₁_elim, ∥∥₁_map, ∥∥₁_prop}
+use Rattle.std.proofs.Common.{◌≡◌, ◌∙◌, ◌<◌, ◌≤◌, ◌++◌, ◌+◌, ℕ, Bool, true, List, [], ◌∷◌, Option, Some, None, All, map, length, slice_index_or, refl, sym, ap, subst, inl, inr, arith}
+use Rattle.std.proofs.Math.Logic.{∥∥₁_map}
 use Rattle.std.specs.Global.{Global}
 use Rattle.std.specs.List.{AllZip, flat_map}
 use Rattle.std.specs.Prelude.{Vec, IsPermutation, reverse}
-use Rattle.std.proofs.lemmas.List.{append-nil, append_assoc, get_or-map, get_or_default, length-map, map-append}
-use Rattle.std.proofs.lemmas.List.Elements.{All-append, All-head, All-map, All-nil, All-tail}
+use Rattle.std.proofs.lemmas.List.{get_or-map, get_or_default}
+use Rattle.std.proofs.lemmas.List.Elements.{All-map, All-nil}
 use Rattle.std.proofs.lemmas.List.Sorted.{All-permutation, IsPermutation-append_comm, IsPermutation-append_right, IsPermutation-refl, IsPermutation-reverse, IsPermutation-sym, IsPermutation-trans}
 use Rattle.std.proofs.lemmas.Option.{none-some, same_Some}
 use Rattle.audit_trail.specs.declared.entry.Entry.{Entry}
-use Rattle.call_types.specs.declared.feed.Cut.{Cut}
-use Rattle.desk_base.specs.Answering.{Task}
-use Rattle.desk_base.specs.Telling.{Telling}
 use Rattle.drive_base.specs.declared.drive.Drive.{Ghosts}
 use Rattle.drive_base.specs.declared.plan.SetPlan.{SetPlan}
 use Rattle.io_base.specs.Works.{picked}
 use Rattle.io_base.specs.declared.door.Door.{Ghosts as DoorGhosts}
 use Rattle.io_base.specs.declared.sink.Sink.{Ghosts as SinkGhosts}
 use Rattle.io_base.specs.declared.source.Source.{Ghosts as SourceGhosts}
-use Rattle.serve_loop.specs.Doors.{ServedSince, WorkBegan}
+use Rattle.serve_loop.specs.Doors.{WorkBegan}
 use Rattle.slot_core.specs.Opening.{IsOpened}
 use Rattle.slot_core.specs.Views.{SlotNumbers, numbers_of}
 use Rattle.slot_core.specs.declared.slot.Slot.{Slot}
@@ -30,123 +27,35 @@ use Rattle.turn_lock.specs.Passes.{made_with}
 use Rattle.turn_lock.specs.Tickets.{last_ticket}
 use Rattle.turn_lock.specs.declared.lock.TurnLock.{TurnLock}
 use Rattle.turn_lock.specs.declared.pass.Pass.{Pass}
-use Rattle.turn_lock.specs.declared.view.Turn.{Turn}
 use Rattle.store_shared.specs.Among.{seen_in}
 use Rattle.store_shared.specs.Opening.{AreOpened}
 use Rattle.store_shared.specs.Parting.{HasAllParts, IsApart, IsClosedAt, IsMade}
 use Rattle.store_shared.specs.Passes.{set_of, slots_of}
-use Rattle.store_shared.specs.Sections.{AnswersAmong, AnswersHaveSections, IsSection, SectionsLead, SlotLed, TurnedSection, turn_by, turns_by}
-use Rattle.store_shared.specs.SharedAnswers.{SharedAnswers}
-use Rattle.store_shared.specs.SharedLaws.{TurnsRise}
-use Rattle.store_shared.specs.SharedPasses.{locks_of, pass_at, shared_holds}
+use Rattle.store_shared.specs.Sections.{AnswersHaveSections, IsSection, SectionsLead, SlotLed}
+use Rattle.store_shared.specs.SharedPasses.{drives_of, locks_of, pass_at, shared_holds}
+use Rattle.store_shared.specs.Trails.{SharedAnswersHaveTrails}
 use Rattle.store_shared.specs.Turned.{made_slot, name_of, slot_in, turns_in}
 use Rattle.store_shared.specs.declared.parts.PassParts.{PassParts}
 use Rattle.store_shared.specs.declared.pass.PlainPass.{PlainPass}
-use Rattle.store_shared.specs.declared.receipt.Receipt.{Receipt}
 use Rattle.store_shared.specs.declared.shared.SharedDesk.{SharedDesk}
 use Rattle.store_shared.specs.declared.shared.SharedPass.{SharedPass}
 use Rattle.store_shared.specs.declared.turned.TurnedSlot.{TurnedSlot}
 use Rattle.ostore.specs.History.{ClosedSlotRan}
 use Rattle.ostore.specs.Rigs.{IsClosed, StoreIsClosed}
 use Rattle.ostore.specs.Served.{IsDeskEnd, IsHanded, IsStoreEnd, Served}
-use Rattle.ostore.specs.ServedLife.{HadAllTurns, LifeServed, Made, ServesLives, WorkerDid, workers_by, workers_in}
-use Rattle.ostore.specs.Workers.{DoorsServed, HasServed, IsPost, Worker, begun_by, pass_by}
+use Rattle.ostore.specs.ServedLife.{HadAllTurns, LifeServed, Made, WorkerDid, caller_of, workers_by, workers_in}
+use Rattle.ostore.specs.Trails.{AreUncalled}
+use Rattle.ostore.specs.Workers.{DoorsServed, HasWays, IsPost, Worker, begun_by, pass_by}
 use Rattle.ostore.specs.declared.rig.Ended.{Ended}
 use Rattle.ostore.specs.declared.rig.Rig.{Rig}
 use Rattle.ostore.specs.declared.serving.StoreEnd.{StoreEnd}
 use Rattle.store_shared.proofs.OpeningLemmas.{opened_count}
-use Rattle.ostore.proofs.MadeLemmas.{Makes, made_visits}
 use Rattle.ostore.proofs.PassPartLemmas.{all_parts, none_lacks}
-use Rattle.ostore.proofs.PassTurnLemmas.{HasMade, HasNone, SpentAt, all_made, dealt_none, first_none, turns_at, united_made, united_none, united_spent}
+use Rattle.ostore.proofs.PassTurnLemmas.{HasMade, HasNone, SpentAt, all_made, dealt_none, first_none, united_made, united_none, united_spent}
 use Rattle.ostore.proofs.PlaceLemmas.{closed_at, opened_at, some_of}
+use Rattle.ostore.proofs.TrailLemmas.{none_called}
+use Rattle.ostore.proofs.WorkedLemmas.{BeganWithNone, Worked, worked}
 use Rattle.ostore.proofs.WorkerLemmas.{all_of_map, picked_some}
-
--- tickets that rise to a count, and on from there
-rises_on : {D A : Type 0} (seen mid now : ℕ) (xs ys : List (Turn (TurnedSlot D A))) → TurnsRise seen xs mid → TurnsRise mid ys now → TurnsRise seen (xs ++ ys) now
-rises_on seen mid now [] ys first second = subst (λ n. TurnsRise n ys now) first second
-rises_on seen mid now (x ∷ xs) ys (low, more) second = (low, rises_on (x.ticket + 1) mid now xs ys more second)
-
-module _ {D A : Type 0} (ghosts : Ghosts D) (entries : A → Option (List Entry)) (count : A → ℕ) where
-  -- how many turns of the slot of an index a pass has seen
-  abbrev seen_at : SharedPass D A → ℕ → ℕ
-  seen_at pass k = (seen_in (pass_at pass k)).seen
-
-  -- from one moment of a pass to another these sections were done, and no others
-  abbrev Did : Made D A → SharedPass D A → SharedPass D A → Type 0
-  Did made old new = (k : ℕ) → k < 64 → (turns_at new k ≡ turns_at old k ++ turns_by (made k)) × All (IsSection ghosts entries count k) (made k)
-      × TurnsRise (seen_at old k) (turns_by (made k)) (seen_at new k)
-
-  did_none : (pass : SharedPass D A) → Did (λ k. []) pass pass
-  did_none pass k inside = (sym (append-nil (turns_at pass k)), All-nil (IsSection ghosts entries count k), refl)
-
-  did_both : (a b : Made D A) (old mid new : SharedPass D A) → Did a old mid → Did b mid new → Did (λ k. a k ++ b k) old new
-  did_both a b old mid new first second k inside =
-      let x = first k inside in
-      let y = second k inside in (
-        y.0 ∙ (ap (λ l. l ++ turns_by (b k)) x.0 ∙ (append_assoc (turns_at old k) (turns_by (a k)) (turns_by (b k))
-            ∙ ap (λ l. turns_at old k ++ l) (sym (map-append turn_by (a k) (b k))))),
-        All-append (IsSection ghosts entries count k) (a k) (b k) x.1 y.1,
-        subst (λ l. TurnsRise (seen_at old k) l (seen_at new k)) (sym (map-append turn_by (a k) (b k)))
-            (rises_on (seen_at old k) (seen_at mid k) (seen_at new k) (turns_by (a k)) (turns_by (b k)) x.2 y.2),
-      )
-
-  -- those of one call
-  did_one : AnswersHaveSections ghosts entries count → (task : Task) (old new : SharedPass D A) (body : List ℕ) (tale : List Telling) (result : Result Receipt Cut)
-      → SharedAnswers ghosts entries count task old new body tale result
-      → Makes (SharedAnswers ghosts entries count) (AnswersAmong ghosts entries count) Did (λ all. AnswersAmong ghosts entries count all task old new body tale result) old new
-  did_one have task old new body tale result answers =
-      let x = have task old new body tale result answers in
-      record {
-        made = x.0;
-        did = λ k inside. ((x.1.has k inside).turns, (x.1.has k inside).are, (x.1.has k inside).rise);
-        shows = λ all within. (x.0, within, x.1);
-      }
-
-module _ {D A O S T : Type 0} (ghosts : Ghosts D) (entries : A → Option (List Entry)) (count : A → ℕ) (door : DoorGhosts O S T) (source : SourceGhosts S) (sink : SinkGhosts T)
-    (moment : Option ℕ) {K C : Type 0} where
-  -- what workers did, with the sections of each
-  record Worked (workers : List (Worker K C (SharedPass D A) O)) : Type 0 where
-    made : List (Made D A)
-    did : AllZip (WorkerDid ghosts entries count door source sink moment) made workers
-    has : AllZip HasMade made (map pass_by workers)
-    are : (k : ℕ) → k < 64 → All (IsSection ghosts entries count k) (all_made made k)
-
-module _ {D A O S T Root : Type 0} (ghosts : Ghosts D) (root : D → Root) (entries : A → Option (List Entry)) (count : A → ℕ) (door : DoorGhosts O S T) (source : SourceGhosts S)
-    (sink : SinkGhosts T) (moment : Option ℕ) {K C : Type 0} (have : AnswersHaveSections ghosts entries count) where
-  -- a pass that a worker began with has no turns
-  abbrev BeganWithNone : Worker K C (SharedPass D A) O → Type 0
-  BeganWithNone worker = HasNone worker.began.pass
-
-  worked : (workers : List (Worker K C (SharedPass D A) O)) → All (HasServed ghosts root entries count door source sink moment) workers → All BeganWithNone workers
-      → ∥ Worked ghosts entries count door source sink moment workers ∥₁
-  worked [] served none = ∣ record { made = []; did = _; has = _; are = λ k inside. All-nil (IsSection ghosts entries count k) } ∣₁
-  worked (worker ∷ workers) served none =
-      let rest = worked workers (All-tail (HasServed ghosts root entries count door source sink moment) worker workers served) (All-tail BeganWithNone worker workers none) in
-      let first = (All-head (HasServed ghosts root entries count door source sink moment) worker workers served).served in
-      let empty = All-head BeganWithNone worker workers none in
-      ∥∥₁_elim rest ∥∥₁_prop (λ more. ∥∥₁_map first (λ since.
-      let x = made_visits (SharedAnswers ghosts entries count) (AnswersAmong ghosts entries count) (Did ghosts entries count) (did_none ghosts entries count)
-      (did_both ghosts entries count) (did_one ghosts entries count have) moment _ worker.began.pass since.visits worker.pass since.visited in
-      record {
-        made = x.made ∷ more.made;
-        did = (
-          record {
-            served = record {
-              holds_still = since.holds_still;
-              visits = since.visits;
-              visited = x.shows x.made (λ k inside s here. here);
-              passed = since.passed;
-              shut = since.shut;
-            };
-            turns = λ k inside. (x.did k inside).0;
-            are = λ k inside. (x.did k inside).1;
-            rise = λ k inside. (x.did k inside).2;
-          },
-          more.did,
-        );
-        has = (λ k inside. (x.did k inside).0 ∙ ap (λ l. l ++ turns_by (x.made k)) (empty k inside), more.has);
-        are = λ k inside. All-append (IsSection ghosts entries count k) (all_made more.made k) (x.made k) (more.are k inside) (x.did k inside).1;
-      }))
 
 -- the sections of all, in whichever order
 all_same : {D A : Type 0} (made : List (Made D A)) (k : ℕ) → IsPermutation (flat_map (λ (m : Made D A). m k) made) (all_made made k)
@@ -160,15 +69,17 @@ module _ {D A O S T : Type 0} (ghosts : Ghosts D) (entries : A → Option (List 
   life : (set : SetPlan) (term : ℕ) (slots : List (Slot D A)) (old new : List (SlotParts D A)) (workers : List (Worker K C (SharedPass D A) O)) (made : List (Made D A))
       → AllZip (WorkerDid ghosts entries count door source sink moment) made workers → (opened closed : ℕ → TurnedSlot D A)
       → ((k : ℕ) (d : Slot D A) → k < 64 → slot_in (opened k) ≡ slice_index_or slots k d)
-      → ((k : ℕ) → k < 64 → All (HadAllTurns ghosts entries count door source sink moment k (closed k)) workers)
+      → ((k : ℕ) → k < 64 → All (λ worker. HadAllTurns k (closed k) (caller_of worker)) workers)
       → ((k : ℕ) → k < 64 → SlotLed ghosts entries count k (opened k) (closed k) (all_made made k))
       → ((k : ℕ) (d : SlotParts D A) → k < 64 → IsOpened entries count set k term (slice_index_or old k d) (slot_in (opened k)))
       → ((k : ℕ) → k < 64 → (numbers_of (slot_in (closed k))).index ≡ k)
       → ((k : ℕ) (d : SlotParts D A) → k < 64 → IsClosed (slot_in (closed k)) (slice_index_or new k d))
-      → LifeServed ghosts entries count door source sink moment set term slots old new workers
+      → LifeServed ghosts entries count door source sink moment set term slots old new workers []
   life set term slots old new workers made did opened closed is_of all_had found at_first own at_last = record {
     made = made;
     did = did;
+    made_beside = [];
+    did_beside = _;
     opened = opened;
     opened_is = is_of;
     begins = at_first;
@@ -187,7 +98,7 @@ module _ {D A O S T : Type 0} (ghosts : Ghosts D) (entries : A → Option (List 
           counted = all.counted;
           went = all.went;
         };
-    spent = all_had;
+    spent = λ k inside. All-map (HadAllTurns k (closed k)) caller_of workers (all_had k inside);
     ran = λ k inside d.
         law set term k _ (slice_index_or old k d) (slice_index_or new k d) (slot_in (opened k)) (slot_in (closed k)) (at_first k d inside) (found k inside).went
         (own k inside) (at_last k d inside).lanes (at_last k d inside).audit;
@@ -253,15 +164,18 @@ rig_back set None rig handed some is = absurd (none-some handed some)
 rig_back set (Some parts) rig handed some (stop, after, slots, disks, is, closed) = (after, is)
 
 module _ (R G : Type 0) {D A O S T C Root : Type 0} (ghosts : Ghosts D) (root : D → Root) (entries : A → Option (List Entry)) (count : A → ℕ) (door : DoorGhosts O S T) (source : SourceGhosts S)
-    (sink : SinkGhosts T) (have : AnswersHaveSections ghosts entries count) (lead : SectionsLead ghosts entries count)
+    (sink : SinkGhosts T) (have : AnswersHaveSections ghosts entries count) (trails : SharedAnswersHaveTrails ghosts entries count) (lead : SectionsLead ghosts entries count)
     (law : ClosedSlotRan entries count ghosts.tells ghosts.files) (moment : Option ℕ) (clock : C) where
-  -- the passes with which workers began have no turns
-  begun_none : {K : Type 0} (desk : K) (test : ℕ → Bool) (posts dones : List (Worker K C (SharedPass D A) O)) → All (IsPost desk clock) posts
-      → map begun_by dones ≡ picked test 0 (map begun_by posts) → All HasNone (map pass_by posts) → All (λ w. HasNone w.began.pass) dones
-  begun_none desk test posts dones are same none =
-      let Empty = λ (b : WorkBegan _ C (SharedPass D A) O). HasNone b.pass in
+  -- the passes with which workers began have no turns, and no call was made by their ways
+  begun_none : {K : Type 0} (desk : K) (drives : List D) (test : ℕ → Bool) (posts dones : List (Worker K C (SharedPass D A) O)) → All (IsPost desk clock) posts
+      → map begun_by dones ≡ picked test 0 (map begun_by posts) → All HasNone (map pass_by posts)
+      → All (HasWays ghosts root entries count door source sink moment drives) posts
+      → All (BeganWithNone ghosts root entries count door source sink moment have trails) dones
+  begun_none desk drives test posts dones are same none ways =
+      let Empty = λ (b : WorkBegan _ C (SharedPass D A) O). HasNone b.pass × AreUncalled ghosts (drives_of b.pass) in
       let each = all_of_map HasNone pass_by posts none in
-      let at_posts : All (λ w. Empty w.began) posts = λ k d inside. subst Empty (sym (are k d inside)) (each k d inside) in
+      let at_posts : All (λ w. Empty w.began) posts = λ k d inside. subst Empty (sym (are k d inside))
+      (each k d inside, none_called ghosts (drives_of (slice_index_or posts k d).pass) (ways k d inside).uncalled) in
       all_of_map Empty begun_by dones (subst (All Empty) (sym same) (picked_some Empty test 0 (map begun_by posts) (All-map Empty begun_by posts at_posts)))
 
   -- the turns of all passes once the doors are served, with what the workers did
@@ -270,16 +184,17 @@ module _ (R G : Type 0) {D A O S T C Root : Type 0} (ghosts : Ghosts D) (root : 
     has : HasMade (all_made worked.made) whole
     spent : (k : ℕ) → k < 64 → All (λ (w : Worker K C (SharedPass D A) O). SpentAt k w.pass → SpentAt k whole) workers
 
-  doors_did : {K : Type 0} (desk : K) (first whole : SharedPass D A) (doors doors_after : List O) (status faults faults_after : ℕ)
-      (served : DoorsServed ghosts root entries count door source sink moment desk clock first whole doors doors_after status faults faults_after)
+  doors_did : {K : Type 0} (desk : K) (first whole : SharedPass D A) (doors doors_after : List O) (status starved faults faults_after : ℕ)
+      (served : DoorsServed ghosts root entries count door source sink moment desk clock first whole doors doors_after status starved faults faults_after)
       → HasNone first → ∥ DoorsDid (workers_by served) whole ∥₁
-  doors_did desk first whole doors doors_after status faults faults_after (inl w) none =
+  doors_did desk first whole doors doors_after status starved faults faults_after (inl w) none =
       let dealt = dealt_none first (reverse (map pass_by w.posts)) w.rest w.dealt none in
       let posts_none = All-permutation HasNone (reverse (map pass_by w.posts)) (map pass_by w.posts)
       (IsPermutation-sym (map pass_by w.posts) (reverse (map pass_by w.posts)) (IsPermutation-reverse (map pass_by w.posts))) dealt.1 in
       let lefts_none = All-map HasNone pass_by w.lefts (subst (All (λ l. HasNone l.pass)) (sym w.ran.lefts_are)
       (picked_some (λ l. HasNone l.pass) _ 0 w.posts (all_of_map HasNone pass_by w.posts posts_none))) in
-      ∥∥₁_map (worked ghosts root entries count door source sink moment have w.dones w.ran.served (begun_none desk w.ran.ran w.posts w.dones w.are_posts w.ran.dones_are posts_none))
+      ∥∥₁_map (worked ghosts root entries count door source sink moment have trails w.dones w.ran.served
+      (begun_none desk (drives_of first) w.ran.ran w.posts w.dones w.are_posts w.ran.dones_are posts_none w.ways))
       (λ x. record {
         worked = x;
         has = λ k inside. united_none w.mid (map pass_by w.lefts) whole w.united_too lefts_none k inside
@@ -287,7 +202,7 @@ module _ (R G : Type 0) {D A O S T C Root : Type 0} (ghosts : Ghosts D) (root : 
         spent = λ k inside i d low s. (united_spent k inside w.mid (map pass_by w.lefts) whole w.united_too).0
             (all_of_map (λ p. SpentAt k p → SpentAt k w.mid) pass_by w.dones (united_spent k inside w.rest (map pass_by w.dones) w.mid w.united).1 i d low s);
       })
-  doors_did desk first whole doors doors_after status faults faults_after (inr n) none =
+  doors_did desk first whole doors doors_after status starved faults faults_after (inr n) none =
       let dealt = dealt_none first n.passes n.rest n.dealt none in
       ∣ record {
         worked = record { made = []; did = _; has = _; are = λ k inside. All-nil (IsSection ghosts entries count k) };
@@ -302,7 +217,7 @@ module _ (R G : Type 0) {D A O S T C Root : Type 0} (ghosts : Ghosts D) (root : 
     desk_life : (desk : SharedDesk R D A G) (parts handed : PassParts D A) (first whole : SharedPass D A)
         (workers : List (Worker (SharedDesk R D A G) C (SharedPass D A) O)) → IsMade parts desk first → parts.slots.items ≡ slots → IsApart desk whole handed
         → handed.slots.items ≡ stop → DoorsDid workers whole
-        → LifeServed ghosts entries count door source sink moment set term slots old new workers
+        → LifeServed ghosts entries count door source sink moment set term slots old new workers []
     desk_life desk parts handed first whole workers made of_parts is_apart of_stop did =
         let n = desk.count in
         let locks = locks_of desk in
@@ -326,7 +241,7 @@ module _ (R G : Type 0) {D A O S T C Root : Type 0} (ghosts : Ghosts D) (root : 
         (λ k d inside. at_last k e d inside)
 
     -- and those that nobody touched
-    still_life : {K : Type 0} → slots ≡ stop → LifeServed ghosts entries count door source sink moment {K = K} {C = C} set term slots old new []
+    still_life : {K : Type 0} → slots ≡ stop → LifeServed ghosts entries count door source sink moment {K = K} {C = C} set term slots old new [] []
     still_life same =
         let e = some_of stop 0 (omega (arith, lasts)) in
         let turned : ℕ → TurnedSlot D A = λ k. record { slot = slice_index_or stop k e } in
@@ -334,7 +249,7 @@ module _ (R G : Type 0) {D A O S T C Root : Type 0} (ghosts : Ghosts D) (root : 
         λ k d inside. subst (λ l. IsOpened entries count set k term (slice_index_or old k d) (slice_index_or l k e)) same (at_first k d e inside) in
         life ghosts entries count door source sink moment law set term slots old new [] [] _ turned turned
         (λ k d inside. get_or_default stop k e d (omega (arith, lasts, inside)) ∙ ap (λ l. slice_index_or l k d) (sym same))
-        (λ k inside. All-nil (HadAllTurns ghosts entries count door source sink moment k (turned k)))
+        (λ k inside. All-nil (λ worker. HadAllTurns k (turned k) (caller_of worker)))
         (λ k inside. still_led ghosts entries count k (turned k)) at_open
         (λ k inside. ap (λ (n : SlotNumbers). n.index) (at_open k (some_of old 0 (omega (arith, olds))) inside).numbers)
         (λ k d inside. at_last k e d inside)
@@ -342,14 +257,14 @@ module _ (R G : Type 0) {D A O S T C Root : Type 0} (ghosts : Ghosts D) (root : 
     -- whichever of both it was
     ended_life : (begun handed : PassParts D A) (doors : List O) (faults faults_after : ℕ) (end : StoreEnd D A O) → begun.slots.items ≡ slots
         → (served : IsStoreEnd R G ghosts root entries count door source sink moment clock begun doors faults faults_after end) → end.parts ≡ Some handed
-        → handed.slots.items ≡ stop → ∥ LifeServed ghosts entries count door source sink moment set term slots old new (workers_in served) ∥₁
+        → handed.slots.items ≡ stop → ∥ LifeServed ghosts entries count door source sink moment set term slots old new (workers_in served) [] ∥₁
     ended_life begun handed doors faults faults_after end begun_is (inl x) is of_stop =
         let s = x.served in
         let n = s.desk.count in
         let free = some_of (locks_of s.desk) 0 (omega (arith, n)) in
         let none : HasNone s.first =
         λ k inside. first_none (slice_index_or (locks_of s.desk) k free) (pass_at s.first k) (s.made.each k free inside) in
-        ∥∥₁_map (doors_did s.desk s.first s.whole doors end.doors.items s.status faults faults_after s.served none)
+        ∥∥₁_map (doors_did s.desk s.first s.whole doors end.doors.items s.status s.starved faults faults_after s.served none)
         (λ did. desk_life s.desk x.shared handed s.first s.whole (workers_by s.served) s.made (x.shares.slots ∙ begun_is)
         (apart s.desk s.whole s.status end.status end.parts handed s.closed is) of_stop did)
     ended_life begun handed doors faults faults_after end begun_is (inr x) is of_stop =
@@ -358,7 +273,7 @@ module _ (R G : Type 0) {D A O S T C Root : Type 0} (ghosts : Ghosts D) (root : 
   life_left : (rig after : Rig D A) (doors : List O) (faults faults_after : ℕ) (ended : Ended D A (Vec O Global))
       (served : Served R G ghosts root entries count door source sink moment clock rig doors faults faults_after ended) → ended.rig ≡ Some after
       → ∥ LifeServed ghosts entries count door source sink moment (set_of served.opened) served.opens.opened.term (slots_of served.opened) rig.slots.items after.slots.items
-      (workers_in served.served) ∥₁
+      (workers_in served.served) [] ∥₁
   life_left rig after doors faults faults_after ended x some =
       let l = left rig.set x.end.parts ended.rig after x.closed some in
       let set = set_of x.opened in
@@ -390,7 +305,7 @@ module _ (R G : Type 0) {D A O S T C Root : Type 0} (ghosts : Ghosts D) (root : 
   parts_back parts doors faults faults_after end (inl x) =
       let s = x.served in
       closed_whole s.desk s.whole s.status end.status end.parts
-      (all_parts ghosts root entries count door source sink moment s.desk clock s.first s.whole doors end.doors.items s.status faults faults_after s.served s.made.parts_are)
+      (all_parts ghosts root entries count door source sink moment s.desk clock s.first s.whole doors end.doors.items s.status s.starved faults faults_after s.served s.made.parts_are)
       s.closed
   parts_back parts doors faults faults_after end (inr x) = (x.after, x.parts_are)
 
@@ -398,7 +313,7 @@ module _ (R G : Type 0) {D A O S T C Root : Type 0} (ghosts : Ghosts D) (root : 
       (served : Served R G ghosts root entries count door source sink moment clock rig doors faults faults_after ended)
       → (after : Rig D A) × (ended.rig ≡ Some after)
       × ∥ LifeServed ghosts entries count door source sink moment (set_of served.opened) served.opens.opened.term (slots_of served.opened) rig.slots.items after.slots.items
-      (workers_in served.served) ∥₁
+      (workers_in served.served) [] ∥₁
   serves_life rig doors faults faults_after ended x =
       let parts = parts_back x.begun doors faults faults_after x.end x.served in
       let back = rig_back rig.set x.end.parts ended.rig parts.0 parts.1 x.closed in

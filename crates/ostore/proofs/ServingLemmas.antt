@@ -76,22 +76,23 @@ says_of words now plan same says = subst (λ l. Says l plan) same says
 -- the doors of a desk stand in another place now
 pub doors_come_back : {K D A O S T C Root : Type 0} (desk : K) (ghosts : Ghosts D) (root : D → Root) (entries : A → Option (List Entry)) (count : A → ℕ)
     (door : DoorGhosts O S T) (source : SourceGhosts S) (sink : SinkGhosts T) (moment : Option ℕ) (clock : C) (first whole : SharedPass D A) (doors : List O)
-    (back now : Vec O Global) (status faults faults_after : ℕ) → back ≡ now
-    → DoorsServed ghosts root entries count door source sink moment desk clock first whole doors back.items status faults faults_after
-    → DoorsServed ghosts root entries count door source sink moment desk clock first whole doors now.items status faults faults_after
-doors_come_back {K} {D} {A} {O} desk ghosts root entries count door source sink moment clock first whole doors back now status faults faults_after same served =
-    subst (λ (v : Vec O Global). DoorsServed ghosts root entries count door source sink moment desk clock first whole doors v.items status faults faults_after) same served
+    (back now : Vec O Global) (status starved faults faults_after : ℕ) → back ≡ now
+    → DoorsServed ghosts root entries count door source sink moment desk clock first whole doors back.items status starved faults faults_after
+    → DoorsServed ghosts root entries count door source sink moment desk clock first whole doors now.items status starved faults faults_after
+doors_come_back {K} {D} {A} {O} desk ghosts root entries count door source sink moment clock first whole doors back now status starved faults faults_after same served =
+    subst (λ (v : Vec O Global). DoorsServed ghosts root entries count door source sink moment desk clock first whole doors v.items status starved faults faults_after) same served
 
 module _ (R G : Type 0) {D A O S T C Root : Type 0} (ghosts : Ghosts D) (root : D → Root) (entries : A → Option (List Entry)) (count : A → ℕ) (door : DoorGhosts O S T)
     (source : SourceGhosts S) (sink : SinkGhosts T) (moment : Option ℕ) (clock : C) where
   -- the doors of a store were not served
   pub unserved_end : (parts after : PassParts D A) (doors : Vec O Global) (faults : ℕ) (end : StoreEnd D A O) → SharesDisks ghosts root parts after → end.parts ≡ Some after
-      → end.status ≡ out_of_memory → end.doors ≡ doors → IsStoreEnd R G ghosts root entries count door source sink moment clock parts doors.items faults faults end
-  unserved_end parts after doors faults end shares parts_are status doors_are = inr (record {
+      → end.status ≡ out_of_memory → end.starved ≡ 0 → end.doors ≡ doors → IsStoreEnd R G ghosts root entries count door source sink moment clock parts doors.items faults faults end
+  unserved_end parts after doors faults end shares parts_are status starved doors_are = inr (record {
     after = after;
     shares = shares;
     parts_are = parts_are;
     status = status;
+    starved = starved;
     doors_are = ap (λ (v : Vec O Global). v.items) doors_are;
     counted = refl;
   })

@@ -6,7 +6,9 @@ use Rattle.std.specs.Prelude.{Vec, slice_set}
 use Rattle.std.specs.Vec.{with_item, with_items}
 use Rattle.drive_base.specs.View.{AllOnlyRead, views}
 use Rattle.drive_base.specs.declared.drive.Drive.{Ghosts}
+use Rattle.io_base.specs.Trail.{TakeCall}
 use Rattle.serve_loop.specs.Deeds.{wires}
+use Rattle.serve_loop.specs.Sending.{SinkView}
 use Rattle.ostore.specs.Surveying.{Surveyed, Tells}
 use Rattle.ostore.specs.declared.rig.Ended.{Ended}
 use Rattle.ostore.specs.declared.rig.Rig.{Rig}
@@ -21,15 +23,15 @@ items_again v now same =
 
 -- a run that read the one row of a rig, told a survey of it and handed the rig back surveyed it
 pub surveyed : {D A : Type 0} (ghosts : Ghosts D) (rig : Rig D A) (ended : Ended D A (Unit {0})) (row first : Vec D Global) (lent now : List D)
-    (status : ℕ) (left given given_after : Option (List ℕ)) (read_faults faults faults_after : ℕ)
+    (status : ℕ) (left : Option (List ℕ)) (takes : List TakeCall) (sink sink_after : SinkView) (read_faults faults faults_after : ℕ)
     → rig.data.items ≡ row ∷ [] → first ≡ get_or rig.data.items 0 first → lent ≡ first.items → length now ≡ length lent
     → ended.status ≡ status → ended.rig ≡ Some record { set = rig.set; slots = rig.slots; «data» = with_item rig.data 0 (with_items first now) }
-    → ended.opening ≡ None → ended.line ≡ None
+    → ended.opening ≡ None → ended.line ≡ None → ended.starved ≡ 0
     → AllOnlyRead (views ghosts lent) (views ghosts now)
-    → Tells rig.set status (views ghosts lent) (views ghosts now) given given_after faults faults_after
-    → Surveyed ghosts rig ended (wires left given read_faults faults) (wires left given_after read_faults faults_after)
-surveyed {D} {A} ghosts rig ended row first lent now status left given given_after read_faults faults faults_after
-    rows is_first is_lent same is_status is_rig opening line only tells =
+    → Tells rig.set status (views ghosts lent) (views ghosts now) sink sink_after faults faults_after
+    → Surveyed ghosts rig ended (wires (record { left = left; takes = takes }) sink read_faults faults) (wires (record { left = left; takes = takes }) sink_after read_faults faults_after)
+surveyed {D} {A} ghosts rig ended row first lent now status left takes sink sink_after read_faults faults faults_after
+    rows is_first is_lent same is_status is_rig opening line starved only tells =
     let is_row : first ≡ row = is_first ∙ ap (λ (all : List (Vec D Global)). get_or all 0 first) rows in
     let of_row : lent ≡ row.items = is_lent ∙ ap (λ (v : Vec D Global). v.items) is_row in
     let again : now ≡ (with_items first now).items = sym (items_again first now (same ∙ ap (λ (all : List D). length all) is_lent)) in
@@ -38,7 +40,9 @@ surveyed {D} {A} ghosts rig ended row first lent now status left given given_aft
       rig_is = is_rig;
       opening = opening;
       line = line;
+      starved = starved;
       left = refl;
+      takes = refl;
       reads = refl;
       looked = record {
         set_is = refl;
@@ -51,7 +55,7 @@ surveyed {D} {A} ghosts rig ended row first lent now status left given given_aft
             (subst (λ (new : List D). AllOnlyRead (views ghosts lent) (views ghosts new)) again only);
       };
       tells = subst
-          (λ (s : ℕ). Tells rig.set s (views ghosts row.items) (views ghosts (with_items first now).items) given given_after faults faults_after) (sym is_status)
-          (subst (λ (old : List D). Tells rig.set status (views ghosts old) (views ghosts (with_items first now).items) given given_after faults faults_after) of_row
-          (subst (λ (new : List D). Tells rig.set status (views ghosts lent) (views ghosts new) given given_after faults faults_after) again tells));
+          (λ (s : ℕ). Tells rig.set s (views ghosts row.items) (views ghosts (with_items first now).items) sink sink_after faults faults_after) (sym is_status)
+          (subst (λ (old : List D). Tells rig.set status (views ghosts old) (views ghosts (with_items first now).items) sink sink_after faults faults_after) of_row
+          (subst (λ (new : List D). Tells rig.set status (views ghosts lent) (views ghosts new) sink sink_after faults faults_after) again tells));
     }

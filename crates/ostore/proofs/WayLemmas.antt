@@ -8,23 +8,23 @@ use Rattle.drive_base.specs.View.{DriveView, view}
 use Rattle.drive_base.specs.declared.drive.Drive.{Ghosts}
 use Rattle.slot_core.specs.declared.slot.SlotParts.{SlotParts}
 use Rattle.ostore.specs.Rigs.{HasLanes, IsRigOf}
-use Rattle.ostore.specs.Ways.{AreSlotsOver, IsRigOver, ShowSame, lanes_shown}
+use Rattle.ostore.specs.Ways.{AreSlotsOver, IsRigOver, ShowSame, lanes_round, lanes_shown, way_round}
 use Rattle.ostore.specs.declared.rig.Rig.{Rig}
 use Rattle.ostore.proofs.WorkerLemmas.{all_of_map}
 
 module _ {D W : Type 0} (ghosts : Ghosts D) (ways : Ghosts W) where
   -- ways are as many as the drives that they show
   pub as_many_ways : (drives : List D) (now : List W) → ShowSame ghosts ways drives now → length now ≡ length drives
-  as_many_ways drives now same = sym (length-map now (view ways)) ∙ (ap length same ∙ length-map drives (view ghosts))
+  as_many_ways drives now same = sym (length-map now (view ways)) ∙ (ap length same ∙ length-map drives (way_round ghosts))
 
   module _ {A : Type 0} where
     -- slots with ways round their lanes are as many, and have as many lanes
     pub as_many_slots : (was : List (SlotParts D A)) (now : List (SlotParts W A)) → AreSlotsOver ghosts ways was now → length now ≡ length was
-    as_many_slots was now over = sym (length-map now (lanes_shown ways)) ∙ (ap length over.lanes ∙ length-map was (lanes_shown ghosts))
+    as_many_slots was now over = sym (length-map now (lanes_shown ways)) ∙ (ap length over.lanes ∙ length-map was (lanes_round ghosts))
 
     pub lanes_long : (was : List (SlotParts D A)) (now : List (SlotParts W A)) (n : ℕ) → AreSlotsOver ghosts ways was now → All (HasLanes n) was → All (HasLanes n) now
     lanes_long was now n over all =
-        let shown = All-map (λ (s : List DriveView). length s ≡ n) (lanes_shown ghosts) was (λ k d below. length-map _ (view ghosts) ∙ all k d below) in
+        let shown = All-map (λ (s : List DriveView). length s ≡ n) (lanes_round ghosts) was (λ k d below. length-map _ (way_round ghosts) ∙ all k d below) in
         let here = subst (All (λ (s : List DriveView). length s ≡ n)) (sym over.lanes) shown in
         λ k d below. sym (length-map _ (view ways)) ∙ all_of_map (λ (s : List DriveView). length s ≡ n) (lanes_shown ways) now here k d below
 

@@ -14,5 +14,6 @@ pub mod ServedLife
 pub mod Sharing
 pub mod Statuses
 pub mod Surveying
+pub mod Trails
 pub mod Ways
 pub mod Workers

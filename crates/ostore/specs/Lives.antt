@@ -18,7 +18,7 @@ use Rattle.store_shared.specs.Opening.{with_out}
 use Rattle.store_shared.specs.Passes.{disks_of, set_of, slots_of}
 use Rattle.store_shared.specs.declared.opened.StoreParts.{StoreParts}
 use Rattle.term_gate.specs.declared.refusal.OpenRefusal.{OpenRefusal}
-use Rattle.ostore.specs.Logs.{session_logs}
+use Rattle.ostore.specs.Logs.{pipe_logs}
 use Rattle.ostore.specs.Opening.{NotOpens}
 use Rattle.ostore.specs.Rigs.{ArePartsOf}
 use Rattle.ostore.specs.Running.{Piped}
@@ -48,7 +48,7 @@ module _ {D A : Type 0} (ghosts : Ghosts D) (entries : A → Option (List Entry)
       → RigHolds ghosts rig.set used lost unseen at run.parts
       → LostServe lost (views ghosts run.parts.disks.items) (views ghosts (disks_of run.opened))
       → LifeLeaves ghosts rig.set used run.opens.opened.term run.opens.opened.out
-      (joined (session_logs ghosts entries count clock run.opened run.stop end wires wires_after run.session))
+      (joined (pipe_logs ghosts entries count clock run.opened run.stop end wires wires_after run.session))
       (counted unseen lost (views ghosts (disks_of run.opened))) at after
 
   -- over each call of such a life enough lanes and data drives that serve refuse nothing (`LogComplete`)
@@ -57,7 +57,7 @@ module _ {D A : Type 0} (ghosts : Ghosts D) (entries : A → Option (List Entry)
       (run : Piped ghosts entries count clock rig after end wires wires_after) (used lost : ℕ) (unseen : Disks) (at : ℕ → Standing)
       → RigHolds ghosts rig.set used lost unseen at run.parts
       → LostServe lost (views ghosts run.parts.disks.items) (views ghosts (disks_of run.opened))
-      → EachComplete ghosts (set_of run.opened) (session_logs ghosts entries count clock run.opened run.stop end wires wires_after run.session)
+      → EachComplete ghosts (set_of run.opened) (pipe_logs ghosts entries count clock run.opened run.stop end wires wires_after run.session)
       (slots_seen entries count (slots_of run.opened)) (views ghosts (disks_of run.opened)) (slots_seen entries count (slots_of run.stop))
       (views ghosts (disks_of run.stop)) run.calls
 

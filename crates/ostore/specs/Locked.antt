@@ -7,14 +7,14 @@ use Rattle.slot_core.specs.declared.slot.SlotParts.{SlotParts}
 use Rattle.ostore.specs.declared.rig.Rig.{Rig}
 
 -- where the root isn't locked, every call of a drive fails
-abbrev pub FailsUnlocked : {R : Type 0} → Bool → FileDrive R → Type 0
+abbrev pub FailsUnlocked : {F : Type 0} → Bool → FileDrive F → Type 0
 FailsUnlocked locked drive = locked ≡ false → is_lost drive ≡ true
 
 -- so it is of each lane of a slot
-abbrev pub LanesFailUnlocked : {R A : Type 0} → Bool → SlotParts (FileDrive R) A → Type 0
+abbrev pub LanesFailUnlocked : {F A : Type 0} → Bool → SlotParts (FileDrive F) A → Type 0
 LanesFailUnlocked locked parts = All (FailsUnlocked locked) parts.lanes.items
 
 -- and of each lane and data drive of a rig
-pub record RigFailsUnlocked {R A : Type 0} (locked : Bool) (rig : Rig (FileDrive R) A) : Type 0 where
+pub record RigFailsUnlocked {F A : Type 0} (locked : Bool) (rig : Rig (FileDrive F) A) : Type 0 where
   pub slots : All (LanesFailUnlocked locked) rig.slots.items
-  pub rows : All (λ (row : Vec (FileDrive R) Global). All (FailsUnlocked locked) row.items) rig.data.items
+  pub rows : All (λ (row : Vec (FileDrive F) Global). All (FailsUnlocked locked) row.items) rig.data.items

@@ -25,6 +25,14 @@ module _ {D A : Type 0} (ghosts : Ghosts D) (entries : A → Option (List Entry)
   Does Status clock rig ended before after = Surveyed ghosts rig ended before after ⊎ DidNothing ghosts entries count out_of_memory rig ended before after
   Does Serve clock rig ended before after = EndsUndone rig ended before after
 
+module _ {D A S : Type 0} (ghosts : Ghosts D) (entries : A → Option (List Entry)) (count : A → ℕ) where
+  -- a run of a command without doors ended with this status: it did what the command does; `wires_after` are the wires where this is left of the source
+  pub record EndsWith (command : Command) (clock : Option ℕ) (rig : Rig D A) (before : Wires) (wires_after : S → Wires) (status : ℕ) : Type 0 where
+    pub source : S
+    pub ended : Ended D A (Unit {0})
+    pub does : Does ghosts entries count command clock rig ended before (wires_after source)
+    pub status_is : status ≡ ended.status
+
 -- words are no command line
 abbrev pub SaysNothing : {Y : Type 0} → List (String Y) → Type 0
 SaysNothing words = (plan : Plan) → Says words plan → ⊥

@@ -35,7 +35,7 @@ use Rattle.ostore.specs.declared.serving.StoreEnd.{StoreEnd}
 
 -- a run that ended, without its door
 abbrev pub without_door : {D A O : Type 0} → Ended D A O → Ended D A (Unit {0})
-without_door ended = record { status = ended.status; rig = ended.rig; opening = ended.opening; line = ended.line; door = _ }
+without_door ended = record { status = ended.status; rig = ended.rig; opening = ended.opening; line = ended.line; starved = ended.starved; door = _ }
 
 -- the doors that came back
 abbrev pub doors_in : {D A O : Type 0} → Ended D A (Vec O Global) → List O
@@ -75,7 +75,9 @@ module _ (R G : Type 0) {D A O S T C Root : Type 0} (ghosts : Ghosts D) (root : 
     pub made : IsMade parts desk first
     pub whole : SharedPass D A
     pub status : ℕ
-    pub served : DoorsServed ghosts root entries count door source sink moment desk clock first whole doors end.doors.items status faults faults_after
+    pub starved : ℕ
+    pub served : DoorsServed ghosts root entries count door source sink moment desk clock first whole doors end.doors.items status starved faults faults_after
+    pub starved_is : end.starved ≡ starved
     pub closed : IsDeskEnd desk whole status end.parts end.status
 
   -- there was no memory to begin: no door was touched, and some of the data drives may be shared
@@ -84,6 +86,7 @@ module _ (R G : Type 0) {D A O S T C Root : Type 0} (ghosts : Ghosts D) (root : 
     pub shares : SharesDisks ghosts root parts after
     pub parts_are : end.parts ≡ Some after
     pub status : end.status ≡ out_of_memory
+    pub starved : end.starved ≡ 0
     pub doors_are : end.doors.items ≡ doors
     pub counted : faults_after ≡ faults
 
@@ -112,6 +115,7 @@ module _ (R G : Type 0) {D A O S T C Root : Type 0} (ghosts : Ghosts D) (root : 
     pub end : StoreEnd D A O
     pub served : IsStoreEnd begun doors faults faults_after end
     pub status_is : ended.status ≡ end.status
+    pub starved_is : ended.starved ≡ end.starved
     pub doors_are : doors_in ended ≡ end.doors.items
     pub opening : ended.opening ≡ None
     pub line : ended.line ≡ None
@@ -125,6 +129,7 @@ module _ (R G : Type 0) {D A O S T C Root : Type 0} (ghosts : Ghosts D) (root : 
     pub opening : ended.opening ≡ Some why
     pub line : ended.line ≡ None
     pub status_is : ended.status ≡ refusal_status why
+    pub starved : ended.starved ≡ 0
     pub refused : NotOpens ghosts entries count rig after why
     pub doors_are : doors_in ended ≡ doors
     pub counted : faults_after ≡ faults

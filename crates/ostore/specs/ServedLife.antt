@@ -1,5 +1,5 @@
 -- What a life of `serve` comes to, slot by slot: the history part of the theorem for many callers.
-use Rattle.std.specs.Prelude.{◌≡◌, ◌⊎◌, ℕ, ◌<◌, ◌≤◌, ◌++◌, true, List, All, [], ◌∷◌, Option, Some, Vec, slice_index_or}
+use Rattle.std.specs.Prelude.{◌≡◌, ◌⊎◌, ℕ, ◌<◌, ◌≤◌, ◌++◌, true, List, All, [], ◌∷◌, Option, Some, Vec, map, slice_index_or}
 use Rattle.std.proofs.Common.{inl, inr}
 use Rattle.std.specs.Global.{Global}
 use Rattle.std.specs.List.{AllZip, flat_map}
@@ -22,15 +22,17 @@ use Rattle.store_shared.specs.Holders.{LostServe, RigHolds}
 use Rattle.store_shared.specs.Passes.{disks_of, set_of, slots_of}
 use Rattle.store_shared.specs.Sections.{AnswersAmong, IsSection, SlotLed, TurnedSection, events_by, turns_by}
 use Rattle.store_shared.specs.SharedLaws.{TurnsRise}
-use Rattle.store_shared.specs.SharedPasses.{pass_at, shared_holds}
+use Rattle.store_shared.specs.SharedPasses.{drives_of, pass_at, shared_holds}
 use Rattle.store_shared.specs.Turned.{slot_in, turns_in}
 use Rattle.store_shared.specs.declared.parts.PassParts.{PassParts}
 use Rattle.store_shared.specs.declared.shared.SharedDesk.{SharedDesk}
 use Rattle.store_shared.specs.declared.shared.SharedPass.{SharedPass}
 use Rattle.store_shared.specs.declared.turned.TurnedSlot.{TurnedSlot}
 use Rattle.ostore.specs.History.{LanesBegin, SlotRan}
+use Rattle.ostore.specs.Logs.{among_log, served_logs}
 use Rattle.ostore.specs.Rigs.{IsClosed}
 use Rattle.ostore.specs.Served.{IsStoreEnd, Served}
+use Rattle.ostore.specs.Trails.{AreUncalled, LogsLeadTrails}
 use Rattle.ostore.specs.Workers.{DoorsServed, Worker, view_of}
 use Rattle.ostore.specs.declared.rig.Ended.{Ended}
 use Rattle.ostore.specs.declared.rig.Rig.{Rig}
@@ -40,42 +42,65 @@ use Rattle.ostore.specs.declared.serving.StoreEnd.{StoreEnd}
 abbrev pub Made : (D A : Type 0) → Type 0
 Made D A = ℕ → List (TurnedSection D A)
 
+-- whoever has turns in the slots: the pass that it began with, and the pass as it came back
+pub record Caller (D A : Type 0) : Type 0 where
+  pub began : SharedPass D A
+  pub pass : SharedPass D A
+
+-- a worker as such a caller
+abbrev pub caller_of : {D A O K C : Type 0} → Worker K C (SharedPass D A) O → Caller D A
+caller_of worker = record { began = worker.began.pass; pass = worker.pass }
+
+module _ {D A : Type 0} (ghosts : Ghosts D) (entries : A → Option (List Entry)) (count : A → ℕ) where
+  -- these are the sections of a caller's turns and no others, and the tickets of these turns rise
+  pub record CallerDid (made : Made D A) (caller : Caller D A) : Type 0 where
+    pub turns : (k : ℕ) → k < 64 → (seen_in (pass_at caller.pass k)).turns ≡ (seen_in (pass_at caller.began k)).turns ++ turns_by (made k)
+    pub are : (k : ℕ) → k < 64 → All (IsSection ghosts entries count k) (made k)
+    pub rise : (k : ℕ) → k < 64 → TurnsRise (seen_in (pass_at caller.began k)).seen (turns_by (made k)) (seen_in (pass_at caller.pass k)).seen
+
+module _ {D A : Type 0} where
+  -- where a caller's pass is spent in the slot of an index, the slot that was closed had all its turns
+  abbrev pub HadAllTurns : ℕ → TurnedSlot D A → Caller D A → Type 0
+  HadAllTurns k closed caller = (seen_in (pass_at caller.pass k)).spent ≡ true → last_ticket ≤ turns_in closed
+
 module _ {D A O S T : Type 0} (ghosts : Ghosts D) (entries : A → Option (List Entry)) (count : A → ℕ) (door : DoorGhosts O S T) (source : SourceGhosts S) (sink : SinkGhosts T)
     (moment : Option ℕ) {K C : Type 0} where
-  -- a worker served its door; the sections of all its calls are among these, and these are those of its turns and no others, whose tickets rise
+  -- a worker did what a caller did, and served its door; the sections of all its calls are among these. By its ways to the data drives, of which no call was
+  -- made before, the calls were made that the logs of its calls name, one log behind another, and no others
   pub record WorkerDid (made : Made D A) (worker : Worker K C (SharedPass D A) O) : Type 0 where
-    pub served : ServedSince (AnswersAmong ghosts entries count made) moment (sight source.left source.faults sink.given sink.faults) shared_holds worker.began.pass worker.pass
-        (view_of door worker.began.door) (view_of door worker.door)
-    pub turns : (k : ℕ) → k < 64 → (seen_in (pass_at worker.pass k)).turns ≡ (seen_in (pass_at worker.began.pass k)).turns ++ turns_by (made k)
-    pub are : (k : ℕ) → k < 64 → All (IsSection ghosts entries count k) (made k)
-    pub rise : (k : ℕ) → k < 64 → TurnsRise (seen_in (pass_at worker.began.pass k)).seen (turns_by (made k)) (seen_in (pass_at worker.pass k)).seen
+    pub did : CallerDid ghosts entries count made (caller_of worker)
+    pub served : ServedSince (AnswersAmong ghosts entries count made) moment (sight source sink) shared_holds worker.began.pass worker.pass
+        (view_of door worker.began.door) (view_of door worker.door) worker.starved
+    pub uncalled : AreUncalled ghosts (drives_of worker.began.pass)
+    pub trails : LogsLeadTrails ghosts
+        (served_logs (AnswersAmong ghosts entries count made) (among_log ghosts entries count made) moment (sight source sink) shared_holds worker.began.pass worker.pass
+        (view_of door worker.began.door) (view_of door worker.door) served) (drives_of worker.began.pass) (drives_of worker.pass)
 
-  -- where a worker's pass is spent in the slot of an index, the slot that was closed had all its turns
-  abbrev pub HadAllTurns : ℕ → TurnedSlot D A → Worker K C (SharedPass D A) O → Type 0
-  HadAllTurns k closed worker = (seen_in (pass_at worker.pass k)).spent ≡ true → last_ticket ≤ turns_in closed
-
-  -- a life of this term that was served by these workers, from the slots as they were handed in to the slots as they were handed back, over these slots as they
-  -- were opened: in each slot the sections of all workers, in the order of their turns, follow one another from the slot as it was opened to the slot as it was
-  -- closed, and the slot went through their log. So its audit has got the entry of the opening and theirs, and where its lanes stood for something they stand
-  -- for what these entries lead to. A pass was spent only where the slot had all turns that it can have
-  pub record LifeServed (set : SetPlan) (term : ℕ) (slots : List (Slot D A)) (old new : List (SlotParts D A)) (workers : List (Worker K C (SharedPass D A) O)) : Type 0 where
+  -- a life of this term that was served by these workers, beside these callers without a door, from the slots as they were handed in to the slots as they were
+  -- handed back, over these slots as they were opened: in each slot the sections of all of them, in the order of their turns, follow one another from the slot as
+  -- it was opened to the slot as it was closed, and the slot went through their log. So its audit has got the entry of the opening and theirs, and where its
+  -- lanes stood for something they stand for what these entries lead to. A pass was spent only where the slot had all turns that it can have
+  pub record LifeServed (set : SetPlan) (term : ℕ) (slots : List (Slot D A)) (old new : List (SlotParts D A)) (workers : List (Worker K C (SharedPass D A) O))
+      (callers : List (Caller D A)) : Type 0 where
     pub made : List (Made D A)
     pub did : AllZip WorkerDid made workers
+    pub made_beside : List (Made D A)
+    pub did_beside : AllZip (CallerDid ghosts entries count) made_beside callers
     pub opened : ℕ → TurnedSlot D A
     pub opened_is : (k : ℕ) (d : Slot D A) → k < 64 → slot_in (opened k) ≡ slice_index_or slots k d
     pub begins : (k : ℕ) (d : SlotParts D A) → k < 64 → IsOpened entries count set k term (slice_index_or old k d) (slot_in (opened k))
     pub closed : ℕ → TurnedSlot D A
     pub ends : (k : ℕ) (d : SlotParts D A) → k < 64 → IsClosed (slot_in (closed k)) (slice_index_or new k d)
-    pub led : (k : ℕ) → k < 64 → SlotLed ghosts entries count k (opened k) (closed k) (flat_map (λ (m : Made D A). m k) made)
-    pub spent : (k : ℕ) → k < 64 → All (HadAllTurns k (closed k)) workers
+    pub led : (k : ℕ) → k < 64 → SlotLed ghosts entries count k (opened k) (closed k) (flat_map (λ (m : Made D A). m k) (made_beside ++ made))
+    pub spent : (k : ℕ) → k < 64 → All (HadAllTurns k (closed k)) (callers ++ map caller_of workers)
     pub ran : (k : ℕ) (inside : k < 64) (d : SlotParts D A) → SlotRan entries ghosts.tells ghosts.files set term k (events_by k (led k inside).in_order.ordered)
         (slice_index_or old k d) (slice_index_or new k d)
 
 module _ {D A O S T C Root : Type 0} {ghosts : Ghosts D} {root : D → Root} {entries : A → Option (List Entry)} {count : A → ℕ} {door : DoorGhosts O S T} {source : SourceGhosts S}
     {sink : SinkGhosts T} {moment : Option ℕ} {clock : C} where
   -- the workers that served doors
-  abbrev pub workers_by : {K : Type 0} {desk : K} {first whole : SharedPass D A} {doors doors_after : List O} {status faults faults_after : ℕ}
-      → DoorsServed ghosts root entries count door source sink moment desk clock first whole doors doors_after status faults faults_after
+  abbrev pub workers_by : {K : Type 0} {desk : K} {first whole : SharedPass D A} {doors doors_after : List O} {status starved faults faults_after : ℕ}
+      → DoorsServed ghosts root entries count door source sink moment desk clock first whole doors doors_after status starved faults faults_after
       → List (Worker K C (SharedPass D A) O)
   workers_by (inl served) = served.dones
   workers_by (inr not_dealt) = []
@@ -89,13 +114,13 @@ module _ {D A O S T C Root : Type 0} {ghosts : Ghosts D} {root : D → Root} {en
 
 module _ (R G C : Type 0) {D A O S T Root : Type 0} (ghosts : Ghosts D) (root : D → Root) (entries : A → Option (List Entry)) (count : A → ℕ) (door : DoorGhosts O S T) (source : SourceGhosts S)
     (sink : SinkGhosts T) where
-  -- each run of `serve` over an open store hands its rig back, and is such a life
+  -- each run of `serve` over an open store hands its rig back, and is such a life, in which its workers are the only callers
   abbrev pub ServesLives : Type 0
   ServesLives = (moment : Option ℕ) (clock : C) (rig : Rig D A) (doors : List O) (faults faults_after : ℕ) (ended : Ended D A (Vec O Global))
       (served : Served R G ghosts root entries count door source sink moment clock rig doors faults faults_after ended)
       → (after : Rig D A) × (ended.rig ≡ Some after)
       × ∥ LifeServed ghosts entries count door source sink moment (set_of served.opened) served.opens.opened.term (slots_of served.opened) rig.slots.items after.slots.items
-      (workers_in served.served) ∥₁
+      (workers_in served.served) [] ∥₁
 
   -- where the rig of such a run holds, and no lost drive failed while the store was opened, its term is new, and a history begins in each slot: the lanes stand for
   -- this as the slot is opened

@@ -1,5 +1,5 @@
 -- Data drives that several workers share.
-use Rattle.std.specs.Prelude.{◌≡◌, ◌⊎◌, ℕ, ◌<◌, false, All, List, Vec, length, map, slice_index_or}
+use Rattle.std.specs.Prelude.{◌≡◌, ◌⊎◌, ℕ, ◌<◌, false, All, List, [], Vec, length, map, slice_index_or}
 use Rattle.std.specs.Global.{Global}
 use Rattle.drive_base.specs.declared.drive.Drive.{Ghosts}
 
@@ -13,6 +13,10 @@ module _ {D : Type 0} (ghosts : Ghosts D) where
   abbrev pub AreShared : List D → Type 0
   AreShared drives = All IsShared drives
 
+  -- no call was made of a drive yet
+  abbrev pub IsUncalled : D → Type 0
+  IsUncalled drive = ghosts.trail drive ≡ []
+
   module _ {Root : Type 0} (root : D → Root) where
     -- each of these was shared, or is as it was, and leads to what it led to
     pub record EachShared (old new : List D) : Type 0 where
@@ -21,9 +25,10 @@ module _ {D : Type 0} (ghosts : Ghosts D) where
           → (slice_index_or new k d ≡ slice_index_or old k d) ⊎ IsShared (slice_index_or new k d)
       pub roots : map root new ≡ map root old
 
-    -- these are shared ways to the drives to which those lead, in their order
+    -- these are shared ways to the drives to which those lead, in their order, by which no call was made yet
     pub record LeadTo (drives ways : List D) : Type 0 where
       pub shared : AreShared ways
+      pub uncalled : All IsUncalled ways
       pub roots : map root ways ≡ map root drives
 
     -- a row of such ways

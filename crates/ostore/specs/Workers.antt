@@ -1,5 +1,5 @@
 -- Workers that serve the doors of one store beside one another.
-use Rattle.std.specs.Prelude.{◌≡◌, ◌⊎◌, ℕ, Bool, true, not, List, [], ◌∷◌, ◌++◌, All, Option, Vec, length, map, reverse}
+use Rattle.std.specs.Prelude.{◌≡◌, ◌⊎◌, ◌+◌, ℕ, Bool, true, not, List, [], ◌∷◌, ◌++◌, All, Option, Vec, length, map, reverse}
 use Rattle.std.specs.Global.{Global}
 use Rattle.std.specs.List.{AllByRecursion}
 use Rattle.audit_trail.specs.declared.entry.Entry.{Entry}
@@ -11,8 +11,8 @@ use Rattle.io_base.specs.declared.clock.Clock.{Ghosts as ClockGhosts}
 use Rattle.io_base.specs.declared.door.Door.{Ghosts as DoorGhosts}
 use Rattle.io_base.specs.declared.sink.Sink.{Ghosts as SinkGhosts}
 use Rattle.io_base.specs.declared.source.Source.{Ghosts as SourceGhosts}
-use Rattle.serve_loop.specs.Doors.{DoorView, IsServedOut, ServedSince, Sight, WorkBegan, door_view, sight, work_began}
-use Rattle.serve_loop.specs.Works.{began_of, door_of, pass_of}
+use Rattle.serve_loop.specs.Doors.{DoorView, IsServedOut, ServedSince, Sight, WorkBegan, capped, door_view, sight, work_began}
+use Rattle.serve_loop.specs.Works.{began_of, door_of, pass_of, starved_of}
 use Rattle.serve_loop.specs.declared.works.ServeWork.{ServeWork}
 use Rattle.store_shared.specs.Parting.{AreJoined, IsSplit}
 use Rattle.store_shared.specs.SharedAnswers.{SharedAnswers}
@@ -33,11 +33,12 @@ HasLength n row = length row.items ≡ n
 abbrev pub ways_of : {D : Type 0} → Vec D Global → List D
 ways_of row = row.items
 
--- a worker: what it was made with, and its pass and its door as they came back
+-- a worker: what it was made with, its pass and its door as they came back, and how many of its connections ended for want of memory
 pub record Worker (K C P O : Type 0) : Type 0 where
   pub began : WorkBegan K C P O
   pub pass : P
   pub door : O
+  pub starved : ℕ
 
 module _ {K C P O : Type 0} where
   abbrev pub begun_by : Worker K C P O → WorkBegan K C P O
@@ -53,6 +54,11 @@ module _ {K C P O : Type 0} where
   abbrev pub door_by : Worker K C P O → O
   door_by worker = worker.door
 
+  -- how many connections of all workers ended for want of memory, by the count of each
+  abbrev pub starved_in : List (Worker K C P O) → ℕ
+  starved_in [] = 0
+  starved_in (worker ∷ workers) = worker.starved + starved_in workers
+
   -- a worker has a pass and a door of this desk and clock, and did nothing yet
   abbrev pub IsPost : K → C → Worker K C P O → Type 0
   IsPost desk clock worker = worker.began ≡ work_began desk clock worker.pass worker.door
@@ -60,7 +66,7 @@ module _ {K C P O : Type 0} where
 module _ {R K O C P X S T : Type 0} {desk : DeskGhosts K P X} {door : DoorGhosts O S T} {source : SourceGhosts S} {sink : SinkGhosts T} {clock : ClockGhosts C} where
   -- the worker of a work
   abbrev pub worker_of : ServeWork R K O C P X S T desk door source sink clock → Worker K C P O
-  worker_of work = record { began = began_of work; pass = pass_of work; door = door_of work }
+  worker_of work = record { began = began_of work; pass = pass_of work; door = door_of work; starved = starved_of work }
 
   abbrev pub workers_of : List (ServeWork R K O C P X S T desk door source sink clock) → List (Worker K C P O)
   workers_of works = map worker_of works
@@ -112,8 +118,9 @@ module _ {O S T : Type 0} (door : DoorGhosts O S T) where
 
 module _ {D A O : Type 0} where
   -- there was no memory for the passes of all workers: those that were cut off are joined again, and no door was touched
-  pub record NotDealt (first whole : SharedPass D A) (doors doors_after : List O) (status faults faults_after : ℕ) : Type 0 where
+  pub record NotDealt (first whole : SharedPass D A) (doors doors_after : List O) (status starved faults faults_after : ℕ) : Type 0 where
     pub status_is : status ≡ out_of_memory
+    pub starved_is : starved ≡ 0
     pub passes : List (SharedPass D A)
     pub rest : SharedPass D A
     pub dealt : AreDealt first passes rest
@@ -125,14 +132,15 @@ module _ {D A O S T Root : Type 0} (ghosts : Ghosts D) (root : D → Root) (entr
     (sink : SinkGhosts T) (moment : Option ℕ) where
   -- how the ends of the connections of a door are seen
   abbrev pub sight_of : Sight S T
-  sight_of = sight source.left source.faults sink.given sink.faults
+  sight_of = sight source sink
 
   module _ {K C : Type 0} where
-    -- a worker served its door until it was over or failed: connections one after another, each a session over its pass, whose calls ran among those of the others
+    -- a worker served its door until it was over or failed: connections one after another, each a session over its pass, whose calls ran among those of the others.
+    -- It counts those that ended for want of memory
     pub record HasServed (worker : Worker K C (SharedPass D A) O) : Type 0 where
       pub out : IsServedOut (door.over worker.door) (door.faults worker.began.door) (door.faults worker.door)
       pub served : ∥ ServedSince (SharedAnswers ghosts entries count) moment sight_of shared_holds worker.began.pass worker.pass
-          (view_of door worker.began.door) (view_of door worker.door) ∥₁
+          (view_of door worker.began.door) (view_of door worker.door) worker.starved ∥₁
 
     -- works of these workers were done or left beside one another: those that were done have served, with what they were made with; those that were left are as
     -- they were, and counted
@@ -148,8 +156,9 @@ module _ {D A O S T Root : Type 0} (ghosts : Ghosts D) (root : D → Root) (entr
     HasWays drives worker = LeadTo ghosts root drives (drives_of (pass_by worker))
 
     -- doors were served by workers beside one another. Each worker got a pass that was cut off the first one, with ways of its own to the data drives, and a
-    -- door; those that could not be started are as they were, and counted, the others have served. All passes were joined then, and all doors are back
-    pub record WorkersServed (desk : K) (clock : C) (first whole : SharedPass D A) (doors doors_after : List O) (status faults faults_after : ℕ) : Type 0 where
+    -- door; those that could not be started are as they were, and counted, the others have served. All passes were joined then, and all doors are back. The
+    -- connections that ended for want of memory are counted over all that have served
+    pub record WorkersServed (desk : K) (clock : C) (first whole : SharedPass D A) (doors doors_after : List O) (status starved faults faults_after : ℕ) : Type 0 where
       pub posts : List (Worker K C (SharedPass D A) O)
       pub are_posts : All (IsPost desk clock) posts
       pub ways : All (HasWays (drives_of first)) posts
@@ -164,9 +173,10 @@ module _ {D A O S T Root : Type 0} (ghosts : Ghosts D) (root : D → Root) (entr
       pub united_too : AreUnited mid (map pass_by lefts) whole
       pub doors_back : doors_after ≡ reverse (map door_by dones) ++ reverse (map door_by lefts)
       pub ends : DoorsEnd door status dones lefts
+      pub starved_is : starved ≡ capped (starved_in dones)
 
     -- one or the other
-    abbrev pub DoorsServed : K → C → SharedPass D A → SharedPass D A → List O → List O → ℕ → ℕ → ℕ → Type 0
-    DoorsServed desk clock first whole doors doors_after status faults faults_after =
-        WorkersServed desk clock first whole doors doors_after status faults faults_after
-        ⊎ NotDealt first whole doors doors_after status faults faults_after
+    abbrev pub DoorsServed : K → C → SharedPass D A → SharedPass D A → List O → List O → ℕ → ℕ → ℕ → ℕ → Type 0
+    DoorsServed desk clock first whole doors doors_after status starved faults faults_after =
+        WorkersServed desk clock first whole doors doors_after status starved faults faults_after
+        ⊎ NotDealt first whole doors doors_after status starved faults faults_after

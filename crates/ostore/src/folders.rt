@@ -8,7 +8,7 @@ use crate::opening::SLOTS;
 use crate::rig::Rig;
 use audit_trail::NullAudit;
 use drive_base::SetPlan;
-use drive_file::{FileDrive, RootLock};
+use drive_file::{FileDrive, RootLock, SystemFolder};
 use itoa::Buffer;
 use slot_core::SlotParts;
 use std::alloc::AllocError;
@@ -30,7 +30,7 @@ pub fn file_rig<R: Files + AllocGlobal + Clone + Drop>(
     set: SetPlan,
     root: &str,
     is_locked: bool,
-) -> Result<Rig<FileDrive<R>, NullAudit>, AllocError>
+) -> Result<Rig<FileDrive<SystemFolder<R>>, NullAudit>, AllocError>
     ensures rig { IfOk result (λ rig. IsRigOf set rig) }
     ensures locked { IfOk result (λ rig. RigFailsUnlocked is_locked rig) }
 {
@@ -48,7 +48,7 @@ fn file_slots<R: Files + AllocGlobal + Clone + Drop>(
     drives: u8,
     root: &str,
     is_locked: bool,
-) -> Result<Vec<SlotParts<FileDrive<R>, NullAudit>>, AllocError>
+) -> Result<Vec<SlotParts<FileDrive<SystemFolder<R>>, NullAudit>>, AllocError>
     ensures count { IfOk result (λ slots. length slots.items ≡ 64) }
     ensures lanes { IfOk result (λ slots. All (HasLanes drives) slots.items) }
     ensures locked { IfOk result (λ slots. All (LanesFailUnlocked is_locked) slots.items) }
@@ -68,7 +68,7 @@ pub(crate) fn slot_parts<R: Files + AllocGlobal + Clone + Drop>(
     root: &str,
     slot: usize,
     is_locked: bool,
-) -> Result<SlotParts<FileDrive<R>, NullAudit>, AllocError>
+) -> Result<SlotParts<FileDrive<SystemFolder<R>>, NullAudit>, AllocError>
     ensures lanes { IfOk result (λ parts. HasLanes drives parts) }
     ensures locked { IfOk result (λ parts. LanesFailUnlocked is_locked parts) }
 {
@@ -112,13 +112,14 @@ fn row<R: Files + AllocGlobal + Clone + Drop>(
     root: &str,
     name: &str,
     is_locked: bool,
-) -> Result<Vec<FileDrive<R>>, AllocError>
+) -> Result<Vec<FileDrive<SystemFolder<R>>>, AllocError>
     ensures count { IfOk result (λ row. length row.items ≡ drives) }
     ensures locked { IfOk result (λ row. All (FailsUnlocked is_locked) row.items) }
 {
     let mut row = Vec::with_capacity(rt.alloc(), usize::from(drives))?;
     for index in 0..usize::from(drives) {
-        row.push(drive_of_row(rt, root, index, name, is_locked)?)?;
+        let drive = drive_of_row(rt, root, index, name, is_locked)?;
+        row.push(drive)?;
     }
     Ok(row)
 }
@@ -130,7 +131,7 @@ pub(crate) fn drive_of_row<R: Files + AllocGlobal + Clone + Drop>(
     index: usize,
     name: &str,
     is_locked: bool,
-) -> Result<FileDrive<R>, AllocError>
+) -> Result<FileDrive<SystemFolder<R>>, AllocError>
     ensures { IfOk result (λ drive. FailsUnlocked is_locked drive) }
 {
     let mut path = drive_folder(rt, root, index)?;
@@ -144,13 +145,13 @@ fn drive<R: Files + AllocGlobal + Clone + Drop>(
     rt: &R,
     path: &str,
     is_locked: bool,
-) -> Result<FileDrive<R>, AllocError>
+) -> Result<FileDrive<SystemFolder<R>>, AllocError>
     ensures { IfOk result (λ drive. FailsUnlocked is_locked drive) }
 {
     if is_locked {
-        if let Ok(drive) = FileDrive::open(rt.clone()?, rt.alloc(), path) {
+        if let Ok(drive) = FileDrive::open(SystemFolder::new(rt.clone()?), rt.alloc(), path) {
             return Ok(drive);
         }
     }
-    Ok(FileDrive::closed(rt.clone()?, rt.alloc()))
+    Ok(FileDrive::closed(SystemFolder::new(rt.clone()?), rt.alloc()))
 }

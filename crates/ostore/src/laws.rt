@@ -12,7 +12,7 @@ use drive_file::Share;
 use io_base::{Clock, Door};
 use op_steps::{calls_law, requests_law};
 use slot_core::open_law;
-use store_shared::{answers_law, opened_law, pass_law, sections_law};
+use store_shared::{answers_law, opened_law, pass_law, sections_law, trails_law};
 
 /// A slot that was opened, went on by a log and was closed went through that run. It does nothing.
 pub fn slot_law<D: Drive, A: Audit>()
@@ -21,13 +21,15 @@ pub fn slot_law<D: Drive, A: Audit>()
     open_law::<D, A>();
 }
 
-/// Over any connection histories run, and data holds on. It does nothing.
+/// Over any connection histories run, and data holds on. Of each data drive the calls in the logs of the connection, one log behind another, and what their
+/// sections read, were made in this order and with these answers, and no others. It does nothing.
 pub fn connection_law<D: Drive, A: Audit>()
     ensures { ConnectionsPipe D.Drive A.entries A.count }
 {
     calls_law::<D>();
     pass_law::<D, A>();
     answers_law::<D, A>();
+    trails_law::<D, A>();
     slot_law::<D, A>();
 }
 
@@ -46,11 +48,13 @@ pub fn life_law<D: Drive, A: Audit>()
 
 /// Each run of `serve` over an open store hands its rig back, and was a life of each slot: the sections of the calls of all workers, in the order of their turns, follow one another
 /// from the slot as it was opened to the slot as it was closed. Its audit has got the entry of the opening and theirs and no others, and where its lanes stood for
-/// something they stand for what these entries lead to. It does nothing.
+/// something they stand for what these entries lead to. By the ways of each worker to the data drives the calls were made that the logs of its own calls name,
+/// one log behind another, and what their sections read, and no others, from the first call of each way on. It does nothing.
 pub fn served_law<R, D: Share, A: Audit, C: Clock, O: Door, G: Gate>()
     ensures { ServesLives R G C D.Drive D.root A.entries A.count O.Door O.In.Source O.Out.Sink }
 {
     sections_law::<D, A>();
+    trails_law::<D, A>();
     slot_law::<D, A>();
 }
 

@@ -7,11 +7,13 @@
 //! drives have for formats. `statuses` has the exit statuses.
 #![tactic(auto)]
 
-ghost use Rattle.std.specs.Prelude.{◌≡◌, ◌≤◌, IfOk, length};
+ghost use Rattle.std.specs.Prelude.{◌≡◌, ◌≢◌, ◌≤◌, IfOk, None, length};
 ghost use Rattle.ostore.specs.Locked.{RigFailsUnlocked};
-ghost use Rattle.ostore.specs.Program.{Fits};
+ghost use Rattle.ostore.specs.Program.{EndsWith, Fits};
 ghost use Rattle.ostore.specs.Rigs.{IsRigOf};
 ghost use Rattle.command_line.specs.Words.{Says};
+ghost use Rattle.command_line.specs.declared.plan.Command.TheVariants.{Serve};
+ghost use Rattle.serve_loop.specs.Seen.{wires_of};
 
 mod dealing;
 mod document;
@@ -38,11 +40,11 @@ mod workers;
 use audit_trail::{Audit, NullAudit};
 use command_line::{Command, Plan, Usage, plan_of};
 use drive_base::Drive;
-use drive_file::FileDrive;
+use drive_file::{FileDrive, SystemFolder};
 use folders::{file_rig, root_lock};
 use io_base::{Sink, Source, Spawner, StdSink, StdSource, SystemClock, TcpDoor, TcpLimits};
 use memory::memory_rig;
-use notices::{tell_in_memory, tell_listening, tell_usage};
+use notices::{tell_in_memory, tell_listening, tell_starved, tell_usage};
 use openers::file_rig_beside;
 use program::run_alone;
 use rig::Rig;
@@ -134,7 +136,7 @@ fn folder_rig<R: Files + AllocGlobal + Threads + Clone + Drop + Send + Sync>(
     plan: &Plan,
     root: &str,
     is_locked: bool,
-) -> Result<Rig<FileDrive<R>, NullAudit>, AllocError>
+) -> Result<Rig<FileDrive<SystemFolder<R>>, NullAudit>, AllocError>
 where
     R::File: Send,
     R::Dir: Send,
@@ -167,6 +169,8 @@ fn run_over<
 >(rt: &R, words: &[String], plan: &Plan, source: S, sink: &mut K, rig: Rig<D, A>) -> u8
     requires says { Says words.now plan.now }
     requires fits { Fits words.now rig }
+    ensures alone { plan.now.command ≢ Serve → EndsWith D.Drive A.entries A.count plan.now.command None rig (wires_of S.Source K.Sink source sink.old)
+        (λ left. wires_of S.Source K.Sink left sink.new) result }
 {
     let clock = SystemClock::new(*rt);
     let Command::Serve = plan.command else {
@@ -184,9 +188,9 @@ fn run_over<
         return READ_FAULT;
     }
     let mut spawner = Spawner::Threads;
-    run(rt, words, source, sink, rig, &clock, doors, &mut spawner)
-        .ended
-        .status
+    let ended = run(rt, words, source, sink, rig, &clock, doors, &mut spawner).ended;
+    tell_starved(rt, ended.starved);
+    ended.status
 }
 
 /// A door for each worker, all at one address. Where it can't be listened at, each of them fails.

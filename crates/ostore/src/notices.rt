@@ -66,3 +66,16 @@ pub fn tell_listening<R: Clock + Eprint + Copy + Send>(rt: &R, door: &TcpDoor<R>
         None => eprintln!(rt; "ostore: can't listen on {listen}"),
     };
 }
+
+/// Says how many connections ended for want of memory, where some did.
+pub fn tell_starved<R: Eprint>(rt: &R, starved: u64) {
+    if starved == 0 {
+        return;
+    }
+    let noun = if starved == 1 {
+        "connection"
+    } else {
+        "connections"
+    };
+    let _ = eprintln!(rt; "ostore: {starved} {noun} ended for want of memory");
+}

@@ -9,7 +9,7 @@ use crate::opening::SLOTS;
 use crate::rig::Rig;
 use audit_trail::NullAudit;
 use drive_base::SetPlan;
-use drive_file::FileDrive;
+use drive_file::{FileDrive, SystemFolder};
 use slot_core::SlotParts;
 use std::alloc::{AllocError, Global};
 use std::rt::Files;
@@ -23,7 +23,7 @@ pub fn file_rig_beside<R: Files + AllocGlobal + Threads + Clone + Drop + Send + 
     set: SetPlan,
     root: &str,
     is_locked: bool,
-) -> Result<Rig<FileDrive<R>, NullAudit>, AllocError>
+) -> Result<Rig<FileDrive<SystemFolder<R>>, NullAudit>, AllocError>
 where
     R::File: Send,
     R::Dir: Send,
@@ -48,7 +48,7 @@ fn slots_beside<R: Files + AllocGlobal + Threads + Clone + Drop + Send + Sync>(
     drives: u8,
     root: &str,
     is_locked: bool,
-) -> Result<Vec<SlotParts<FileDrive<R>, NullAudit>>, AllocError>
+) -> Result<Vec<SlotParts<FileDrive<SystemFolder<R>>, NullAudit>>, AllocError>
 where
     R::File: Send,
     R::Dir: Send,
@@ -71,7 +71,7 @@ fn disks_beside<R: Files + AllocGlobal + Threads + Clone + Drop + Send + Sync>(
     drives: u8,
     root: &str,
     is_locked: bool,
-) -> Result<Vec<FileDrive<R>>, AllocError>
+) -> Result<Vec<FileDrive<SystemFolder<R>>>, AllocError>
 where
     R::File: Send,
     R::Dir: Send,

@@ -5,7 +5,7 @@ ghost use Rattle.ostore.specs.Logs.{desk_answers};
 ghost use Rattle.ostore.specs.Rigs.{IsRigOf};
 ghost use Rattle.ostore.specs.Running.{Pipes};
 ghost use Rattle.ostore.specs.Statuses.{refusal_status};
-ghost use Rattle.serve_loop.specs.Deeds.{wires};
+ghost use Rattle.serve_loop.specs.Seen.{wires_of};
 ghost use Rattle.serve_loop.specs.Session.{Session};
 ghost use Rattle.store_shared.specs.Passes.{disks_of, set_of, slots_of};
 
@@ -42,8 +42,8 @@ pub fn pipe<R: Eprint, S: Source + Drop, K: Sink, D: Drive, A: Audit, C: Clock>(
 ) -> Finished<D, A, S>
     requires fits { IsRigOf rig.set rig }
     ensures { Pipes D.Drive A.entries A.count (C.moment clock.now) rig result.ended
-        (wires (S.left source) (K.given sink.old) (S.faults source) (K.faults sink.old))
-        (wires (S.left result.source) (K.given sink.new) (S.faults result.source) (K.faults sink.new)) }
+        (wires_of S.Source K.Sink source sink.old)
+        (wires_of S.Source K.Sink result.source sink.new) }
 {
     connection_law::<D, A>();
     match open(alloc, rig) {
@@ -80,12 +80,14 @@ fn shut<D: Drive, A: Audit>(back: Shut<D, A>) -> Ended<D, A, ()>
     ensures rig { result.rig ≡ Some back.rig }
     ensures opening { result.opening ≡ Some back.why }
     ensures line { result.line ≡ None }
+    ensures starved { result.starved ≡ 0 }
 {
     Ended {
         status: status_of_refusal(&back.why),
         rig: Some(back.rig),
         opening: Some(back.why),
         line: None,
+        starved: 0,
         door: (),
     }
 }
@@ -100,8 +102,8 @@ fn connection<R: Eprint, S: Source + Drop, K: Sink, D: Drive, A: Audit, C: Clock
     clock: &C,
 ) -> Served<S>
     ensures { Session (desk_answers D.Drive A.entries A.count) (C.moment clock.now) pass.old pass.new result.end
-        (wires (S.left source) (K.given sink.old) (S.faults source) (K.faults sink.old))
-        (wires (S.left result.source) (K.given sink.new) (S.faults result.source) (K.faults sink.new)) }
+        (wires_of S.Source K.Sink source sink.old)
+        (wires_of S.Source K.Sink result.source sink.new) }
 {
     let desk: PlainDesk<D, A> = PlainDesk::new();
     serve_connection(rt, alloc, &desk, pass, source, sink, clock)

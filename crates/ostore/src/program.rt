@@ -4,7 +4,7 @@ ghost use Rattle.ostore.specs.Program.{Does, EndsUndone, Fits, SaysNothing};
 ghost use Rattle.ostore.specs.Rigs.{IsRigOf};
 ghost use Rattle.command_line.specs.Words.{Says};
 ghost use Rattle.command_line.specs.declared.plan.Plan.{Plan as CommandLine};
-ghost use Rattle.serve_loop.specs.Deeds.{wires};
+ghost use Rattle.serve_loop.specs.Seen.{wires_of};
 
 use crate::piping::{Finished, pipe};
 use crate::rig::{Ended, Rig};
@@ -28,11 +28,11 @@ pub fn run_alone<R: AllocGlobal + Eprint, S: Source + Drop, K: Sink, D: Drive, A
 ) -> Finished<D, A, S>
     requires fits { Fits words.now rig }
     ensures usage { SaysNothing words.now → EndsUndone D.Drive A.entries A.count rig result.ended
-        (wires (S.left source) (K.given sink.old) (S.faults source) (K.faults sink.old))
-        (wires (S.left result.source) (K.given sink.new) (S.faults result.source) (K.faults sink.new)) }
+        (wires_of S.Source K.Sink source sink.old)
+        (wires_of S.Source K.Sink result.source sink.new) }
     ensures does { (plan : CommandLine) → Says words.now plan → Does D.Drive A.entries A.count plan.command (C.moment clock.now) rig result.ended
-        (wires (S.left source) (K.given sink.old) (S.faults source) (K.faults sink.old))
-        (wires (S.left result.source) (K.given sink.new) (S.faults result.source) (K.faults sink.new)) }
+        (wires_of S.Source K.Sink source sink.old)
+        (wires_of S.Source K.Sink result.source sink.new) }
 {
     let alloc = rt.alloc();
     match plan_of(alloc, words) {
@@ -60,8 +60,8 @@ pub fn run_command<R: Eprint, S: Source + Drop, K: Sink, D: Drive, A: Audit, C: 
 ) -> Finished<D, A, S>
     requires fits { IsRigOf rig.set rig }
     ensures { Does D.Drive A.entries A.count command (C.moment clock.now) rig result.ended
-        (wires (S.left source) (K.given sink.old) (S.faults source) (K.faults sink.old))
-        (wires (S.left result.source) (K.given sink.new) (S.faults result.source) (K.faults sink.new)) }
+        (wires_of S.Source K.Sink source sink.old)
+        (wires_of S.Source K.Sink result.source sink.new) }
 {
     match command {
         Command::Pipe => pipe(rt, alloc, source, sink, rig, clock),

@@ -51,6 +51,8 @@ pub struct Ended<D, A, O> {
     pub opening: Option<OpenRefusal>,
     /// The number of the line that is none of a script, with status 7.
     pub line: Option<u64>,
+    /// How many connections ended for want of memory.
+    pub starved: u64,
     /// The door.
     pub door: O,
 }
@@ -62,12 +64,14 @@ impl<D, A> Ended<D, A, ()> {
         ensures rig { result.rig ≡ Some rig }
         ensures opening { result.opening ≡ None }
         ensures line { result.line ≡ None }
+        ensures starved { result.starved ≡ 0 }
     {
         Ended {
             status,
             rig: Some(rig),
             opening: None,
             line: None,
+            starved: 0,
             door: (),
         }
     }

@@ -8,7 +8,7 @@ ghost use Rattle.ostore.specs.ServedLife.{ServesBegin, ServesLives};
 ghost use Rattle.ostore.specs.declared.gate.NoGate.{NoGate};
 ghost use Rattle.command_line.specs.Words.{Says};
 ghost use Rattle.command_line.specs.declared.plan.Plan.{Plan as CommandLine};
-ghost use Rattle.serve_loop.specs.Deeds.{wires};
+ghost use Rattle.serve_loop.specs.Seen.{wires_of};
 ghost use Rattle.turn_lock.specs.declared.lock.TheConstants.{ALL_PARTS};
 
 use crate::gate::NoGate;
@@ -58,11 +58,11 @@ pub fn run<
     requires fits { Fits words.now rig }
     requires few { length doors.items < ALL_PARTS }
     ensures usage { SaysNothing words.now → AllUndone R NoGate D.Drive D.root A.entries A.count O.Door O.In.Source O.Out.Sink (C.moment clock.now) clock.now rig doors.items (spawner_faults spawner.old) (spawner_faults spawner.new) result.ended
-        (wires (S.left source) (K.given sink.old) (S.faults source) (K.faults sink.old))
-        (wires (S.left result.source) (K.given sink.new) (S.faults result.source) (K.faults sink.new)) }
+        (wires_of S.Source K.Sink source sink.old)
+        (wires_of S.Source K.Sink result.source sink.new) }
     ensures does { (plan : CommandLine) → Says words.now plan → DoesAll R NoGate D.Drive D.root A.entries A.count O.Door O.In.Source O.Out.Sink (C.moment clock.now) clock.now plan.command rig doors.items (spawner_faults spawner.old) (spawner_faults spawner.new) result.ended
-        (wires (S.left source) (K.given sink.old) (S.faults source) (K.faults sink.old))
-        (wires (S.left result.source) (K.given sink.new) (S.faults result.source) (K.faults sink.new)) }
+        (wires_of S.Source K.Sink source sink.old)
+        (wires_of S.Source K.Sink result.source sink.new) }
     ensures begins { ServesBegin R NoGate C D.Drive D.root A.entries A.count O.Door O.In.Source O.Out.Sink }
     ensures lives { ServesLives R NoGate C D.Drive D.root A.entries A.count O.Door O.In.Source O.Out.Sink }
 {
@@ -91,6 +91,7 @@ fn undone<D, A, S, O>(status: u8, rig: Rig<D, A>, source: S, doors: Vec<O>) -> R
     ensures rig { result.ended.rig ≡ Some rig }
     ensures opening { result.ended.opening ≡ None }
     ensures line { result.ended.line ≡ None }
+    ensures starved { result.ended.starved ≡ 0 }
     ensures doors { result.ended.door ≡ doors }
     ensures source { result.source ≡ source }
 {
@@ -115,6 +116,7 @@ fn with_doors<D, A, S, O>(finished: Finished<D, A, S>, doors: Vec<O>) -> Ran<D, 
         rig,
         opening,
         line,
+        starved,
         door: _,
     } = ended;
     Ran {
@@ -123,6 +125,7 @@ fn with_doors<D, A, S, O>(finished: Finished<D, A, S>, doors: Vec<O>) -> Ran<D, 
             rig,
             opening,
             line,
+            starved,
             door: doors,
         },
         source,

@@ -69,6 +69,8 @@ struct StoreEnd<D, A, O> {
     parts: Option<PassParts<D, A>>,
     /// The exit status.
     status: u8,
+    /// How many connections ended for want of memory.
+    starved: u64,
     /// The doors.
     doors: Vec<O>,
 }
@@ -81,6 +83,7 @@ fn ended<D: Drive + Drop, A: Audit + Drop, O>(
     requires away { IsAway away }
     requires store { IfSome end.parts (λ parts. IsStore parts) }
     ensures status { result.status ≡ end.status }
+    ensures starved { result.starved ≡ end.starved }
     ensures doors { doors_in result ≡ end.doors.items }
     ensures opening { result.opening ≡ None }
     ensures line { result.line ≡ None }
@@ -89,6 +92,7 @@ fn ended<D: Drive + Drop, A: Audit + Drop, O>(
     let StoreEnd {
         parts,
         status,
+        starved,
         doors,
     } = end;
     let Some(parts) = parts else {
@@ -97,6 +101,7 @@ fn ended<D: Drive + Drop, A: Audit + Drop, O>(
             rig: None,
             opening: None,
             line: None,
+            starved,
             door: doors,
         };
     };
@@ -105,6 +110,7 @@ fn ended<D: Drive + Drop, A: Audit + Drop, O>(
         rig: Some(close(PlainPass::new(parts), away)),
         opening: None,
         line: None,
+        starved,
         door: doors,
     }
 }
@@ -112,6 +118,7 @@ fn ended<D: Drive + Drop, A: Audit + Drop, O>(
 /// The end of a run for which the store was not opened.
 fn shut<D: Drive, A: Audit, O>(back: Shut<D, A>, doors: Vec<O>) -> Ended<D, A, Vec<O>>
     ensures status { result.status ≡ refusal_status back.why }
+    ensures starved { result.starved ≡ 0 }
     ensures rig { result.rig ≡ Some back.rig }
     ensures opening { result.opening ≡ Some back.why }
     ensures line { result.line ≡ None }
@@ -122,6 +129,7 @@ fn shut<D: Drive, A: Audit, O>(back: Shut<D, A>, doors: Vec<O>) -> Ended<D, A, V
         rig: Some(back.rig),
         opening: Some(back.why),
         line: None,
+        starved: 0,
         door: doors,
     }
 }
@@ -168,11 +176,13 @@ fn serve_store<
 fn unserved<D, A, O>(parts: PassParts<D, A>, doors: Vec<O>) -> StoreEnd<D, A, O>
     ensures parts { result.parts ≡ Some parts }
     ensures status { result.status ≡ out_of_memory }
+    ensures starved { result.starved ≡ 0 }
     ensures doors { result.doors ≡ doors }
 {
     StoreEnd {
         parts: Some(parts),
         status: OUT_OF_MEMORY,
+        starved: 0,
         doors,
     }
 }
@@ -184,6 +194,8 @@ struct DoorsEnd<D, A, O> {
     whole: SharedPass<D, A>,
     /// The exit status.
     status: u8,
+    /// How many connections ended for want of memory.
+    starved: u64,
     /// The doors.
     doors: Vec<O>,
 }
@@ -195,23 +207,27 @@ fn close_desk<R: Drop, D: Drive + Drop, A: Audit + Drop, O: Drop, G: Drop>(
 ) -> StoreEnd<D, A, O>
     requires fits { FitsDesk desk (shared_holds end.whole) }
     ensures closed { IsDeskEnd desk end.whole end.status result.parts result.status }
+    ensures starved { result.starved ≡ end.starved }
     ensures store { IfSome result.parts (λ parts. IsStore parts) }
     ensures doors { result.doors ≡ end.doors }
 {
     let DoorsEnd {
         whole,
         status,
+        starved,
         doors,
     } = end;
     match desk.close(whole) {
         Ok(parts) => StoreEnd {
             parts: Some(parts),
             status,
+            starved,
             doors,
         },
         Err(_) => StoreEnd {
             parts: None,
             status: OUT_OF_MEMORY,
+            starved,
             doors,
         },
     }
@@ -240,7 +256,7 @@ fn serve_doors<
     requires few { length rows.items < ALL_PARTS }
     requires rows { All (IsRowTo D.Drive D.root (drives_of pass)) rows.items }
     requires count { length rows.items ≡ length doors.items }
-    ensures served { DoorsServed D.Drive D.root A.entries A.count O.Door O.In.Source O.Out.Sink (C.moment clock.now) desk.now clock.now pass result.whole doors.items result.doors.items result.status (spawner_faults spawner.old) (spawner_faults spawner.new) }
+    ensures served { DoorsServed D.Drive D.root A.entries A.count O.Door O.In.Source O.Out.Sink (C.moment clock.now) desk.now clock.now pass result.whole doors.items result.doors.items result.status result.starved (spawner_faults spawner.old) (spawner_faults spawner.new) }
     ensures fits { FitsDesk desk.now (shared_holds result.whole) }
 {
     let Dealt {
@@ -254,6 +270,7 @@ fn serve_doors<
         return DoorsEnd {
             whole: unite(desk, rest, passes),
             status: OUT_OF_MEMORY,
+            starved: 0,
             doors,
         };
     };
@@ -265,6 +282,7 @@ fn serve_doors<
     DoorsEnd {
         whole: left.whole,
         status: status_of_doors(done.has_failed, is_left),
+        starved: done.starved,
         doors,
     }
 }

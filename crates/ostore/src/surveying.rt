@@ -2,7 +2,9 @@
 
 ghost use Rattle.std.specs.Prelude.{◌≡◌, ℕ, List, Option, length};
 ghost use Rattle.drive_base.specs.View.{AllOnlyRead, views};
+ghost use Rattle.io_base.specs.Trail.{TakeCall};
 ghost use Rattle.serve_loop.specs.Deeds.{wires};
+ghost use Rattle.serve_loop.specs.Sending.{sink_view};
 ghost use Rattle.ostore.specs.Rigs.{HasOneRow};
 ghost use Rattle.ostore.specs.Surveying.{Surveyed, Tells};
 
@@ -22,9 +24,9 @@ pub fn status<K: Sink, D: Drive, A: Audit>(
     rig: Rig<D, A>,
 ) -> Ended<D, A, ()>
     requires { HasOneRow rig.set rig }
-    ensures { (left : Option (List ℕ)) (read_faults : ℕ) → Surveyed D.Drive rig result
-        (wires left (K.given sink.old) read_faults (K.faults sink.old))
-        (wires left (K.given sink.new) read_faults (K.faults sink.new)) }
+    ensures { (left : Option (List ℕ)) (takes : List TakeCall) (read_faults : ℕ) → Surveyed D.Drive rig result
+        (wires (record { left = left; takes = takes }) (sink_view K.Sink sink.old) read_faults (K.faults sink.old))
+        (wires (record { left = left; takes = takes }) (sink_view K.Sink sink.new) read_faults (K.faults sink.new)) }
 {
     let mut rig = rig;
     let set = rig.set;
@@ -36,7 +38,8 @@ pub fn status<K: Sink, D: Drive, A: Audit>(
 fn tell<K: Sink, D: Drive>(alloc: Global, sink: &mut K, set: SetPlan, disks: &mut [D]) -> u8
     requires { length disks.old ≡ set.drives }
     ensures only { AllOnlyRead (views D.Drive disks.old) (views D.Drive disks.new) }
-    ensures told { Tells set result (views D.Drive disks.old) (views D.Drive disks.new) (K.given sink.old) (K.given sink.new) (K.faults sink.old) (K.faults sink.new) }
+    ensures told { Tells set result (views D.Drive disks.old) (views D.Drive disks.new) (sink_view K.Sink sink.old) (sink_view K.Sink sink.new)
+        (K.faults sink.old) (K.faults sink.new) }
 {
     let Ok(survey) = survey(alloc, disks, set) else {
         return OUT_OF_MEMORY;

@@ -83,6 +83,7 @@ fn find<D: Drop>(ended: Ended<D, MemAudit, Vec<MemDoor>>) -> Found {
         rig,
         opening,
         line: _,
+        starved: _,
         door,
     } = ended;
     let entries = [entries_at(&rig, SLOTS[0]), entries_at(&rig, SLOTS[1])];

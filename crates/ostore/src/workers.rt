@@ -2,9 +2,10 @@
 
 ghost use Rattle.std.specs.Prelude.{◌≡◌, ◌+◌, ◌≤◌, ◌++◌, [], All, IsTrue, length, map, reverse, vec_capacity, vec_len};
 ghost use Rattle.std.specs.List.{AllByRecursion};
+ghost use Rattle.serve_loop.specs.Doors.{capped};
 ghost use Rattle.store_shared.specs.SharedPasses.{FitsDesk, shared_holds};
 ghost use Rattle.io_base.specs.Spawner.{spawner_faults};
-ghost use Rattle.ostore.specs.Workers.{AnyRose, AreUnited, FitsEach, IsOfDesk, IsPost, IsStill, WorksRan, door_by, pass_by, workers_of};
+ghost use Rattle.ostore.specs.Workers.{AnyRose, AreUnited, FitsEach, IsOfDesk, IsPost, IsStill, WorksRan, door_by, pass_by, starved_in, workers_of};
 
 use audit_trail::Audit;
 use desk_base::Gate;
@@ -81,13 +82,15 @@ pub fn run_each<
     spawner.run_all(rt, alloc, works)
 }
 
-/// A pass that those of workers were joined with, and whether the door of some worker failed.
+/// A pass that those of workers were joined with, whether the door of some worker failed, and what all workers count.
 #[derive(Drop)]
 pub struct TakenBack<D, A> {
     /// The pass.
     pub whole: SharedPass<D, A>,
     /// Whether a door failed.
     pub has_failed: bool,
+    /// How many connections of the workers ended for want of memory. The count stays at its greatest value.
+    pub starved: u64,
 }
 
 /// Takes works apart, the last one first: their passes are joined with one, and their doors put behind the others, for which there is room.
@@ -113,6 +116,7 @@ pub fn take_back<
     ensures doors { doors.new.items ≡ doors.old.items ++ reverse (map door_by (workers_of works.entry.items)) }
     ensures failed { IsTrue result.has_failed → AnyRose O.Door (workers_of works.entry.items) }
     ensures still { (IsTrue result.has_failed → ⊥) → AllByRecursion (IsStill O.Door) (workers_of works.entry.items) }
+    ensures starved { result.starved ≡ capped (starved_in (workers_of works.entry.items)) }
     ensures capacity { vec_capacity doors.new ≡ vec_capacity doors.old }
     ensures len { vec_len doors.new ≡ vec_len doors.old + vec_len works.entry }
 {
@@ -120,13 +124,19 @@ pub fn take_back<
     let mut works = works;
     let mut whole = pass;
     let mut has_failed = false;
+    let mut starved = 0u64;
     while let Some(work) = works.pop() {
         has_failed |= work.has_failed();
+        starved = starved.saturating_add(work.starved());
         let (other, door) = work.into_parts();
         let (joined, _) = desk.join(whole, other);
         whole = joined;
         doors.push_reserved(door);
     }
     works.destroy_empty();
-    TakenBack { whole, has_failed }
+    TakenBack {
+        whole,
+        has_failed,
+        starved,
+    }
 }

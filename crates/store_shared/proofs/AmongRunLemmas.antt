@@ -13,7 +13,7 @@ use Rattle.op_steps.specs.Notes.{notes_by}
 use Rattle.op_steps.specs.Store.{FeedSeen, any_effect}
 use Rattle.op_steps.proofs.RunLemmas.{notes_more}
 use Rattle.store_shared.specs.Among.{PassSeen, Reach, reach_of, without_slots}
-use Rattle.store_shared.specs.AmongSteps.{RanAmong, RanSoAmong, StepAmong, StepsSoAmong}
+use Rattle.store_shared.specs.AmongSteps.{RanAmong, RanSoAmong, StepAmong}
 use Rattle.store_shared.specs.Answers.{any_teller}
 use Rattle.store_shared.specs.Serving.{OnlyTold}
 use Rattle.store_shared.proofs.UnitLemmas.{step_any}
@@ -24,11 +24,11 @@ abbrev pub any_reach : {D A T : Type 0} → Reach D A T → Reach D A (Unit {0})
 any_reach reach = reach_of reach.passes reach.disks reach.claim reach.feed (any_teller reach.teller.faults)
 
 module _ {D A T : Type 0} (ghosts : Ghosts D) (entries : A → Option (List Entry)) (count : A → ℕ) (takes breaks : Effect T) (set : SetPlan) where
-  -- a log goes on by one step
-  among_more : (log : Log) (event : Event) (a b c : Reach D A T) → RanAmong ghosts entries count takes breaks set log a b
-      → StepAmong ghosts entries count takes breaks set event b c → RanAmong ghosts entries count takes breaks set (log ++ event ∷ []) a c
-  among_more [] event a b c same step = (c, subst (λ s. StepAmong ghosts entries count takes breaks set event s c) same step, refl)
-  among_more (first ∷ log) event a b c ran step = (ran.0, ran.1, among_more log event ran.0 b c ran.2 step)
+  -- a log leads on where another ends
+  among_join : (log more : Log) (old mid new : Reach D A T) → RanAmong ghosts entries count takes breaks set log old mid
+      → RanAmong ghosts entries count takes breaks set more mid new → RanAmong ghosts entries count takes breaks set (log ++ more) old new
+  among_join [] more old mid new same ran = subst (λ r. RanAmong ghosts entries count takes breaks set more r new) same ran
+  among_join (event ∷ log) more old mid new (next, step, led) ran = (next, step, among_join log more next mid new led ran)
 
   -- nothing was done
   pub among_none : (Old : Claim → Log → Type 0) (reach : Claim → Reach D A T) (stubs : List Stub)
@@ -36,19 +36,18 @@ module _ {D A T : Type 0} (ghosts : Ghosts D) (entries : A → Option (List Entr
   among_none Old reach stubs claim log holds =
       (claim, [], subst (λ l. Old claim l) (sym (append-nil log)) holds, refl, sym (append-nil (notes_by stubs)))
 
-  -- one step more was
+  -- more was done
   pub among_so_more : (Old Mid New : Claim → Log → Type 0) (old mid new : Claim → Reach D A T) (s t u : List Stub)
-      → RanSoAmong ghosts entries count takes breaks set Old Mid old mid s t → StepsSoAmong ghosts entries count takes breaks set Mid New mid new t u
+      → RanSoAmong ghosts entries count takes breaks set Old Mid old mid s t → RanSoAmong ghosts entries count takes breaks set Mid New mid new t u
       → RanSoAmong ghosts entries count takes breaks set Old New old new s u
-  among_so_more Old Mid New old mid new s t u ran steps claim log holds =
-      let one = ran claim log holds in
-      let two = steps one.0 (log ++ one.1) one.2 in
-      let event = two.1 in (
+  among_so_more Old Mid New old mid new s t u first second claim log holds =
+      let one = first claim log holds in
+      let two = second one.0 (log ++ one.1) one.2 in (
         two.0,
-        one.1 ++ event ∷ [],
-        subst (λ l. New two.0 l) (append_assoc log one.1 (event ∷ [])) two.2,
-        among_more one.1 event (old claim) (mid one.0) (new two.0) one.3 two.3,
-        notes_more one.1 event s t u one.4 two.4,
+        one.1 ++ two.1,
+        subst (λ l. New two.0 l) (append_assoc log one.1 two.1) two.2,
+        among_join one.1 two.1 (old claim) (mid one.0) (new two.0) one.3 two.3,
+        notes_more one.1 two.1 s t u one.4 two.4,
       )
 
   -- the feed and the teller go on by a log as in any store
@@ -62,7 +61,7 @@ module _ {D A T : Type 0} (ghosts : Ghosts D) (entries : A → Option (List Entr
       subst (λ w. WiresRan takes breaks log w (wires_in new)) (ap wires_in step.leaves) (among_wired log mid new ran)
   among_wired (BarredFrom k why ∷ log) old new (mid, step, ran) =
       subst (λ w. WiresRan takes breaks log w (wires_in new)) (ap wires_in step.leaves) (among_wired log mid new ran)
-  among_wired (Called k seen ∷ log) old new (mid, step, ran) =
+  among_wired (Called k made ∷ log) old new (mid, step, ran) =
       subst (λ w. WiresRan takes breaks log w (wires_in new)) (ap wires_of step.1.leaves) (among_wired log mid new ran)
   among_wired (Fed bytes cut ∷ log) old new (mid, step, ran) =
       (mid.feed, step.1.moves, subst (λ w. WiresRan takes breaks log w (wires_in new)) (ap wires_of step.1.leaves) (among_wired log mid new ran))
@@ -83,7 +82,7 @@ module _ {D A T : Type 0} (ghosts : Ghosts D) (entries : A → Option (List Entr
   }
   among_step_any (BarredFrom k why) old new step =
       record { was = step.was; now = step.now; is = step.is; bars = step.bars; leaves = ap any_reach step.leaves }
-  among_step_any (Called k seen) old new step = (step.0, step_any takes breaks ghosts set (Called k seen) (without_slots old) (without_slots new) step.1)
+  among_step_any (Called k made) old new step = (step.0, step_any takes breaks ghosts set (Called k made) (without_slots old) (without_slots new) step.1)
   among_step_any (Fed bytes cut) old new step = (step.0, step_any takes breaks ghosts set (Fed bytes cut) (without_slots old) (without_slots new) step.1)
   among_step_any (Told telling cut) old new step = (step.0, step_any takes breaks ghosts set (Told telling cut) (without_slots old) (without_slots new) step.1)
 
@@ -101,7 +100,7 @@ module _ {D A : Type 0} (ghosts : Ghosts D) (entries : A → Option (List Entry)
   told_among [] faults after told = ap (λ n. reach_of passes disks claim feed (any_teller n)) told
   told_among (Turned k made shown ∷ log) faults after told = absurd told
   told_among (BarredFrom k why ∷ log) faults after told = absurd told
-  told_among (Called k seen ∷ log) faults after told = absurd told
+  told_among (Called k made ∷ log) faults after told = absurd told
   told_among (Fed bytes cut ∷ log) faults after told = absurd told
   told_among (Told telling cut ∷ log) faults after (mid, moves, told) =
       (reach_of passes disks claim feed (any_teller mid), (refl, record { moves = moves; leaves = refl }), told_among log mid after told)

@@ -25,6 +25,7 @@ pub mod SectionLemmas
 pub mod ServeLemmas
 pub mod SharedLemmas
 pub mod TermLemmas
+pub mod TrailLemmas
 pub mod TurnedLemmas
 pub mod UnitLemmas
 pub mod WireLemmas

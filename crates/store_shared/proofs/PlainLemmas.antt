@@ -98,7 +98,7 @@ module _ {D : Type 0} (ghosts : Ghosts D) (set : SetPlan) (slots : List (SlotSee
   told_ran [] faults after told = ap (λ n. store_of slots disks claim feed (any_teller n)) told
   told_ran (Turned k made shown ∷ log) faults after told = absurd told
   told_ran (BarredFrom k why ∷ log) faults after told = absurd told
-  told_ran (Called k seen ∷ log) faults after told = absurd told
+  told_ran (Called k made ∷ log) faults after told = absurd told
   told_ran (Fed bytes cut ∷ log) faults after told = absurd told
   told_ran (Told telling cut ∷ log) faults after (mid, moves, told) =
       (store_of slots disks claim feed (any_teller mid), record { moves = moves; leaves = refl }, told_ran log mid after told)

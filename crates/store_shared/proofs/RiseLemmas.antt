@@ -89,7 +89,7 @@ module _ {D A T : Type 0} (ghosts : Ghosts D) (entries : A → Option (List Entr
       ∙ get_or-set_other old.passes slot k step.now d (λ e. other (sym e)) in
       subst (λ p. HasTurns ghosts entries count plan k log p (get_or new.passes k d)) mid_is rest) in
       record { turns = on.turns; has = on.has; rise = on.rise; of_log = on.of_log }
-  turns_rise (Called drive seen ∷ log) old new (mid, step, ran) inside =
+  turns_rise (Called drive made ∷ log) old new (mid, step, ran) inside =
       let on = subst (λ p. HasTurns ghosts entries count plan k log (get_or p k d) (get_or new.passes k d)) step.0
       (turns_rise log mid new ran (subst (λ p. k < length p) (sym step.0) inside)) in
       record { turns = on.turns; has = on.has; rise = on.rise; of_log = on.of_log }

@@ -32,7 +32,7 @@ module _ {T : Type 0} (takes breaks : Effect T) where
     step_any (Turned k made shown) old new step =
         record { was = step.was; now = step.now; is = step.is; disks = step.disks; moves = step.moves; leaves = ap unseen step.leaves }
     step_any (BarredFrom k why) old new step = record { was = step.was; is = step.is; cause = step.cause; leaves = ap unseen step.leaves }
-    step_any (Called k seen) old new step = record { moves = step.moves; leaves = ap unseen step.leaves }
+    step_any (Called k made) old new step = record { moves = step.moves; leaves = ap unseen step.leaves }
     step_any (Fed bytes cut) old new step = record { moves = step.moves; leaves = ap unseen step.leaves }
     step_any (Told telling cut) old new step =
         record { moves = tell_any telling cut old.teller new.teller step.moves; leaves = ap unseen step.leaves }

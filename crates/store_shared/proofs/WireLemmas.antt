@@ -1,8 +1,8 @@
 -- What a log does to the feed and the teller alone, and how their counts of faults move.
-use Rattle.std.proofs.Common.{◌≡◌, ◌<◌, ◌∙◌, ℕ, List, [], ◌∷◌, ◌++◌, length, Option, Some, None, append_assoc, ap, refl, subst, sym, arith}
+use Rattle.std.proofs.Common.{◌≡◌, ◌<◌, ◌∙◌, ℕ, List, [], ◌∷◌, ◌++◌, length, Option, Some, None, append_assoc, append-nil, ap, refl, subst, sym, arith}
 use Rattle.std.proofs.lemmas.List.{length-append}
-use Rattle.std.specs.Io.KnownBytes.{IsAtEnd, prepend_known}
-use Rattle.call_types.specs.Feeds.{FeedView, Gave}
+use Rattle.std.specs.Io.KnownBytes.{IsAtEnd, append_known, prepend_known}
+use Rattle.call_types.specs.Feeds.{FeedEnded, FeedView, Gave}
 use Rattle.call_types.specs.declared.feed.Cut.{Cut}
 use Rattle.call_types.specs.declared.feed.Cut.TheVariants as cut_of
 use Rattle.desk_base.specs.Telling.{Effect}
@@ -33,7 +33,7 @@ module _ {T : Type 0} (takes breaks : Effect T) where
   WiresRan [] old new = new ≡ old
   WiresRan (Turned k made shown ∷ log) old new = WiresRan log old new
   WiresRan (BarredFrom k why ∷ log) old new = WiresRan log old new
-  WiresRan (Called k seen ∷ log) old new = WiresRan log old new
+  WiresRan (Called k made ∷ log) old new = WiresRan log old new
   WiresRan (Fed bytes cut ∷ log) old new = (mid : FeedSeen) × FeedMoves bytes cut old.feed mid × WiresRan log (wires mid old.teller) new
   WiresRan (Told telling cut ∷ log) old new = (mid : TellerSeen T) × TellMoves takes breaks telling cut old.teller mid × WiresRan log (wires old.feed mid) new
 
@@ -45,7 +45,7 @@ module _ {T : Type 0} (takes breaks : Effect T) where
         subst (λ w. WiresRan log w (wires_of new)) (ap wires_of step.leaves) (wires_ran log mid new ran)
     wires_ran (BarredFrom k why ∷ log) old new (mid, step, ran) =
         subst (λ w. WiresRan log w (wires_of new)) (ap wires_of step.leaves) (wires_ran log mid new ran)
-    wires_ran (Called k seen ∷ log) old new (mid, step, ran) =
+    wires_ran (Called k made ∷ log) old new (mid, step, ran) =
         subst (λ w. WiresRan log w (wires_of new)) (ap wires_of step.leaves) (wires_ran log mid new ran)
     wires_ran (Fed bytes cut ∷ log) old new (mid, step, ran) =
         (mid.feed, step.moves, subst (λ w. WiresRan log w (wires_of new)) (ap wires_of step.leaves) (wires_ran log mid new ran))
@@ -57,7 +57,7 @@ module _ {T : Type 0} (takes breaks : Effect T) where
   ran_split [] more old new ran = (old, refl, ran)
   ran_split (Turned k made shown ∷ log) more old new ran = ran_split log more old new ran
   ran_split (BarredFrom k why ∷ log) more old new ran = ran_split log more old new ran
-  ran_split (Called k seen ∷ log) more old new ran = ran_split log more old new ran
+  ran_split (Called k made ∷ log) more old new ran = ran_split log more old new ran
   ran_split (Fed bytes cut ∷ log) more old new (mid, moves, ran) =
       let rest = ran_split log more (wires mid old.teller) new ran in
       (rest.0, (mid, moves, rest.1), rest.2)
@@ -78,14 +78,40 @@ at_end : (known : Option (List ℕ)) → IsAtEnd (prepend_known [] known) → Is
 at_end None done = done
 at_end (Some known) done = done
 
+-- what is known, and behind it nothing, or two lists of bytes
+append_none : (known : Option (List ℕ)) → known ≡ append_known known []
+append_none None = refl
+append_none (Some known) = ap Some (sym (append-nil known))
+
+append_twice : (known : Option (List ℕ)) (a b : List ℕ) → append_known (append_known known a) b ≡ append_known known (a ++ b)
+append_twice None a b = refl
+append_twice (Some known) a b = ap Some (append_assoc known a b)
+
 gave_none : (feed : FeedView) → Gave [] feed feed
-gave_none feed = record { stated = refl; given = omega arith; left = prepend_none feed.left }
+gave_none feed = record {
+  stated = refl;
+  given = omega arith;
+  left = prepend_none feed.left;
+  taken = append_none feed.taken;
+  ended = λ none ended. ended;
+}
+
+-- where two lists of bytes are none together, each is none
+front_none : (a b : List ℕ) → a ++ b ≡ [] → a ≡ []
+front_none [] b none = refl
+front_none (byte ∷ a) b none = cc
+
+back_none : (a b : List ℕ) → a ++ b ≡ [] → b ≡ []
+back_none [] b none = none
+back_none (byte ∷ a) b none = cc
 
 gave_more : (a b : List ℕ) (old mid new : FeedView) → Gave a old mid → Gave b mid new → Gave (a ++ b) old new
 gave_more a b old mid new one two = record {
   stated = two.stated ∙ one.stated;
   given = let first = one.given in let second = two.given in let joined = length-append a b in omega (arith, first, second, joined);
   left = one.left ∙ (ap (prepend_known a) two.left ∙ prepend_twice a b new.left);
+  taken = two.taken ∙ (ap (λ known. append_known known b) one.taken ∙ append_twice old.taken a b);
+  ended = λ none ended. two.ended (back_none a b none) (one.ended (front_none a b none) ended);
 }
 
 module _ {T : Type 0} (takes breaks : Effect T) where
@@ -94,7 +120,7 @@ module _ {T : Type 0} (takes breaks : Effect T) where
   gave_all [] old new ran = subst (λ (w : Wires T). Gave [] old.feed.view w.feed.view) (sym ran) (gave_none old.feed.view)
   gave_all (Turned k made shown ∷ log) old new ran = gave_all log old new ran
   gave_all (BarredFrom k why ∷ log) old new ran = gave_all log old new ran
-  gave_all (Called k seen ∷ log) old new ran = gave_all log old new ran
+  gave_all (Called k made ∷ log) old new ran = gave_all log old new ran
   gave_all (Fed bytes cut ∷ log) old new (mid, moves, ran) =
       gave_more bytes (body_of log) old.feed.view mid.view new.feed.view moves.gave (gave_all log (wires mid old.teller) new ran)
   gave_all (Told telling cut ∷ log) old new (mid, moves, ran) = gave_all log (wires old.feed mid) new ran
@@ -131,7 +157,7 @@ module _ {T : Type 0} (takes breaks : Effect T) where
   reads_stay [] old new ran none = ap (λ (w : Wires T). w.feed.faults) ran
   reads_stay (Turned k made shown ∷ log) old new ran none = reads_stay log old new ran none
   reads_stay (BarredFrom k why ∷ log) old new ran none = reads_stay log old new ran none
-  reads_stay (Called k seen ∷ log) old new ran none = reads_stay log old new ran none
+  reads_stay (Called k made ∷ log) old new ran none = reads_stay log old new ran none
   reads_stay (Fed bytes None ∷ log) old new (mid, moves, ran) none = reads_stay log (wires mid old.teller) new ran none ∙ moves.cause
   reads_stay (Fed bytes (Some cut_of.ReadFault) ∷ log) old new (mid, moves, ran) none = absurd none
   reads_stay (Fed bytes (Some (cut_of.BodyCut read stated)) ∷ log) old new (mid, moves, ran) none =
@@ -150,7 +176,7 @@ module _ {T : Type 0} (takes breaks : Effect T) where
   reads_rise [] old new ran one = absurd one
   reads_rise (Turned k made shown ∷ log) old new ran one = reads_rise log old new ran one
   reads_rise (BarredFrom k why ∷ log) old new ran one = reads_rise log old new ran one
-  reads_rise (Called k seen ∷ log) old new ran one = reads_rise log old new ran one
+  reads_rise (Called k made ∷ log) old new ran one = reads_rise log old new ran one
   reads_rise (Fed bytes None ∷ log) old new (mid, moves, ran) one =
       subst (λ n. Rose n new.feed.faults) moves.cause (reads_rise log (wires mid old.teller) new ran one)
   reads_rise (Fed bytes (Some cut_of.ReadFault) ∷ log) old new (mid, moves, ran) one =
@@ -167,14 +193,14 @@ module _ {T : Type 0} (takes breaks : Effect T) where
   reads_rise (Told telling (Some (cut_of.ShardCut whys)) ∷ log) old new (mid, moves, ran) one = absurd moves
   reads_rise (Told telling (Some cut_of.NoMemory) ∷ log) old new (mid, moves, ran) one = reads_rise log (wires old.feed mid) new ran one
 
--- a body ended, and bytes were given after
+-- a body met its end, and bytes were given after
 pub record EndedSo (read stated : ℕ) (new : FeedView) : Type 0 where
   pub mid : FeedView
   pub more : List ℕ
   pub read_is : read ≡ mid.given
   pub stated_is : stated ≡ mid.stated
   pub short : mid.given < mid.stated
-  pub at_end : IsAtEnd mid.left
+  pub at_end : FeedEnded mid
   pub gave : Gave more mid new
 
 module _ {T : Type 0} (takes breaks : Effect T) where
@@ -183,7 +209,7 @@ module _ {T : Type 0} (takes breaks : Effect T) where
   ended_so read stated [] old new ran one = absurd one
   ended_so read stated (Turned k made shown ∷ log) old new ran one = ended_so read stated log old new ran one
   ended_so read stated (BarredFrom k why ∷ log) old new ran one = ended_so read stated log old new ran one
-  ended_so read stated (Called k seen ∷ log) old new ran one = ended_so read stated log old new ran one
+  ended_so read stated (Called k made ∷ log) old new ran one = ended_so read stated log old new ran one
   ended_so read stated (Fed bytes None ∷ log) old new (mid, moves, ran) one = ended_so read stated log (wires mid old.teller) new ran one
   ended_so read stated (Fed bytes (Some cut_of.ReadFault) ∷ log) old new (mid, moves, ran) one = ended_so read stated log (wires mid old.teller) new ran one
   ended_so read stated (Fed bytes (Some (cut_of.BodyCut r s)) ∷ log) old new (mid, moves, ran) one = record {
@@ -212,7 +238,7 @@ none_long (byte ∷ bytes) long = absurd (omega (arith, long))
 
 -- where as many were read as were given, none were given after
 pub ends_there : (read stated : ℕ) (new : FeedView) → EndedSo read stated new → read ≡ new.given
-    → (read ≡ new.given) × (stated ≡ new.stated) × (new.given < new.stated) × IsAtEnd new.left
+    → (read ≡ new.given) × (stated ≡ new.stated) × (new.given < new.stated) × FeedEnded new
 ends_there read stated new x all =
     let is = x.read_is in
     let given = x.gave.given in
@@ -222,5 +248,8 @@ ends_there read stated new x all =
       all,
       x.stated_is ∙ sym stays,
       omega (arith, all, is, short, stays),
-      at_end new.left (subst (λ left. IsAtEnd left) (x.gave.left ∙ ap (λ bytes. prepend_known bytes new.left) none) x.at_end),
+      record {
+        left = at_end new.left (subst (λ left. IsAtEnd left) (x.gave.left ∙ ap (λ bytes. prepend_known bytes new.left) none) x.at_end.left);
+        ended = x.gave.ended none x.at_end.ended;
+      },
     )

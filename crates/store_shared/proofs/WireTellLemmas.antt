@@ -16,7 +16,7 @@ module _ {T : Type 0} (takes breaks : Effect T) where
   told_all [] old new ran none = sym (ap (λ (w : Wires T). w.teller.value) ran)
   told_all (Turned k made shown ∷ log) old new ran none = told_all log old new ran none
   told_all (BarredFrom k why ∷ log) old new ran none = told_all log old new ran none
-  told_all (Called k seen ∷ log) old new ran none = told_all log old new ran none
+  told_all (Called k made ∷ log) old new ran none = told_all log old new ran none
   told_all (Fed bytes None ∷ log) old new (mid, moves, ran) none = told_all log (wires mid old.teller) new ran none
   told_all (Fed bytes (Some cut_of.ReadFault) ∷ log) old new (mid, moves, ran) none = told_all log (wires mid old.teller) new ran none
   told_all (Fed bytes (Some (cut_of.BodyCut read stated)) ∷ log) old new (mid, moves, ran) none = told_all log (wires mid old.teller) new ran none
@@ -35,7 +35,7 @@ module _ {T : Type 0} (takes breaks : Effect T) where
   writes_stay [] old new ran none = ap (λ (w : Wires T). w.teller.faults) ran
   writes_stay (Turned k made shown ∷ log) old new ran none = writes_stay log old new ran none
   writes_stay (BarredFrom k why ∷ log) old new ran none = writes_stay log old new ran none
-  writes_stay (Called k seen ∷ log) old new ran none = writes_stay log old new ran none
+  writes_stay (Called k made ∷ log) old new ran none = writes_stay log old new ran none
   writes_stay (Fed bytes None ∷ log) old new (mid, moves, ran) none = writes_stay log (wires mid old.teller) new ran none
   writes_stay (Fed bytes (Some cut_of.ReadFault) ∷ log) old new (mid, moves, ran) none = writes_stay log (wires mid old.teller) new ran none
   writes_stay (Fed bytes (Some (cut_of.BodyCut read stated)) ∷ log) old new (mid, moves, ran) none = writes_stay log (wires mid old.teller) new ran none

@@ -63,7 +63,7 @@ module _ {D A T : Type 0} (ghosts : Ghosts D) (entries : A → Option (List Entr
   abbrev pub StepAmong : Event → Reach D A T → Reach D A T → Type 0
   StepAmong (Turned k note shown) old new = TurnsAmong ghosts entries count set k note shown old new
   StepAmong (BarredFrom k why) old new = IsBarredAmong k why old new
-  StepAmong (Called k seen) old new = StepsBeside ghosts takes breaks set (Called k seen) old new
+  StepAmong (Called k made) old new = StepsBeside ghosts takes breaks set (Called k made) old new
   StepAmong (Fed bytes cut) old new = StepsBeside ghosts takes breaks set (Fed bytes cut) old new
   StepAmong (Told telling cut) old new = StepsBeside ghosts takes breaks set (Told telling cut) old new
 
@@ -72,12 +72,7 @@ module _ {D A T : Type 0} (ghosts : Ghosts D) (entries : A → Option (List Entr
   RanAmong [] old new = new ≡ old
   RanAmong (event ∷ log) old new = (mid : Reach D A T) × StepAmong event old mid × RanAmong log mid new
 
-  -- one step of an op was done, and several were; what a call has is given by what it holds
-  abbrev pub StepsSoAmong : (Claim → Log → Type 0) → (Claim → Log → Type 0) → (Claim → Reach D A T) → (Claim → Reach D A T) → List Stub → List Stub → Type 0
-  StepsSoAmong Old New old new stubs_old stubs_new = (claim : Claim) (log : Log) → Old claim log
-      → (later : Claim) × (event : Event) × New later (log ++ event ∷ []) × StepAmong event (old claim) (new later)
-      × AddsNotes (event ∷ []) stubs_old stubs_new
-
+  -- steps of an op were done, none, one or more; what a call has is given by what it holds
   abbrev pub RanSoAmong : (Claim → Log → Type 0) → (Claim → Log → Type 0) → (Claim → Reach D A T) → (Claim → Reach D A T) → List Stub → List Stub → Type 0
   RanSoAmong Old New old new stubs_old stubs_new = (claim : Claim) (log : Log) → Old claim log
       → (later : Claim) × (more : Log) × New later (log ++ more) × RanAmong more (old claim) (new later) × AddsNotes more stubs_old stubs_new

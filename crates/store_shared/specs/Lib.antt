@@ -17,4 +17,5 @@ pub mod SharedAnswers
 pub mod SharedLaws
 pub mod SharedPaging
 pub mod SharedPasses
+pub mod Trails
 pub mod Turned

@@ -50,7 +50,7 @@ module _ {D A : Type 0} where
 abbrev pub turned_in : ℕ → Event → Log
 turned_in k (Turned slot note shown) = if nat_eq slot k then Turned slot note shown ∷ [] else []
 turned_in k (BarredFrom slot why) = []
-turned_in k (Called drive seen) = []
+turned_in k (Called drive made) = []
 turned_in k (Fed bytes cut) = []
 turned_in k (Told telling cut) = []
 

@@ -12,7 +12,7 @@ ghost use Rattle.op_steps.specs.declared.next.OpNext.TheVariants.{Done};
 ghost use Rattle.turn_lock.specs.Passes.{IsPassOf};
 ghost use Rattle.turn_lock.specs.declared.lock.TurnLock.{TurnLock};
 ghost use Rattle.store_shared.specs.Among.{IsPassAt, PassSeen, pass_seen, passes_seen, reach_of};
-ghost use Rattle.store_shared.specs.AmongSteps.{RanSoAmong, StepsSoAmong};
+ghost use Rattle.store_shared.specs.AmongSteps.{RanSoAmong};
 ghost use Rattle.store_shared.specs.SharedPasses.{AreOfLocks, locks_of, pass_holds, passes_hold, set_of_desk};
 ghost use Rattle.store_shared.specs.declared.turned.TurnedSlot.{TurnedSlot};
 
@@ -55,7 +55,7 @@ impl<R: Wait, D: Drive, A: Audit, G: Gate> SharedDesk<R, D, A, G> {
         ensures disks { length disks.new ≡ length disks.old }
         ensures holds { pass_holds result ≡ pass_holds own }
         ensures steps { (passes : List (PassSeen D A)) (feed : FeedSeen) (teller : TellerSeen T) → IsPassAt passes index (pass_seen own)
-            → StepsSoAmong D.Drive A.entries A.count T.takes T.breaks (O.set op.old) (O.stands op.old) (O.stands op.new)
+            → RanSoAmong D.Drive A.entries A.count T.takes T.breaks (O.set op.old) (O.stands op.old) (O.stands op.new)
             (λ claim. reach_of passes (views D.Drive disks.old) claim feed teller)
             (λ claim. reach_of (slice_set passes index (pass_seen result)) (views D.Drive disks.new) claim feed teller) stubs.old.items stubs.new.items }
     {
@@ -95,7 +95,7 @@ impl<R: Wait, D: Drive, A: Audit, G: Gate> SharedDesk<R, D, A, G> {
         ensures taken { O.taken op.new ≡ O.taken op.old }
         ensures disks { length disks.new ≡ length disks.old }
         ensures holds { passes_hold passes.new.items ≡ passes_hold passes.old.items }
-        ensures steps { (feed : FeedSeen) (teller : TellerSeen T) → StepsSoAmong D.Drive A.entries A.count T.takes T.breaks (O.set op.old)
+        ensures steps { (feed : FeedSeen) (teller : TellerSeen T) → RanSoAmong D.Drive A.entries A.count T.takes T.breaks (O.set op.old)
             (O.stands op.old) (O.stands op.new) (λ claim. reach_of (passes_seen passes.old.items) (views D.Drive disks.old) claim feed teller)
             (λ claim. reach_of (passes_seen passes.new.items) (views D.Drive disks.new) claim feed teller) stubs.old.items stubs.new.items }
     {
@@ -133,7 +133,7 @@ impl<R: Wait, D: Drive, A: Audit, G: Gate> SharedDesk<R, D, A, G> {
         ensures disks { length disks.new ≡ length disks.old }
         ensures holds { passes_hold passes.new.items ≡ passes_hold passes.old.items }
         ensures feed { IsFeedAt (O.task op.old) (O.taken op.new) (F.seen feed.new) }
-        ensures steps { StepsSoAmong D.Drive A.entries A.count T.takes T.breaks (O.set op.old) (O.stands op.old) (O.stands op.new)
+        ensures steps { RanSoAmong D.Drive A.entries A.count T.takes T.breaks (O.set op.old) (O.stands op.old) (O.stands op.new)
             (λ claim. reach_of (passes_seen passes.old.items) (views D.Drive disks.old) claim
             (record { view = F.seen feed.old; faults = F.faults feed.old }) (teller_of teller.old (T.faults teller.old)))
             (λ claim. reach_of (passes_seen passes.new.items) (views D.Drive disks.new) claim

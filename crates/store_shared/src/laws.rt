@@ -3,6 +3,7 @@
 ghost use Rattle.store_shared.specs.Laws.{AnswersAreCalls, PassesAreInOrder};
 ghost use Rattle.store_shared.specs.Sections.{AnswersHaveSections, SectionsLead};
 ghost use Rattle.store_shared.specs.SharedLaws.{FitIsFact, SharedAnswersHaveTurns};
+ghost use Rattle.store_shared.specs.Trails.{PlainAnswersHaveTrails, SharedAnswersHaveTrails};
 
 use audit_trail::Audit;
 use drive_base::Drive;
@@ -39,4 +40,11 @@ pub fn sections_law<D: Drive, A: Audit>()
 /// second. It does nothing.
 pub fn fits_law<R, D: Drive, A: Audit, G>()
     ensures { FitIsFact R D A G }
+{}
+
+/// Whatever a call answers, the drive calls of its log, and what its sections read, are the calls that were made of the data drives of its pass, and no others, each
+/// with what was answered. So it is of the ways of a shared pass, whatever other callers ask by theirs. It does nothing.
+pub fn trails_law<D: Drive, A: Audit>()
+    ensures plain { PlainAnswersHaveTrails D.Drive A.entries A.count }
+    ensures shared { SharedAnswersHaveTrails D.Drive A.entries A.count }
 {}

@@ -43,7 +43,7 @@ mod stubs;
 mod turned;
 mod turns;
 
-pub use laws::{answers_law, fits_law, pass_law, sections_law, shared_answers_law};
+pub use laws::{answers_law, fits_law, pass_law, sections_law, shared_answers_law, trails_law};
 pub use lives::opened_law;
 pub use opened::{NotOpened, StoreParts};
 pub use opening::open_all;

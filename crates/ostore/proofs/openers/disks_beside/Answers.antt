@@ -1,6 +1,9 @@
+use denote.Param.Send.{arg_send, param_send, sendable}
 use Rattle.std.proofs.Common.{◌∙◌, sym, ℕ, ◌<◌, slice_index_or, rules}
+use Rattle.std.proofs.Crossing.{crosses}
 use Rattle.std.specs.Prelude.{IfOk}
 use Rattle.ostore.proofs.HadLemmas.{all_had}
+use Rattle.ostore.proofs.WaySendLemmas.{folder_send, system_send}
 use Rattle.ostore.specs.Locked.{FailsUnlocked}
 use Rattle.ostore.proofs.openers.disks_beside.Goals as goal
 use Rattle.ostore.proofs.openers.disks_beside.Goals.{After-all_of}
@@ -11,3 +14,6 @@ each_fails g c i d within = let call = (c.in_ok-opened.ensures.each i d within).
 
 pub returns-clause-locked : goal.returns-clause-locked
 returns-clause-locked g c = all_had (FailsUnlocked c.args.is_locked) c.from.result c.in_ok-opened.opened.items c.all_of.result c.all_of.ensures (sym c.in_ok-opened.opened.ok.0 ∙ c.in_ok-opened.ensures.len) (each_fails g c)
+
+pub map_indices-requires-send-X : goal.map_indices-requires-send-X
+map_indices-requires-send-X g c κs within = search (param_send, arg_send, sendable, crosses, folder_send, system_send) depth 200 fits 200000

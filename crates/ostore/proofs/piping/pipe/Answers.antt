@@ -13,6 +13,7 @@ returns-in-Ok g c =
       c.with.ensures.rig,
       c.with.ensures.opening,
       c.with.ensures.line,
+      c.with.ensures.starved,
       c.with.ensures.status ∙ c.status_of.ensures,
       c.connection_law.ensures _ _ _ _ _ _ shop.parts c.announce-pass.result served.new.pass shop.are
           (open_again g.D.Drive g.A.Audit.entries g.A.Audit.count c.args.rig.set shop.parts c.in-Ok.shop.pass c.announce-pass.result c.announce-pass.ensures.set
@@ -27,6 +28,7 @@ returns-in-Err g c = inr (
   c.shut.ensures.rig,
   c.shut.ensures.opening,
   c.shut.ensures.line,
+  c.shut.ensures.starved,
   c.shut.ensures.status,
   c.in-Err.ensures,
   refl,

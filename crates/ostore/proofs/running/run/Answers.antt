@@ -1,7 +1,7 @@
 use Rattle.std.proofs.Common.{◌∙◌, Err, ap, sym}
 use Rattle.command_line.specs.declared.plan.Command.TheVariants.{Serve}
 use Rattle.io_base.specs.Spawner.{spawner_faults}
-use Rattle.serve_loop.specs.Deeds.{wires}
+use Rattle.serve_loop.specs.Seen.{wires_of}
 use Rattle.ostore.specs.declared.gate.NoGate.{NoGate}
 use Rattle.ostore.proofs.ProgramLemmas.{fits_itself, one_command}
 use Rattle.ostore.proofs.ServingLemmas.{does_all_as, done_alone, served_so}
@@ -22,18 +22,16 @@ pub returns-in-Ok : goal.returns-in-Ok
 returns-in-Ok g c = record {
   usage = λ nothing. absurd (nothing c.in-Ok.plan c.in-Ok.ensures.ok);
   does = λ plan says.
-      let before = wires (g.S.Source.left c.args.source) (g.K.Sink.given c.args.sink.now) (g.S.Source.faults c.args.source) (g.K.Sink.faults c.args.sink.now) in
+      let before = wires_of g.S.Source g.K.Sink c.args.source c.args.sink.now in
       let faults = spawner_faults c.args.spawner.now in
-      let after = wires (g.S.Source.left c.with_doors.result.source) (g.K.Sink.given c.run_command.new.sink) (g.S.Source.faults c.with_doors.result.source)
-      (g.K.Sink.faults c.run_command.new.sink) in
+      let after = wires_of g.S.Source g.K.Sink c.with_doors.result.source c.run_command.new.sink in
       does_all_as g.row.R.Denot NoGate g.D.Drive g.D.Share.root g.A.Audit.entries g.A.Audit.count g.O.Door g.O.In.Source g.O.Out.Sink
       (g.C.Clock.moment c.args.clock.now) c.args.clock.now c.in-Ok.plan.command plan.command c.args.rig c.args.doors.items faults faults c.with_doors.result.ended before after
       (one_command c.args.words.now c.in-Ok.plan plan c.in-Ok.ensures.ok says)
       (done_alone g.row.R.Denot NoGate g.D.Drive g.D.Share.root g.A.Audit.entries g.A.Audit.count g.O.Door g.O.In.Source g.O.Out.Sink
       (g.C.Clock.moment c.args.clock.now) c.args.clock.now c.in-Ok.plan.command c.in_default.not-Serve c.args.rig c.args.doors faults c.run_command.result.ended c.with_doors.result.ended before
-      (wires (g.S.Source.left c.run_command.result.source) (g.K.Sink.given c.run_command.new.sink) (g.S.Source.faults c.run_command.result.source)
-      (g.K.Sink.faults c.run_command.new.sink)) after c.with_doors.ensures.ended c.with_doors.ensures.doors
-      (ap (λ s. wires (g.S.Source.left s) (g.K.Sink.given c.run_command.new.sink) (g.S.Source.faults s) (g.K.Sink.faults c.run_command.new.sink))
+      (wires_of g.S.Source g.K.Sink c.run_command.result.source c.run_command.new.sink) after c.with_doors.ensures.ended c.with_doors.ensures.doors
+      (ap (λ s. wires_of g.S.Source g.K.Sink s c.run_command.new.sink)
       (sym c.with_doors.ensures.source))
       c.run_command.ensures);
   begins = c.begun_law.ensures;

@@ -12,6 +12,7 @@ use Rattle.ostore.proofs.serving.serve_doors.Goals as goal
 pub returns-in_default-clause-served : goal.returns-in_default-clause-served
 returns-in_default-clause-served g c = inr (record {
   status_is = refl;
+  starved_is = refl;
   passes = c.deal-rest.result.passes.items;
   rest = c.deal-rest.result.rest;
   dealt = c.deal-rest.ensures.dealt;
@@ -101,4 +102,5 @@ returns-clause-served g c =
           (some_left worker_of c.run_each-done.result.left c.is_empty-is_left.result c.is_empty-is_left.ensures)
           (none_left worker_of c.run_each-done.result.left c.is_empty-is_left.result c.is_empty-is_left.ensures)
           (λ k d below. (c.run_each-done.ensures.ran.served k d below).out);
+      starved_is = c.take_back-done.ensures.starved;
     })

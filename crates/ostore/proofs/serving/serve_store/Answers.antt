@@ -13,7 +13,7 @@ returns-then-is_err-clause-end g c =
     (shares_disks g.D.Drive g.D.Share.root c.args.parts _ c.as_mut_slice.result.now c.share_each.new.disks refl refl c.as_mut_slice.ensures.value
     (whole_slice c.share_each.new.disks c.args.parts.disks.items c.args.parts.disks.len (c.share_each.ensures.each.long ∙ c.as_mut_slice.ensures.len))
     c.share_each.ensures.each)
-    c.unserved.ensures.parts c.unserved.ensures.status c.unserved.ensures.doors
+    c.unserved.ensures.parts c.unserved.ensures.status c.unserved.ensures.starved c.unserved.ensures.doors
 
 pub returns-in_default-clause-end : goal.returns-in_default-clause-end
 returns-in_default-clause-end g c =
@@ -22,7 +22,7 @@ returns-in_default-clause-end g c =
     (shares_disks g.D.Drive g.D.Share.root c.args.parts _ c.as_mut_slice.result.now c.share_each.new.disks refl refl c.as_mut_slice.ensures.value
     (whole_slice c.share_each.new.disks c.args.parts.disks.items c.args.parts.disks.len (c.share_each.ensures.each.long ∙ c.as_mut_slice.ensures.len))
     c.share_each.ensures.each)
-    c.unserved-in_default.ensures.parts c.unserved-in_default.ensures.status c.unserved-in_default.ensures.doors
+    c.unserved-in_default.ensures.parts c.unserved-in_default.ensures.status c.unserved-in_default.ensures.starved c.unserved-in_default.ensures.doors
 
 pub serve_doors-end-requires-clause-rows : goal.serve_doors-end-requires-clause-rows
 serve_doors-end-requires-clause-rows g c κs within =
@@ -46,9 +46,11 @@ returns-in-Ok-clause-end g c =
       made = c.in-Ok.ensures.ok;
       whole = c.serve_doors-end.result.whole;
       status = c.serve_doors-end.result.status;
+      starved = c.serve_doors-end.result.starved;
+      starved_is = c.close_desk.ensures.starved;
       served = doors_come_back c.in-Ok.desk g.D.Drive g.D.Share.root g.A.Audit.entries g.A.Audit.count g.O.Door g.O.In.Source g.O.Out.Sink
           (g.C.Clock.moment c.args.clock.now) c.args.clock.now c.in-Ok.pass c.serve_doors-end.result.whole c.args.doors.items c.serve_doors-end.result.doors c.close_desk.result.doors
-          c.serve_doors-end.result.status (spawner_faults c.args.spawner.now) (spawner_faults c.serve_doors-end.new.spawner) (sym c.close_desk.ensures.doors)
+          c.serve_doors-end.result.status c.serve_doors-end.result.starved (spawner_faults c.args.spawner.now) (spawner_faults c.serve_doors-end.new.spawner) (sym c.close_desk.ensures.doors)
           c.serve_doors-end.ensures.served;
       closed = c.close_desk.ensures.closed;
     })
@@ -62,4 +64,4 @@ returns-in-Err-clause-end g c =
     (whole_slice c.share_each.new.disks c.args.parts.disks.items c.args.parts.disks.len (c.share_each.ensures.each.long ∙ c.as_mut_slice.ensures.len))
     c.share_each.ensures.each)
     c.in-Err.ensures.err.0)
-    c.unserved-in-Err.ensures.parts c.unserved-in-Err.ensures.status c.unserved-in-Err.ensures.doors
+    c.unserved-in-Err.ensures.parts c.unserved-in-Err.ensures.status c.unserved-in-Err.ensures.starved c.unserved-in-Err.ensures.doors

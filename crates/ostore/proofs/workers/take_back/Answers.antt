@@ -18,6 +18,7 @@ loop-work-init g c = record {
   back = sym (append-nil c.args.doors.now.items);
   failed = λ bad. absurd (false≢true bad);
   still = λ none. tt;
+  starved = refl;
   room = c.requires.room;
   capacity = refl;
   len = refl;
@@ -55,6 +56,7 @@ loop-work-preserved g c =
       failed = failed_more g.O.Door c.loop-work.has_failed c.has_failed-has_failed.result worker inv.gone inv.failed c.has_failed-has_failed.ensures.failed;
       still = still_more g.O.Door c.loop-work.has_failed c.has_failed-has_failed.result worker inv.gone inv.still
           (λ none. record { held = c.has_failed-has_failed.ensures.held none; faults = c.has_failed-has_failed.ensures.still none });
+      starved = omega (arith, c.saturating_add-starved.ensures, c.starved.ensures, inv.starved);
       room = omega (arith, c.push_reserved.ensures.len, c.push_reserved.ensures.capacity, c.in-Some.ensures.len, inv.room);
       capacity = c.push_reserved.ensures.capacity ∙ inv.capacity;
       len = omega (arith, c.push_reserved.ensures.len, c.in-Some.ensures.len, inv.len);

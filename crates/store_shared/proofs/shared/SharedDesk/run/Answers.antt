@@ -5,7 +5,7 @@ use Rattle.op_steps.specs.Store.{teller_of}
 use Rattle.op_steps.specs.declared.next.OpNext.TheVariants.{Done}
 use Rattle.receipts.specs.Paying.{Pays}
 use Rattle.store_shared.specs.Among.{passes_seen, reach_of}
-use Rattle.store_shared.specs.AmongSteps.{StepsSoAmong}
+use Rattle.store_shared.specs.AmongSteps.{RanSoAmong}
 use Rattle.store_shared.specs.SharedPasses.{AreOfLocks, locks_of}
 use Rattle.store_shared.proofs.AmongRunLemmas.{among_none, among_so_more}
 use Rattle.store_shared.proofs.PlaceLemmas.{holds_long}
@@ -53,7 +53,7 @@ loop-alloc-preserved g c =
       ran = among_so_more g.D.Drive g.A.Audit.entries g.A.Audit.count g.T.Teller.takes g.T.Teller.breaks (g.O.Op.set c.args.op.now)
           (g.O.Op.stands c.args.op.now) (g.O.Op.stands c.loop-alloc.op) (g.O.Op.stands c.take_step.new.op) _ _ _
           c.args.stubs.now.items c.loop-alloc.stubs.items c.take_step.new.stubs.items kept.ran
-          (subst (λ set. StepsSoAmong g.D.Drive g.A.Audit.entries g.A.Audit.count g.T.Teller.takes g.T.Teller.breaks set (g.O.Op.stands c.loop-alloc.op)
+          (subst (λ set. RanSoAmong g.D.Drive g.A.Audit.entries g.A.Audit.count g.T.Teller.takes g.T.Teller.breaks set (g.O.Op.stands c.loop-alloc.op)
           (g.O.Op.stands c.take_step.new.op)
           (λ claim. reach_of (passes_seen c.loop-alloc.passes.items) (views g.D.Drive c.loop-alloc.disks) claim
           (record { view = g.F.Feed.seen c.loop-alloc.feed; faults = g.F.Feed.faults c.loop-alloc.feed })

@@ -2,7 +2,7 @@ use Rattle.std.proofs.Common.{◌<◌, ◌∙◌, None, length, subst₂, sym, a
 use Rattle.std.proofs.lemmas.List.{length-map}
 use Rattle.drive_base.specs.View.{views}
 use Rattle.store_shared.specs.Among.{passes_seen, reach_of, seen_in}
-use Rattle.store_shared.specs.AmongSteps.{StepsSoAmong}
+use Rattle.store_shared.specs.AmongSteps.{RanSoAmong}
 use Rattle.store_shared.specs.SharedPasses.{locks_of}
 use Rattle.store_shared.proofs.AmongLemmas.{bar_stays, place_holds, place_seen, place_set}
 use Rattle.store_shared.proofs.PlaceLemmas.{place_is, place_lock, place_there}
@@ -53,7 +53,7 @@ returns-clause-steps g c = λ feed teller.
     let below = c.requires.index in
     let inside : c.args.index < length passes = omega (arith, count, below) in
     let there = place_is passes c.args.index None c.index_mut-place.result.now inside c.index_mut-place.ensures.value ∙ (sym c.take.ensures.value ∙ c.in-Some.is) in
-    subst₂ (λ p s. StepsSoAmong g.D.Drive g.A.Audit.entries g.A.Audit.count g.T.Teller.takes g.T.Teller.breaks (g.O.Op.set c.args.op.now)
+    subst₂ (λ p s. RanSoAmong g.D.Drive g.A.Audit.entries g.A.Audit.count g.T.Teller.takes g.T.Teller.breaks (g.O.Op.set c.args.op.now)
     (g.O.Op.stands c.args.op.now) (g.O.Op.stands c.turn.new.op)
     (λ claim. reach_of (passes_seen passes) (views g.D.Drive c.args.disks.now) claim feed teller)
     (λ claim. reach_of p (views g.D.Drive c.turn.new.disks) claim feed teller) s c.turn.new.stubs.items)
