@@ -1,6 +1,6 @@
 //! The feed of a body whose bytes repeat.
 
-ghost use Rattle.std.specs.Prelude.{◌≡◌, ◌≤◌, None};
+ghost use Rattle.std.specs.Prelude.{◌≡◌, ◌≤◌, None, true};
 
 use call_types::{Cut, Feed};
 
@@ -38,7 +38,7 @@ impl Source {
 }
 
 impl Feed for Source {
-    ghost seen = { λ feed. record { stated = feed.stated; given = feed.given; left = None } };
+    ghost seen = { λ feed. record { stated = feed.stated; given = feed.given; left = None; taken = None; ended = true } };
 
     ghost faults = { λ feed. feed.faults };
 

@@ -70,6 +70,8 @@ impl Drive for Watched {
 
     ghost count = { λ watched. ⟦<ScriptedDrive as Drive>⟧.count watched.drive };
 
+    ghost trail = { λ watched. ⟦<ScriptedDrive as Drive>⟧.trail watched.drive };
+
     fn size(&mut self, name: &str) -> Result<u64, DriveFault> {
         self.last = self.note("size", name, 0, 0);
         self.drive.size(name)

@@ -3,7 +3,7 @@
 use crate::faulty::{Faulty, Fuse};
 use crate::steps;
 use drive_base::Drive;
-use drive_file::{FileDrive, FileFault, LockFault, RootLock, spelling_laws};
+use drive_file::{FileDrive, FileFault, LockFault, RootLock, SystemFolder, spelling_laws};
 use std::alloc::Global;
 use std::{fs, io};
 use trial_base::{Names, NoAnswer, bytes, first, number, said, said_number, word};
@@ -15,7 +15,7 @@ const FAILING: &str = "failing";
 #[derive(Drop)]
 pub struct Folders {
     rt: HostRuntime,
-    drive: FileDrive<HostRuntime>,
+    drive: FileDrive<SystemFolder<HostRuntime>>,
     lock: Option<RootLock>,
 }
 
@@ -24,14 +24,18 @@ impl Folders {
     pub fn new(rt: HostRuntime) -> Folders {
         Folders {
             rt,
-            drive: FileDrive::closed(rt, rt.alloc()),
+            drive: FileDrive::closed(SystemFolder::new(rt), rt.alloc()),
             lock: None,
         }
     }
 
     /// `open FOLDER`
     fn open(&mut self, folder: &str) -> &'static str {
-        match FileDrive::open(self.rt, self.rt.alloc(), folder.trim_matches('\'')) {
+        match FileDrive::open(
+            SystemFolder::new(self.rt),
+            self.rt.alloc(),
+            folder.trim_matches('\''),
+        ) {
             Ok(drive) => {
                 self.drive = drive;
                 "open"
@@ -62,7 +66,7 @@ impl Folders {
             }
             "open" => said(alloc, self.open(rest)),
             "closed" => {
-                self.drive = FileDrive::closed(self.rt, alloc);
+                self.drive = FileDrive::closed(SystemFolder::new(self.rt), alloc);
                 said_number(alloc, "faults ", self.drive.faults())
             }
             "clear" => said(alloc, done(fs::remove_dir_all(&self.rt, rest))),
@@ -109,13 +113,13 @@ fn put(alloc: Global, names: &Names, rt: &HostRuntime, row: &str) -> Result<Stri
 }
 
 /// A drive over an empty folder, behind a fuse: it has the file `a` in place and the loose file `w2`.
-fn ready(rt: HostRuntime, fuse: &Fuse) -> Result<FileDrive<Faulty>, NoAnswer> {
+fn ready(rt: HostRuntime, fuse: &Fuse) -> Result<FileDrive<SystemFolder<Faulty>>, NoAnswer> {
     let _ = fs::remove_dir_all(&rt, FAILING);
     let faulty = Faulty {
         rt,
         fuse: fuse.again()?,
     };
-    let Ok(mut drive) = FileDrive::open(faulty, rt.alloc(), FAILING) else {
+    let Ok(mut drive) = FileDrive::open(SystemFolder::new(faulty), rt.alloc(), FAILING) else {
         return Err(NoAnswer);
     };
     let placed = drive.append("w1", b"abc").is_ok()
@@ -148,7 +152,7 @@ fn fails(alloc: Global, names: &Names, rt: HostRuntime, row: &str) -> Result<Str
 fn opens(alloc: Global, rt: HostRuntime, row: &str) -> Result<String, NoAnswer> {
     let fuse = Fuse::new(alloc)?;
     fuse.set(number(word(row, 0)));
-    match FileDrive::open(Faulty { rt, fuse }, alloc, word(row, 1)) {
+    match FileDrive::open(SystemFolder::new(Faulty { rt, fuse }), alloc, word(row, 1)) {
         Ok(_) => said(alloc, "open"),
         Err(why) => said(alloc, refused(why)),
     }

@@ -1,15 +1,26 @@
-//! A drive that the contract must admit, since it is silent and lies, and a trouble of it.
+//! A drive that the contract must admit, since it lies and tells nothing but its calls, and a trouble of it.
 
 ghost use Rattle.std.specs.Prelude.{false};
 ghost use Rattle.drive_base.specs.Files.{no_files};
 
-use drive_base::{Drive, DriveFault, Trouble};
+use drive_base::{Before, Drive, DriveFault, Trail, Trouble};
 use std::alloc::Global;
 
-/// A drive that tells nothing and answers what it likes.
+/// A drive that tells nothing of what it holds and answers what it likes. It tells its calls.
 #[derive(Drop)]
 pub struct Liar {
     pub faults: u64,
+    trail: Trail,
+}
+
+impl Liar {
+    /// A drive that has met no fault and no call.
+    pub fn new() -> Liar {
+        Liar {
+            faults: 0,
+            trail: Trail::new(),
+        }
+    }
 }
 
 impl Drive for Liar {
@@ -19,43 +30,57 @@ impl Drive for Liar {
 
     ghost count = { λ d. d.faults };
 
-    fn size(&mut self, _name: &str) -> Result<u64, DriveFault> {
-        Ok(7)
+    ghost trail = { λ d. d.trail };
+
+    fn size(&mut self, name: &str) -> Result<u64, DriveFault> {
+        let answer = Ok(7);
+        self.trail.size(name, &answer);
+        answer
     }
 
-    fn read(&mut self, _name: &str, _at: u64, into: &mut [u8]) -> Result<usize, DriveFault> {
+    fn read(&mut self, name: &str, at: u64, into: &mut [u8]) -> Result<usize, DriveFault> {
+        let before = Before::of(into);
         into.fill(7);
-        Ok(into.len())
+        let answer = Ok(into.len());
+        self.trail.read(name, at, &before, &answer, into);
+        answer
     }
 
-    fn append(&mut self, _loose: &str, _bytes: &[u8]) -> Result<(), DriveFault> {
-        Ok(())
+    fn append(&mut self, loose: &str, bytes: &[u8]) -> Result<(), DriveFault> {
+        let answer = Ok(());
+        self.trail.append(loose, bytes, &answer);
+        answer
     }
 
-    fn sync(&mut self, _loose: &str) -> Result<(), DriveFault> {
-        Err(DriveFault::Absent)
+    fn sync(&mut self, loose: &str) -> Result<(), DriveFault> {
+        let answer = Err(DriveFault::Absent);
+        self.trail.sync(loose, &answer);
+        answer
     }
 
-    fn rename(&mut self, _loose: &str, _name: &str) -> Result<(), DriveFault> {
+    fn rename(&mut self, loose: &str, name: &str) -> Result<(), DriveFault> {
         self.faults = self.faults.saturating_add(1);
-        Err(DriveFault::Failed)
+        let answer = Err(DriveFault::Failed);
+        self.trail.rename(loose, name, &answer);
+        answer
     }
 
-    fn discard(&mut self, _loose: &str) -> Result<(), DriveFault> {
-        Ok(())
+    fn discard(&mut self, loose: &str) -> Result<(), DriveFault> {
+        let answer = Ok(());
+        self.trail.discard(loose, &answer);
+        answer
     }
 
-    fn remove(&mut self, _name: &str) -> Result<(), DriveFault> {
-        Ok(())
+    fn remove(&mut self, name: &str) -> Result<(), DriveFault> {
+        let answer = Ok(());
+        self.trail.remove(name, &answer);
+        answer
     }
 
-    fn names(
-        &mut self,
-        _alloc: Global,
-        _from: &str,
-        _most: u32,
-    ) -> Result<Vec<String>, DriveFault> {
-        Err(DriveFault::NoMemory)
+    fn names(&mut self, _alloc: Global, from: &str, most: u32) -> Result<Vec<String>, DriveFault> {
+        let answer = Err(DriveFault::NoMemory);
+        self.trail.names(from, most, &answer);
+        answer
     }
 
     fn faults(&self) -> u64 {

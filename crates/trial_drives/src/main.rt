@@ -86,7 +86,7 @@ fn main(rt: HostRuntime) -> io::Result<()> {
     let mut drives = Drives {
         memory: MemDrive::new(alloc),
         scripted: ScriptedDrive::new(alloc, Voice::Silent, Script::Pass),
-        liar: Liar { faults: 0 },
+        liar: Liar::new(),
         folders: Folders::new(rt),
         ways,
         streams,

@@ -1,6 +1,6 @@
 //! How a body is fed.
 
-ghost use Rattle.std.specs.Prelude.{◌≡◌, IfOk, None};
+ghost use Rattle.std.specs.Prelude.{◌≡◌, IfOk, None, true};
 
 use crate::Source;
 use call_types::{Cut, Feed};
@@ -25,7 +25,7 @@ impl Source {
 }
 
 impl Feed for Source {
-    ghost seen = { λ feed. record { stated = feed.stated; given = feed.given; left = None } };
+    ghost seen = { λ feed. record { stated = feed.stated; given = feed.given; left = None; taken = None; ended = true } };
 
     ghost faults = { λ _. 0 };
 

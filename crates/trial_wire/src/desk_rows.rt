@@ -36,9 +36,9 @@ impl Teller for Counter {
 struct Nothing;
 
 impl Feed for Nothing {
-    ghost use Rattle.std.specs.Prelude.{[], Some};
+    ghost use Rattle.std.specs.Prelude.{[], Some, false};
 
-    ghost seen = { λ _. record { stated = 0; given = 0; left = Some [] } };
+    ghost seen = { λ _. record { stated = 0; given = 0; left = Some []; taken = Some []; ended = false } };
 
     ghost faults = { λ _. 0 };
 

@@ -3,7 +3,7 @@
 use crate::sources::Pieces;
 use crate::texts::{said_text, text};
 use http_wire::{Head, Wire, WireFault, head_laws, wire_laws};
-use io_base::{MemSource, Source};
+use io_base::{MemSource, Source, no_takes};
 use std::alloc::Global;
 use trial_base::{Names, NoAnswer, first, said, said_number};
 
@@ -30,6 +30,7 @@ fn connect(
         source: MemSource::new(bytes, fails),
         first,
         most,
+        takes: no_takes(),
     };
     match Wire::new(alloc, source) {
         Ok(wire) => Ok(Connection { wire, head: None }),
