@@ -3,8 +3,8 @@
 # the crates and of a program that opens a drive and writes one file with a long name, for which a folder is made; proves,
 # builds and runs that under strace (Debian: apt-get install strace); and looks through the calls of the system that it makes:
 # the file is synced after its last write and before its rename, and after the rename each folder with a new entry is synced
-# before the answer. It prints these calls. With --left-out it runs a copy of the crate that leaves out the folders' fsync
-# after a rename, and fails unless that is found out.
+# before the answer. It prints these calls. With --left-out it runs a copy of the crate that leaves each fsync out in the file that
+# passes calls on to the system, and fails unless that is found out.
 set -euo pipefail
 
 source "$(dirname "$(readlink -f "${BASH_SOURCE[0]}")")/../bench/common.sh"
@@ -15,9 +15,9 @@ command -v strace >/dev/null || fail 2 "strace is not installed"
 
 new_program durable_write drive_base drive_file
 if [[ "$left_out" == "--left-out" ]]; then
-    folders="$work/crates/drive_file/src/folders.rt"
-    grep -q '^    sync(rt, to, outermost)$' "$folders" || fail 1 "folders.rt syncs in other words"
-    sed -i 's/^    sync(rt, to, outermost)$/    sync(rt, to, outermost.max(to.len()))/' "$folders"
+    system="$work/crates/drive_file/src/system.rt"
+    grep -q '\.and_then(|file| file\.sync_all())' "$system" || fail 1 "system.rt syncs in other words"
+    sed -i 's/\.and_then(|file| file\.sync_all())/.map(|_file| ())/' "$system"
 fi
 cat >"$work/crates/durable_write/src/main.rt" <<'END_OF_PROGRAM'
 //! Writes one file on a drive over a folder, between two lines of output.
@@ -26,7 +26,7 @@ cat >"$work/crates/durable_write/src/main.rt" <<'END_OF_PROGRAM'
 ghost use Rattle.std.specs.Prelude.{◌≤◌, length};
 
 use drive_base::{Drive, LONGEST_NAME};
-use drive_file::FileDrive;
+use drive_file::{FileDrive, SystemFolder};
 use std::process::ExitCode;
 
 /// The bytes of the file's name, which has two groups of digits.
@@ -43,7 +43,7 @@ fn main(rt: HostRuntime) -> ExitCode {
 }
 
 fn write(rt: &HostRuntime) -> Option<()> {
-    let mut drive = FileDrive::open(*rt, rt.alloc(), "drive").ok()?;
+    let mut drive = FileDrive::open(SystemFolder::new(*rt), rt.alloc(), "drive").ok()?;
     let mut name = String::new(rt.alloc());
     for _ in 0..LENGTH {
         name.push('n').ok()?;
@@ -120,9 +120,9 @@ sys.exit(1 if missing else 0)
 END_OF_PROGRAM
 
 if python3 "$work/look.py" "$work/trace" "$work/disk"; then
-    [[ "$left_out" == "" ]] || fail 1 "the folders' fsync was left out, and it was not found out"
+    [[ "$left_out" == "" ]] || fail 1 "each fsync was left out, and it was not found out"
     echo "all was synced before the answer"
 else
     [[ "$left_out" == "--left-out" ]] || fail 1 "something was not synced before the answer"
-    echo "it was found out that a folder's fsync was left out"
+    echo "it was found out that each fsync was left out"
 fi

@@ -10,6 +10,7 @@ It fails on each of these, and says where it stands:
   - a line of more than 120 columns, but in a table or a block of code. docs/CRATES.md is made of other pages, so they are looked at in its place
   - a figure of the README that isn't what the repository has: definitions and lines of the theorem, crates, must-fail edits; and a number under "Speed"
     that docs/PERFORMANCE.md hasn't
+  - promises of the README that aren't those at the top of docs/THEOREM.md, word by word, or of which not each has its title in docs/PROMISES.md
   - a must-fail edit, also one in must-fail/more, that can't be applied: each text behind 'old:' has to stand exactly once in its file, with the changes of the
     pairs before it. Beside 'file:', 'old:' and 'new:' it has no line but, in must-fail/more, one with 'fn:'
 The last line is 'N passed, M failed', of pages and edits; it ends with 1 where one failed.
@@ -139,16 +140,20 @@ def number_of(text):
 
 def figures():
     """The figures that the README has to say: each a form with its numbers, and what these are."""
-    found = theorem_size.count()["found"]
+    counted = theorem_size.count()
+    found, core = counted["found"], counted["core"]
     tried = [it.read_text() for it in (TOP / "crates").glob("*/must-fail/*.edit")]
     of_definitions = sum("\nfile: specs/" in f"\n{it}" for it in tried)
     by_hand = sum(1 for _ in (TOP / "crates").glob("*/must-fail/more/*.edit.md"))
     rows = sum(sum(rows_page.rows_of(it).values()) for it in rows_page.programs())
     tests = sum(it.read_text().count("#[test]") for it in (TOP / "crates").glob("*/src/**/*.rt"))
+    by_steps = sum(1 for _ in (TOP / "crates").glob("*/proofs/**/Proof.antt"))
     crates = sum(1 for line in (TOP / "crates.txt").read_text().splitlines() if line and not line.startswith("#"))
     return [
         (r"([\d,]+) definitions in ([\d,]+) lines", (len(found), theorem_size.lines_of(found))),
+        (r"Of these ([\d,]+) in ([\d,]+) lines are the core", (len(core), theorem_size.lines_of(core))),
         (r"all ([\d,]+) crates", (crates,)),
+        (r"([\d,]+) of these proofs is written step by step by hand", (by_steps,)),
         (r"([\d,]+) wrong edits of code and ([\d,]+) of definitions", (len(tried) - of_definitions, of_definitions)),
         (r"([\d,]+) more are tried by hand", (by_hand,)),
         (r"([\d,]+) rows and ([\d,]+) tests", (rows, tests)),
@@ -173,11 +178,27 @@ def wrong_figures():
             yield number, f"{it} isn't in docs/PERFORMANCE.md"
 
 
+def promises(page, begin, end):
+    """The numbered sentences of a page between two texts, each with its number."""
+    text = (TOP / page).read_text().partition(begin)[2].partition(end)[0]
+    return re.findall(r"^(?:> )?(\d+)\. (.+)$", text, re.M)
+
+
+def wrong_promises():
+    """What is wrong with the promises of the README, as the pages of the theorem and of the promises have them."""
+    said = promises("README.md", "## What you may rely on", "\n## ")
+    if not said or said != promises("docs/THEOREM.md", "# The theorem", "**Proved**"):
+        yield 0, "its promises aren't those at the top of docs/THEOREM.md"
+    titles = re.findall(r"^## Promises? (.+?),", (TOP / "docs/PROMISES.md").read_text(), re.M)
+    if [number for title in titles for number in re.findall(r"\d+", title)] != [number for number, _ in said]:
+        yield 0, "not each of its promises has its title in docs/PROMISES.md, in their order"
+
+
 def main():
     failed = 0
     wanted = sys.argv[1:] or pages() + edits()
     for page in wanted:
-        wrong = list(wrong_edit(page)) if "/must-fail/" in page else [*wrong_lines(page), *(wrong_figures() if page == "README.md" else ())]
+        wrong = list(wrong_edit(page)) if "/must-fail/" in page else [*wrong_lines(page), *((*wrong_figures(), *wrong_promises()) if page == "README.md" else ())]
         failed += bool(wrong)
         for number, text in wrong:
             print(f"check_pages: {page}:{number}: {text}", file=sys.stderr)

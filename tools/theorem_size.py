@@ -7,6 +7,8 @@
 It begins at the names in the contract of `run` (crates/ostore/src/running.rt), in those of the traits that its drives, streams, audits, clock and doors
 have, and in those of the laws below (LAWS), and follows each name into the specs of the crates. Names bound in a definition aren't followed. A line is one of a definition or of the comment
 above it; `use` lines and empty lines aren't counted. The types of the code that are named are counted apart, and definitions of the kit aren't followed.
+Two chapters can be read by themselves, so what is reached by them alone is counted apart: the grammar of HTTP with the texts of replies (HTTP), and why a
+section was refused (CAUSES). What is left is the core.
 """
 
 import pathlib
@@ -35,6 +37,9 @@ LAWS = [
     ("slot_history", "laws.rt", "run_laws"),
     ("store_shared", "lives.rt", "opened_law"),
 ]
+# The chapters: crates whose definitions are one, and the one definition that the other hangs on.
+HTTP = ("http_wire", "s3_request", "s3_reply", "s3_docs")
+CAUSES = ("op_steps.specs.Causes", "TurnCause")
 NAMED = re.compile(r"^ *(?:(?:abbrev|unfoldable|pub|record|data) )*([^\s:({]+)")
 OPENS = re.compile(r"^ *(?:abbrev|unfoldable|pub|record|data)\b")
 TOKEN = re.compile(r"[^\s(){}\[\],;@]+")
@@ -127,8 +132,8 @@ class Specs:
                 spec = Spec(path)
                 self.files[spec.module] = spec
 
-    def reached(self, roots):
-        """The definitions, the types of the code and the words of the kit that are reached from pairs of a module and a name."""
+    def reached(self, roots, closed=lambda module, name: False):
+        """The definitions, the types of the code and the words of the kit that are reached from pairs of a module and a name, but by what is closed."""
         found, types, kit = {}, set(), set()
         left = list(roots)
         while left:
@@ -142,7 +147,7 @@ class Specs:
             name = spec.cases.get(name, name) if spec else name
             if spec is None or name not in spec.definitions:
                 sys.exit(f"theorem_size: {module} has no definition {name}")
-            if (module, name) in found:
+            if (module, name) in found or closed(module, name):
                 continue
             definition = spec.definitions[name]
             found[module, name] = definition
@@ -220,7 +225,10 @@ def count():
     found, types, kit = specs.reached(own | traits | laws)
     kit = {it for it in kit if not it[0].startswith("std.")}
     everything = sum(len(it.definitions) for it in specs.files.values())
-    return {"below": below, "beside": beside, "found": found, "types": types, "kit": kit, "everything": everything}
+    roots = own | traits | laws
+    without_http, _, _ = specs.reached(roots, lambda module, name: module.split(".")[0] in HTTP)
+    core, _, _ = specs.reached(roots, lambda module, name: module.split(".")[0] in HTTP or (module, name) == CAUSES)
+    return {"core": core, "without_http": without_http, "below": below, "beside": beside, "found": found, "types": types, "kit": kit, "everything": everything}
 
 
 def main():
@@ -232,6 +240,10 @@ def main():
     print(f"the contract of run: {len(counted['below'])} definitions, {lines_of(counted['below'])} lines")
     print(f"with its traits: {len(counted['beside'])} definitions, {lines_of(counted['beside'])} lines")
     print(f"and with the laws beside it: {len(found)} definitions, {lines_of(found)} lines, of {counted['everything']} definitions in all specs")
+    core, without = counted["core"], counted["without_http"]
+    print(f"the core of these: {len(core)} definitions, {lines_of(core)} lines")
+    print(f"why sections are refused: {len(without) - len(core)} definitions, {lines_of(without) - lines_of(core)} lines")
+    print(f"the grammar of HTTP and the texts of replies: {len(found) - len(without)} definitions, {lines_of(found) - lines_of(without)} lines")
     print(f"types of the code that they name: {len(counted['types'])}")
     print(f"words of the kit beside those of its standard library: {', '.join(sorted(name for _, name in counted['kit']))}")
     for crate, its in sorted(crates.items(), key=lambda it: -len(it[1])):
