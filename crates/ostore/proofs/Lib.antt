@@ -5,6 +5,7 @@ mod DoorsLemmas
 mod FitsLemmas
 mod FreshLemmas
 mod HadLemmas
+mod IdleLemmas
 mod LifeLemmas
 mod LogLemmas
 mod MadeLemmas
@@ -24,6 +25,7 @@ mod ServingLemmas
 mod SessionLemmas
 mod SharingLemmas
 mod ShutLemmas
+mod StoreServedLemmas
 mod SurveyLemmas
 mod TrailLemmas
 mod WayLemmas

@@ -19,7 +19,7 @@ use Rattle.store_shared.specs.Opening.{AreOpened}
 use Rattle.store_shared.specs.Passes.{set_of, slots_of}
 use Rattle.store_shared.proofs.OpeningLemmas.{opened_count}
 use Rattle.ostore.specs.History.{LanesBegin}
-use Rattle.ostore.specs.ServedLife.{ServesBegin}
+use Rattle.ostore.specs.ServedLaws.{ServesBegin}
 use Rattle.ostore.proofs.PlaceLemmas.{opened_at, seen_at, some_of}
 
 module _ {D A : Type 0} (ghosts : Ghosts D) (entries : A → Option (List Entry)) (count : A → ℕ) where

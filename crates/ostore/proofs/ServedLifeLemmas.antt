@@ -30,7 +30,7 @@ use Rattle.turn_lock.specs.declared.pass.Pass.{Pass}
 use Rattle.store_shared.specs.Among.{seen_in}
 use Rattle.store_shared.specs.Opening.{AreOpened}
 use Rattle.store_shared.specs.Parting.{HasAllParts, IsApart, IsClosedAt, IsMade}
-use Rattle.store_shared.specs.Passes.{set_of, slots_of}
+use Rattle.store_shared.specs.Passes.{disks_of, set_of, slots_of}
 use Rattle.store_shared.specs.Sections.{AnswersHaveSections, IsSection, SectionsLead, SlotLed}
 use Rattle.store_shared.specs.SharedPasses.{drives_of, locks_of, pass_at, shared_holds}
 use Rattle.store_shared.specs.Trails.{SharedAnswersHaveTrails}
@@ -43,7 +43,8 @@ use Rattle.store_shared.specs.declared.turned.TurnedSlot.{TurnedSlot}
 use Rattle.ostore.specs.History.{ClosedSlotRan}
 use Rattle.ostore.specs.Rigs.{IsClosed, StoreIsClosed}
 use Rattle.ostore.specs.Served.{IsDeskEnd, IsHanded, IsStoreEnd, Served}
-use Rattle.ostore.specs.ServedLife.{HadAllTurns, LifeServed, Made, WorkerDid, caller_of, workers_by, workers_in}
+use Rattle.ostore.specs.ServedLaws.{workers_by, workers_in}
+use Rattle.ostore.specs.ServedLife.{HadAllTurns, LifeServed, Made, WorkerDid, caller_of}
 use Rattle.ostore.specs.Trails.{AreUncalled}
 use Rattle.ostore.specs.Workers.{DoorsServed, HasWays, IsPost, Worker, begun_by, pass_by}
 use Rattle.ostore.specs.declared.rig.Ended.{Ended}
@@ -127,14 +128,15 @@ closed_spent lock None slot closed = absurd closed
 closed_spent lock (Some pass) slot closed = closed.spent
 
 -- what was handed back of a run that left a rig
-record Left {D A : Type 0} (set : SetPlan) (parts : Option (PassParts D A)) (after : Rig D A) : Type 0 where
-  handed : PassParts D A
-  is : parts ≡ Some handed
-  stop : PlainPass D A
-  slots : slots_of stop ≡ handed.slots.items
-  closed : StoreIsClosed set stop after
+pub record Left {D A : Type 0} (set : SetPlan) (parts : Option (PassParts D A)) (after : Rig D A) : Type 0 where
+  pub handed : PassParts D A
+  pub is : parts ≡ Some handed
+  pub stop : PlainPass D A
+  pub slots : slots_of stop ≡ handed.slots.items
+  pub disks : disks_of stop ≡ handed.disks.items
+  pub closed : StoreIsClosed set stop after
 
-left : {D A : Type 0} (set : SetPlan) (parts : Option (PassParts D A)) (rig : Option (Rig D A)) (after : Rig D A) → IsHanded set parts rig → rig ≡ Some after
+pub left : {D A : Type 0} (set : SetPlan) (parts : Option (PassParts D A)) (rig : Option (Rig D A)) (after : Rig D A) → IsHanded set parts rig → rig ≡ Some after
     → Left set parts after
 left set None rig after is some = absurd (none-some after (sym is ∙ some))
 left set (Some handed) rig after (stop, rig_after, slots, disks, is, closed) some = record {
@@ -142,11 +144,12 @@ left set (Some handed) rig after (stop, rig_after, slots, disks, is, closed) som
   is = refl;
   stop = stop;
   slots = slots;
+  disks = disks;
   closed = subst (λ r. StoreIsClosed set stop r) (same_Some rig_after after (sym is ∙ some)) closed;
 }
 
 -- a desk that was closed is apart
-apart : {R G D A : Type 0} (desk : SharedDesk R D A G) (whole : SharedPass D A) (status end : ℕ) (parts : Option (PassParts D A)) (handed : PassParts D A)
+pub apart : {R G D A : Type 0} (desk : SharedDesk R D A G) (whole : SharedPass D A) (status end : ℕ) (parts : Option (PassParts D A)) (handed : PassParts D A)
     → IsDeskEnd desk whole status parts end → parts ≡ Some handed → IsApart desk whole handed
 apart desk whole status end None handed is some = absurd (none-some handed some)
 apart desk whole status end (Some parts) handed is some = subst (λ p. IsApart desk whole p) (same_Some parts handed some) is.0

@@ -22,7 +22,8 @@ use Rattle.store_shared.specs.declared.parts.PassParts.{PassParts}
 use Rattle.store_shared.specs.declared.pass.PlainPass.{PlainPass}
 use Rattle.store_shared.specs.declared.shared.SharedPass.{SharedPass}
 use Rattle.ostore.specs.Program.{Does}
-use Rattle.ostore.specs.Served.{DeskServed, DoesAll, IsStore, IsStoreEnd, Serves, SharesDisks, without_door}
+use Rattle.ostore.specs.Served.{DeskServed, IsStore, IsStoreEnd, SharesDisks}
+use Rattle.ostore.specs.Serving.{DoesAll, without_door}
 use Rattle.ostore.specs.Sharing.{AreShared, EachShared, IsRowTo}
 use Rattle.ostore.specs.Statuses.{out_of_memory}
 use Rattle.ostore.specs.Workers.{DoorsServed}
@@ -126,9 +127,3 @@ module _ (R G : Type 0) {D A O S T C Root : Type 0} (ghosts : Ghosts D) (root : 
       → DoesAll R G ghosts root entries count door source sink moment clock two rig doors faults faults_after ended before after
   does_all_as one two rig doors faults faults_after ended before after same does =
       subst (λ (c : Command). DoesAll R G ghosts root entries count door source sink moment clock c rig doors faults faults_after ended before after) same does
-
-  -- a store was served
-  pub served_so : (rig : Rig D A) (doors : List O) (faults faults_after : ℕ) (ended : Ended D A (Vec O Global)) (wires : Wires)
-      → Serves R G ghosts root entries count door source sink moment clock rig doors faults faults_after ended
-      → DoesAll R G ghosts root entries count door source sink moment clock Serve rig doors faults faults_after ended wires wires
-  served_so rig doors faults faults_after ended wires serves = inl (serves, refl)

@@ -10,7 +10,9 @@ pub mod Program
 pub mod Rigs
 pub mod Running
 pub mod Served
+pub mod ServedLaws
 pub mod ServedLife
+pub mod Serving
 pub mod Sharing
 pub mod Statuses
 pub mod Surveying

@@ -56,10 +56,14 @@ module _ {D A : Type 0} (ghosts : Ghosts D) (entries : A → Option (List Entry)
         (joined (pipe_logs ghosts entries count clock opened stop end wires wires_after session))
         (slots_seen entries count (slots_of opened)) (views ghosts (disks_of opened)) (slots_seen entries count (slots_of stop)) (views ghosts (disks_of stop))
 
+  -- no store was opened over a rig, which comes back
+  abbrev pub WasRefused : Rig D A → Ended D A (Unit {0}) → Wires → Wires → Type 0
+  WasRefused rig ended before after = (rig_after : Rig D A) × (why : OpenRefusal) × (ended.rig ≡ Some rig_after) × (ended.opening ≡ Some why) × (ended.line ≡ None)
+      × (ended.starved ≡ 0) × (ended.status ≡ refusal_status why) × NotOpens ghosts entries count rig rig_after why × (after ≡ before)
+
   -- what `pipe` comes to; it counts no connection as ended for want of memory, since its status tells that
   abbrev pub Pipes : Option ℕ → Rig D A → Ended D A (Unit {0}) → Wires → Wires → Type 0
   Pipes clock rig ended before after =
       ((rig_after : Rig D A) × (end : ConnectionEnd) × (ended.rig ≡ Some rig_after) × (ended.opening ≡ None) × (ended.line ≡ None) × (ended.starved ≡ 0) × (ended.status ≡ status_of end)
       × Piped clock rig rig_after end before after)
-      ⊎ ((rig_after : Rig D A) × (why : OpenRefusal) × (ended.rig ≡ Some rig_after) × (ended.opening ≡ Some why) × (ended.line ≡ None) × (ended.starved ≡ 0)
-      × (ended.status ≡ refusal_status why) × NotOpens ghosts entries count rig rig_after why × (after ≡ before))
+      ⊎ WasRefused rig ended before after

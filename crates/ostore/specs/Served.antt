@@ -1,4 +1,4 @@
--- What the command `serve` comes to: the connections of many doors over one store, beside one another.
+-- What `serve` does, step by step: the connections of many doors over one store, beside one another.
 use Rattle.std.specs.Prelude.{◌≡◌, ◌⊎◌, ℕ, ◌<◌, List, Option, Some, None, Vec, length, slice_index_or}
 use Rattle.std.specs.Global.{Global}
 use Rattle.audit_trail.specs.declared.entry.Entry.{Entry}
@@ -7,9 +7,6 @@ use Rattle.drive_base.specs.declared.plan.SetPlan.{SetPlan}
 use Rattle.io_base.specs.declared.door.Door.{Ghosts as DoorGhosts}
 use Rattle.io_base.specs.declared.sink.Sink.{Ghosts as SinkGhosts}
 use Rattle.io_base.specs.declared.source.Source.{Ghosts as SourceGhosts}
-use Rattle.command_line.specs.declared.plan.Command.{Command}
-use Rattle.command_line.specs.declared.plan.Command.TheVariants.{Pipe, Serve, Status}
-use Rattle.serve_loop.specs.Deeds.{Wires}
 use Rattle.slot_core.specs.Views.{numbers_of}
 use Rattle.slot_core.specs.declared.slot.Slot.{Slot}
 use Rattle.store_shared.specs.OpeningAll.{StoreIsOpen}
@@ -23,19 +20,13 @@ use Rattle.store_shared.specs.declared.shared.SharedDesk.{SharedDesk}
 use Rattle.store_shared.specs.declared.shared.SharedPass.{SharedPass}
 use Rattle.term_gate.specs.declared.refusal.OpenRefusal.{OpenRefusal}
 use Rattle.ostore.specs.Opening.{NotOpens}
-use Rattle.ostore.specs.Program.{Does, EndsUndone}
 use Rattle.ostore.specs.Rigs.{ArePartsOf, StoreIsClosed}
-use Rattle.ostore.specs.Running.{DidNothing}
 use Rattle.ostore.specs.Sharing.{AreShared, EachShared}
 use Rattle.ostore.specs.Statuses.{out_of_memory, refusal_status}
 use Rattle.ostore.specs.Workers.{DoorsServed}
 use Rattle.ostore.specs.declared.rig.Ended.{Ended}
 use Rattle.ostore.specs.declared.rig.Rig.{Rig}
 use Rattle.ostore.specs.declared.serving.StoreEnd.{StoreEnd}
-
--- a run that ended, without its door
-abbrev pub without_door : {D A O : Type 0} → Ended D A O → Ended D A (Unit {0})
-without_door ended = record { status = ended.status; rig = ended.rig; opening = ended.opening; line = ended.line; starved = ended.starved; door = _ }
 
 -- the doors that came back
 abbrev pub doors_in : {D A O : Type 0} → Ended D A (Vec O Global) → List O
@@ -137,24 +128,3 @@ module _ (R G : Type 0) {D A O S T C Root : Type 0} (ghosts : Ghosts D) (root : 
   -- what `serve` comes to
   abbrev pub Serves : Rig D A → List O → ℕ → ℕ → Ended D A (Vec O Global) → Type 0
   Serves rig doors faults faults_after ended = Served rig doors faults faults_after ended ⊎ NotServed rig doors faults faults_after ended
-
-  -- a command without doors: it does what it does alone, and no door is touched and no work begun
-  pub record Without (does : Ended D A (Unit {0}) → Type 0) (doors : List O) (faults faults_after : ℕ) (ended : Ended D A (Vec O Global)) : Type 0 where
-    pub done : does (without_door ended)
-    pub doors_are : doors_in ended ≡ doors
-    pub counted : faults_after ≡ faults
-
-  -- what a command comes to
-  abbrev pub DoesAll : Command → Rig D A → List O → ℕ → ℕ → Ended D A (Vec O Global) → Wires → Wires → Type 0
-  DoesAll Pipe rig doors faults faults_after ended before after =
-      Without (λ alone. Does ghosts entries count Pipe moment rig alone before after) doors faults faults_after ended
-  DoesAll Status rig doors faults faults_after ended before after =
-      Without (λ alone. Does ghosts entries count Status moment rig alone before after) doors faults faults_after ended
-  DoesAll Serve rig doors faults faults_after ended before after =
-      (Serves rig doors faults faults_after ended × (after ≡ before))
-      ⊎ Without (λ alone. DidNothing ghosts entries count out_of_memory rig alone before after) doors faults faults_after ended
-
-  -- nothing was done: the words say nothing that is done, or there was no memory to read them
-  abbrev pub AllUndone : Rig D A → List O → ℕ → ℕ → Ended D A (Vec O Global) → Wires → Wires → Type 0
-  AllUndone rig doors faults faults_after ended before after =
-      Without (λ alone. EndsUndone ghosts entries count rig alone before after) doors faults faults_after ended

@@ -1,42 +1,29 @@
 -- What a life of `serve` comes to, slot by slot: the history part of the theorem for many callers.
-use Rattle.std.specs.Prelude.{◌≡◌, ◌⊎◌, ℕ, ◌<◌, ◌≤◌, ◌++◌, true, List, All, [], ◌∷◌, Option, Some, Vec, map, slice_index_or}
-use Rattle.std.proofs.Common.{inl, inr}
-use Rattle.std.specs.Global.{Global}
+use Rattle.std.specs.Prelude.{◌≡◌, ℕ, ◌<◌, ◌≤◌, ◌++◌, true, List, All, Option, map, slice_index_or}
 use Rattle.std.specs.List.{AllZip, flat_map}
 use Rattle.audit_trail.specs.declared.entry.Entry.{Entry}
-use Rattle.drive_base.specs.View.{views}
 use Rattle.drive_base.specs.declared.drive.Drive.{Ghosts}
 use Rattle.drive_base.specs.declared.plan.SetPlan.{SetPlan}
 use Rattle.io_base.specs.declared.door.Door.{Ghosts as DoorGhosts}
 use Rattle.io_base.specs.declared.sink.Sink.{Ghosts as SinkGhosts}
 use Rattle.io_base.specs.declared.source.Source.{Ghosts as SourceGhosts}
 use Rattle.serve_loop.specs.Doors.{ServedSince, sight}
-use Rattle.slot_data.specs.Disks.{Disks}
 use Rattle.slot_core.specs.Opening.{IsOpened}
 use Rattle.slot_core.specs.declared.slot.Slot.{Slot}
 use Rattle.slot_core.specs.declared.slot.SlotParts.{SlotParts}
-use Rattle.op_steps.specs.Leading.{Standing}
 use Rattle.turn_lock.specs.Tickets.{last_ticket}
 use Rattle.store_shared.specs.Among.{seen_in}
-use Rattle.store_shared.specs.Holders.{LostServe, RigHolds}
-use Rattle.store_shared.specs.Passes.{disks_of, set_of, slots_of}
 use Rattle.store_shared.specs.Sections.{AnswersAmong, IsSection, SlotLed, TurnedSection, events_by, turns_by}
 use Rattle.store_shared.specs.SharedLaws.{TurnsRise}
 use Rattle.store_shared.specs.SharedPasses.{drives_of, pass_at, shared_holds}
 use Rattle.store_shared.specs.Turned.{slot_in, turns_in}
-use Rattle.store_shared.specs.declared.parts.PassParts.{PassParts}
-use Rattle.store_shared.specs.declared.shared.SharedDesk.{SharedDesk}
 use Rattle.store_shared.specs.declared.shared.SharedPass.{SharedPass}
 use Rattle.store_shared.specs.declared.turned.TurnedSlot.{TurnedSlot}
-use Rattle.ostore.specs.History.{LanesBegin, SlotRan}
+use Rattle.ostore.specs.History.{SlotRan}
 use Rattle.ostore.specs.Logs.{among_log, served_logs}
 use Rattle.ostore.specs.Rigs.{IsClosed}
-use Rattle.ostore.specs.Served.{IsStoreEnd, Served}
 use Rattle.ostore.specs.Trails.{AreUncalled, LogsLeadTrails}
-use Rattle.ostore.specs.Workers.{DoorsServed, Worker, view_of}
-use Rattle.ostore.specs.declared.rig.Ended.{Ended}
-use Rattle.ostore.specs.declared.rig.Rig.{Rig}
-use Rattle.ostore.specs.declared.serving.StoreEnd.{StoreEnd}
+use Rattle.ostore.specs.Workers.{Worker, view_of}
 
 -- the sections of some caller, for each slot those of its index
 abbrev pub Made : (D A : Type 0) → Type 0
@@ -95,40 +82,3 @@ module _ {D A O S T : Type 0} (ghosts : Ghosts D) (entries : A → Option (List 
     pub spent : (k : ℕ) → k < 64 → All (HadAllTurns k (closed k)) (callers ++ map caller_of workers)
     pub ran : (k : ℕ) (inside : k < 64) (d : SlotParts D A) → SlotRan entries ghosts.tells ghosts.files set term k (events_by k (led k inside).in_order.ordered)
         (slice_index_or old k d) (slice_index_or new k d)
-
-module _ {D A O S T C Root : Type 0} {ghosts : Ghosts D} {root : D → Root} {entries : A → Option (List Entry)} {count : A → ℕ} {door : DoorGhosts O S T} {source : SourceGhosts S}
-    {sink : SinkGhosts T} {moment : Option ℕ} {clock : C} where
-  -- the workers that served doors
-  abbrev pub workers_by : {K : Type 0} {desk : K} {first whole : SharedPass D A} {doors doors_after : List O} {status starved faults faults_after : ℕ}
-      → DoorsServed ghosts root entries count door source sink moment desk clock first whole doors doors_after status starved faults faults_after
-      → List (Worker K C (SharedPass D A) O)
-  workers_by (inl served) = served.dones
-  workers_by (inr not_dealt) = []
-
-  -- those of a store
-  abbrev pub workers_in : {R G : Type 0} {parts : PassParts D A} {doors : List O} {faults faults_after : ℕ} {end : StoreEnd D A O}
-      → IsStoreEnd R G ghosts root entries count door source sink moment clock parts doors faults faults_after end
-      → List (Worker (SharedDesk R D A G) C (SharedPass D A) O)
-  workers_in (inl served) = workers_by served.served.served
-  workers_in (inr unserved) = []
-
-module _ (R G C : Type 0) {D A O S T Root : Type 0} (ghosts : Ghosts D) (root : D → Root) (entries : A → Option (List Entry)) (count : A → ℕ) (door : DoorGhosts O S T) (source : SourceGhosts S)
-    (sink : SinkGhosts T) where
-  -- each run of `serve` over an open store hands its rig back, and is such a life, in which its workers are the only callers
-  abbrev pub ServesLives : Type 0
-  ServesLives = (moment : Option ℕ) (clock : C) (rig : Rig D A) (doors : List O) (faults faults_after : ℕ) (ended : Ended D A (Vec O Global))
-      (served : Served R G ghosts root entries count door source sink moment clock rig doors faults faults_after ended)
-      → (after : Rig D A) × (ended.rig ≡ Some after)
-      × ∥ LifeServed ghosts entries count door source sink moment (set_of served.opened) served.opens.opened.term (slots_of served.opened) rig.slots.items after.slots.items
-      (workers_in served.served) [] ∥₁
-
-  -- where the rig of such a run holds, and no lost drive failed while the store was opened, its term is new, and a history begins in each slot: the lanes stand for
-  -- this as the slot is opened
-  abbrev pub ServesBegin : Type 0
-  ServesBegin = (moment : Option ℕ) (clock : C) (rig : Rig D A) (doors : List O) (faults faults_after : ℕ) (ended : Ended D A (Vec O Global))
-      (served : Served R G ghosts root entries count door source sink moment clock rig doors faults faults_after ended) (used lost : ℕ) (unseen : Disks) (at : ℕ → Standing)
-      → RigHolds ghosts rig.set used lost unseen at served.parts
-      → LostServe lost (views ghosts served.parts.disks.items) (views ghosts (disks_of served.opened))
-      → (used < served.opens.opened.term)
-      × ((k : ℕ) (d : SlotParts D A) → k < 64
-      → LanesBegin entries ghosts.tells ghosts.files (set_of served.opened) k served.opens.opened.term (slice_index_or rig.slots.items k d).lanes.items (at k))

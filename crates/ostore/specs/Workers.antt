@@ -54,6 +54,9 @@ module _ {K C P O : Type 0} where
   abbrev pub door_by : Worker K C P O → O
   door_by worker = worker.door
 
+  abbrev pub given_by : Worker K C P O → O
+  given_by worker = worker.began.door
+
   -- how many connections of all workers ended for want of memory, by the count of each
   abbrev pub starved_in : List (Worker K C P O) → ℕ
   starved_in [] = 0
@@ -109,8 +112,8 @@ module _ {O S T : Type 0} (door : DoorGhosts O S T) where
       pub held : DoorRose worker → ⊥
       pub faults : door.faults worker.door ≡ door.faults worker.began.door
 
-    -- how the serving of doors ended, from the workers that were done and those that were left: a door failed; or a work was left; or all doors are over
-    abbrev pub DoorsEnd : ℕ → List (Worker K C P O) → List (Worker K C P O) → Type 0
+    -- how the serving of doors ended, from the workers that were done and what was left: a door failed; or some work was left; or all doors are over
+    abbrev pub DoorsEnd : {L : Type 0} → ℕ → List (Worker K C P O) → List L → Type 0
     DoorsEnd status dones lefts =
         ((status ≡ read_fault) × AnyRose dones)
         ⊎ (((status ≡ write_fault) × ((lefts ≡ []) → ⊥) × AllByRecursion IsStill dones)

@@ -3,7 +3,7 @@
 ghost use Rattle.ostore.specs.History.{ClosedSlotRan};
 ghost use Rattle.ostore.specs.Laws.{ConnectionsPipe};
 ghost use Rattle.ostore.specs.Lives.{LivesAreComplete, LivesGoOn, RefusalsLeave};
-ghost use Rattle.ostore.specs.ServedLife.{ServesBegin, ServesLives};
+ghost use Rattle.ostore.specs.ServedLaws.{ServesBegin, ServesLives};
 
 use audit_trail::Audit;
 use desk_base::Gate;

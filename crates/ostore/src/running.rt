@@ -3,8 +3,7 @@
 ghost use Rattle.std.specs.Prelude.{◌≡◌, ◌<◌, None, Some, length};
 ghost use Rattle.io_base.specs.Spawner.{spawner_faults};
 ghost use Rattle.ostore.specs.Program.{Fits, SaysNothing};
-ghost use Rattle.ostore.specs.Served.{AllUndone, DoesAll, without_door};
-ghost use Rattle.ostore.specs.ServedLife.{ServesBegin, ServesLives};
+ghost use Rattle.ostore.specs.Serving.{AllUndone, DoesAll, without_door};
 ghost use Rattle.ostore.specs.declared.gate.NoGate.{NoGate};
 ghost use Rattle.command_line.specs.Words.{Says};
 ghost use Rattle.command_line.specs.declared.plan.Plan.{Plan as CommandLine};
@@ -35,8 +34,7 @@ pub struct Ran<D, A, S, O> {
     pub source: S,
 }
 
-/// Does the command that the words say. For `serve` each door has a worker of its own, beside the others; for all others no door is touched. What `serve`
-/// comes to by the second clause begins a history in each slot by the third, and is a life of it by the fourth.
+/// Does the command that the words say. For `serve` each door has a worker of its own, beside the others; for all others no door is touched.
 pub fn run<
     R: AllocGlobal + Eprint + Threads + Wait + Copy + Drop + Send + Sync,
     S: Source + Drop,
@@ -63,8 +61,6 @@ pub fn run<
     ensures does { (plan : CommandLine) → Says words.now plan → DoesAll R NoGate D.Drive D.root A.entries A.count O.Door O.In.Source O.Out.Sink (C.moment clock.now) clock.now plan.command rig doors.items (spawner_faults spawner.old) (spawner_faults spawner.new) result.ended
         (wires_of S.Source K.Sink source sink.old)
         (wires_of S.Source K.Sink result.source sink.new) }
-    ensures begins { ServesBegin R NoGate C D.Drive D.root A.entries A.count O.Door O.In.Source O.Out.Sink }
-    ensures lives { ServesLives R NoGate C D.Drive D.root A.entries A.count O.Door O.In.Source O.Out.Sink }
 {
     begun_law::<R, D, A, C, O, NoGate>();
     served_law::<R, D, A, C, O, NoGate>();

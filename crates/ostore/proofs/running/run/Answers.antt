@@ -4,7 +4,8 @@ use Rattle.io_base.specs.Spawner.{spawner_faults}
 use Rattle.serve_loop.specs.Seen.{wires_of}
 use Rattle.ostore.specs.declared.gate.NoGate.{NoGate}
 use Rattle.ostore.proofs.ProgramLemmas.{fits_itself, one_command}
-use Rattle.ostore.proofs.ServingLemmas.{does_all_as, done_alone, served_so}
+use Rattle.ostore.proofs.ServingLemmas.{does_all_as, done_alone}
+use Rattle.ostore.proofs.StoreServedLemmas.{served_so}
 use Rattle.ostore.proofs.running.run.Goals as goal
 
 pub returns-in-Serve-clause-does : goal.returns-in-Serve-clause-does
@@ -13,7 +14,7 @@ returns-in-Serve-clause-does g c = λ plan says.
     (g.C.Clock.moment c.args.clock.now) c.args.clock.now Serve plan.command _ _ _ _ _ _ _
     (sym c.in-Serve.is ∙ one_command c.args.words.now c.in-Ok.plan plan c.in-Ok.ensures.ok says)
     (served_so g.row.R.Denot NoGate g.D.Drive g.D.Share.root g.A.Audit.entries g.A.Audit.count g.O.Door g.O.In.Source g.O.Out.Sink
-    (g.C.Clock.moment c.args.clock.now) c.args.clock.now _ _ _ _ _ _ c.serve.ensures)
+    (g.C.Clock.moment c.args.clock.now) c.args.clock.now c.served_law.ensures c.begun_law.ensures _ _ _ _ _ _ c.serve.ensures)
 
 pub run_command-requires : goal.run_command-requires
 run_command-requires g c = record { fits = fits_itself c.args.words.now c.args.rig c.in-Ok.plan c.requires.fits c.in-Ok.ensures.ok }
@@ -34,8 +35,6 @@ returns-in-Ok g c = record {
       (ap (λ s. wires_of g.S.Source g.K.Sink s c.run_command.new.sink)
       (sym c.with_doors.ensures.source))
       c.run_command.ensures);
-  begins = c.begun_law.ensures;
-  lives = c.served_law.ensures;
 }
 
 pub returns-in-Err-NotACommand-clause-does : goal.returns-in-Err-NotACommand-clause-does
