@@ -15,6 +15,7 @@ use Rattle.manifest_file.specs.declared.manifest.Manifest.{Manifest}
 use Rattle.manifest_file.specs.declared.manifest.ManifestPart.{ManifestPart}
 use Rattle.body_print.specs.Holders.{HoldsManifest, HoldsPart}
 use Rattle.body_print.specs.Names.{manifest_name, shard_name}
+use Rattle.body_print.specs.Plans.{data_plan}
 use Rattle.slot_history.specs.Contents.{NamedData, number_of_id}
 use Rattle.slot_history.specs.Names.{key_name, part_name}
 
@@ -85,11 +86,11 @@ pub record AtLeast (set : SetPlan) (count : ℕ) (does : ℕ → Type 0) : Type 
   pub enough : count ≤ count_in mask set.drives
   pub each : (k : ℕ) → k < set.drives → IsBitSet mask k → does k
 
--- a manifest is that of named data, for this register: it is canonical, names the numbers of the set, and its parts have the data's length together
+-- a manifest is that of named data, for this register: it is canonical, names the numbers of the data's plan, and its parts have the data's length together
 pub record IsManifestOf (set : SetPlan) (named : NamedData) (name : List ℕ) (m : Manifest) : Type 0 where
   pub canonical : IsCanonical m
-  pub drives : m.drives ≡ set.drives
-  pub parity : m.parity ≡ set.parity
+  pub drives : m.drives ≡ (data_plan set named).drives
+  pub parity : m.parity ≡ (data_plan set named).parity
   pub size : sum_by (λ (p : ManifestPart). p.length) m.parts ≡ named.size
   pub name_is : m.name ≡ name
 
@@ -98,10 +99,12 @@ pub record IsManifestOf (set : SetPlan) (named : NamedData) (name : List ℕ) (m
 pub record HasHolders (set : SetPlan) (disks : Disks) (named : NamedData) (name : List ℕ) : Type 0 where
   pub manifest : Manifest
   pub is : IsManifestOf set named name manifest
-  pub held : AtLeast set (write_drives set.drives set.parity) (λ k. (h : HoldsManifest named.id named.print (kept_on disks k)) × (h.manifest ≡ manifest))
+  pub held : AtLeast set (write_drives (data_plan set named).drives (data_plan set named).parity)
+      (λ k. (h : HoldsManifest named.id named.print (kept_on disks k)) × (h.manifest ≡ manifest))
   pub alike : (k : ℕ) (bytes : List ℕ) → k < set.drives → kept_on disks k (manifest_name named.id) ≡ Some bytes → bytes ≡ file_of manifest
   pub parts : (part : ManifestPart) → Contains manifest.parts part
-      → AtLeast set (write_drives set.drives set.parity) (λ k. HoldsPart set.drives (data_drives set.drives set.parity) part k (kept_on disks k))
+      → AtLeast set (write_drives (data_plan set named).drives (data_plan set named).parity)
+      (λ k. HoldsPart (data_plan set named).drives (data_drives (data_plan set named).drives (data_plan set named).parity) part k (kept_on disks k))
 
 -- the data of an id has its holders, for the key of this name or a part of it
 pub record HasHoldersFor (set : SetPlan) (disks : Disks) (name : List ℕ) (id : VersionId) : Type 0 where
