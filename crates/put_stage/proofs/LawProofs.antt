@@ -1,15 +1,16 @@
 -- The laws of a stage at work.
-use Rattle.std.proofs.Common.{◌≡◌, ℕ, true, List, Some, None, ap, subst, sym}
+use Rattle.std.proofs.Common.{◌≡◌, ◌∙◌, ℕ, true, List, Some, None, Ok, Err, ap, refl, subst, sym, arith}
 use Rattle.call_types.specs.declared.why.FileKind.TheVariants.{Format, Register, Manifest as ManifestKind, Shard as ShardKind}
 use Rattle.call_types.specs.declared.why.Why.{Why}
 use Rattle.call_types.specs.declared.why.Why.TheVariants.{Good, Failed, Damaged, Behind, Lacks}
 use Rattle.put_stage.specs.Cells.{DataCells}
 use Rattle.put_stage.specs.Coding.{block_at}
 use Rattle.put_stage.specs.Dues.{is_early}
-use Rattle.put_stage.specs.Laws.{OpenStagesPlaceNothing, WorkOutlivesOthers}
+use Rattle.put_stage.specs.Laws.{OpenStagesPlaceNothing, SuccessIsAnswered, WorkOutlivesOthers}
 use Rattle.put_stage.specs.Working.{AtWork, Blocks, HasBy, HasFailedAt, IsBefore, Keeps, due_at, why_at}
 use Rattle.put_stage.specs.declared.dues.Due.{Due}
 use Rattle.put_stage.specs.declared.dues.Due.TheVariants.{Block, Table, SyncShard, Manifest, SyncManifest, PlaceManifest, PlaceShard, Nothing}
+use Rattle.put_stage.specs.declared.staged.StageFault.TheVariants.{WriteQuorum, BadDigest, BodyCut, ReadFault, NoMemory}
 use Rattle.put_stage.proofs.CallLemmas.{keeps_writing}
 
 -- a drive that did all calls before an early one
@@ -59,3 +60,24 @@ open_stages_place_nothing stage blocks k first cells unsettled at =
 
 pub work_outlives_others : WorkOutlivesOthers
 work_outlives_others stage blocks k first old new same at = subst (AtWork stage blocks k first) (sym same) at
+
+pub success_is_answered : SuccessIsAnswered
+success_is_answered stage (Ok staged) may told = (
+  (λ succeeds. refl),
+  (λ ok. record {
+    whole = may.whole;
+    agrees = λ other. other.1.2 (told.1 other.1.0 other.1.1);
+    enough = told.0.enough;
+  }),
+)
+success_is_answered stage (Err (WriteQuorum whys)) may told = (
+  (λ succeeds. let enough = succeeds.enough in let few = told.1 in absurd (omega (arith, enough, few))),
+  (λ ok. absurd cc),
+)
+success_is_answered stage (Err (BadDigest given computed)) may told = (
+  (λ succeeds. absurd (succeeds.agrees (may.whole, (given, told.0, λ same. told.2 (same ∙ sym told.1))))),
+  (λ ok. absurd cc),
+)
+success_is_answered stage (Err BodyCut) may told = absurd told
+success_is_answered stage (Err ReadFault) may told = absurd told
+success_is_answered stage (Err NoMemory) may told = absurd told

@@ -1,5 +1,5 @@
 -- What a stage answers, and what the drives hold that took all.
-use Rattle.std.specs.Prelude.{◌≡◌, ◌≢◌, ◌<◌, ℕ, true, List, [], length, slice_index_or, Some, None, Result, Ok, Err}
+use Rattle.std.specs.Prelude.{◌≡◌, ◌≢◌, ◌<◌, ◌≤◌, ℕ, true, List, [], length, slice_index_or, Some, None, Result, Ok, Err}
 use Rattle.std.specs.Int.{IsBitSet}
 use Rattle.call_types.specs.Good.{good_count}
 use Rattle.md5.specs.Md5.{md5}
@@ -16,7 +16,7 @@ use Rattle.put_stage.specs.Holding.{HoldsBody}
 use Rattle.put_stage.specs.Manifests.{print_under, total_size}
 use Rattle.put_stage.specs.Outcomes.{Acknowledges, Agrees}
 use Rattle.put_stage.specs.Taking.{HasTaken, manifest_in}
-use Rattle.put_stage.specs.Working.{AtWork, Blocks, Keeps}
+use Rattle.put_stage.specs.Working.{AtWork, Blocks, Disagrees, Keeps}
 use Rattle.put_stage.specs.declared.stage.Load.{Load}
 use Rattle.put_stage.specs.declared.stage.Stage.{Stage}
 use Rattle.put_stage.specs.declared.staged.Staged.{Staged}
@@ -37,6 +37,12 @@ Concludes stage (Err (BadDigest given computed)) = (stage.load.stated ≡ Some g
 Concludes stage (Err BodyCut) = ⊥
 Concludes stage (Err ReadFault) = ⊥
 Concludes stage (Err NoMemory) = ⊥
+
+-- all is staged: the body is whole, its MD5 is the one that was stated, if any, and enough drives did all calls so far
+pub record Succeeds (stage : Stage) : Type 0 where
+  pub whole : stage.load.left ≡ 0
+  pub agrees : Disagrees stage.load → ⊥
+  pub enough : write_drives stage.load.set.drives stage.load.set.parity ≤ good_count stage.whys
 
 -- kept files hold the body of a stage, under the one manifest of that body
 abbrev pub HoldsStaged : Stage → Staged → List ℕ → List (List (List ℕ)) → ℕ → Named (List ℕ) → Type 0

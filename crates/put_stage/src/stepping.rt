@@ -77,7 +77,7 @@ impl Stage {
     }
 
     /// Whether the body is whole, and its MD5 another than stated.
-    fn disagrees(&self) -> bool
+    pub(crate) fn disagrees(&self) -> bool
         ensures yes { IsTrue result → Disagrees self.now.load }
         ensures no { result ≡ false → Disagrees self.now.load → ⊥ }
     {

@@ -1,5 +1,5 @@
 use Rattle.put_stage.proofs.FinishLemmas.{whole_manifest}
-use Rattle.put_stage.proofs.LawProofs.{open_stages_place_nothing, work_outlives_others}
+use Rattle.put_stage.proofs.LawProofs.{open_stages_place_nothing, success_is_answered, work_outlives_others}
 use Rattle.put_stage.proofs.SoFarLemmas.{all_calls_are_staging, step_calls_elsewhere, step_calls_so}
 use Rattle.put_stage.proofs.laws.stage_laws.Goals as goal
 
@@ -20,3 +20,6 @@ returns-clause-calls_elsewhere c = step_calls_elsewhere
 
 pub returns-clause-placed : goal.returns-clause-placed
 returns-clause-placed c = all_calls_are_staging
+
+pub returns-clause-success : goal.returns-clause-success
+returns-clause-success c = success_is_answered
