@@ -3,6 +3,7 @@ mod CompleteLemmas
 mod DecidingLemmas
 mod EachLemmas
 mod FormatLemmas
+mod FormatStayLemmas
 mod LooseLemmas
 mod OpenLemmas
 mod ServeLemmas

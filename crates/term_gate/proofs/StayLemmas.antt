@@ -38,7 +38,7 @@ keeps_same used old new same keeps = record {
 }
 
 -- a drive that was only read keeps its term
-keeps_read : (used : ℕ) (old new : DriveView) → IsTrue old.tells → OnlyRead old new → KeepsTerm used old → KeepsTerm used new
+pub keeps_read : (used : ℕ) (old new : DriveView) → IsTrue old.tells → OnlyRead old new → KeepsTerm used old → KeepsTerm used new
 keeps_read used old new told only keeps = keeps_same used old new (ap (λ (files : Files). files.kept) (only.files told)) keeps
 
 -- a drive where a format with a term not below was put in place keeps that
@@ -66,7 +66,7 @@ keeps_left set used term k (Damaged damage) loose old new canonical low leaves k
 keeps_left set used term k (Behind ballot) loose old new canonical low leaves keeps = absurd leaves
 keeps_left set used term k (Lacks kind) loose old new canonical low leaves keeps = keeps_either set used term k loose old new canonical low leaves keeps
 
-keeps_written : (set : SetPlan) (used term passed k : ℕ) (other why : Why) (old new : DriveView) → IsCanonical (format_of set k term) → used ≤ term
+pub keeps_written : (set : SetPlan) (used term passed k : ℕ) (other why : Why) (old new : DriveView) → IsCanonical (format_of set k term) → used ≤ term
     → IsTrue old.tells
     → DriveIsWritten (file_for set k term) term passed other k why old new → KeepsTerm used old → KeepsTerm used new
 keeps_written set used term passed k other why old new canonical low told (inl over) keeps = subst (KeepsTerm used) (sym over.stays) keeps

@@ -100,7 +100,7 @@ seen_term used drive g canonical shown (inr (bytes, is, (damage, damaged))) keep
     absurd (no_damage format_kind (spelling_of format_table g) damage refl (subst (λ (b : List ℕ). IsDamage format_kind b damage) same damaged))
 
 -- a drive that shows no format keeps none
-lacks_none : (used : ℕ) (drive : DriveView) → drive.files.shown format_name ≡ None → IsHonestAt IsUnsealed format_name drive.files → KeepsTerm used drive → ⊥
+pub lacks_none : (used : ℕ) (drive : DriveView) → drive.files.shown format_name ≡ None → IsHonestAt IsUnsealed format_name drive.files → KeepsTerm used drive → ⊥
 lacks_none used drive shown (inl same) keeps = none_found (drive.files.shown format_name) (format_file keeps.found) shown (same ∙ keeps.kept)
 lacks_none used drive shown (inr (bytes, is, why)) keeps = none_found (drive.files.shown format_name) bytes shown is
 

@@ -1,10 +1,13 @@
 -- What follows from what an opening answers and leaves.
-use Rattle.std.specs.Prelude.{◌≡◌, ◌⊎◌, ℕ, ◌+◌, ◌≤◌, List, length, Result, Err}
-use Rattle.drive_base.specs.View.{DriveView}
+use Rattle.std.specs.Prelude.{◌≡◌, ◌⊎◌, ℕ, ◌+◌, ◌<◌, ◌≤◌, IfOk, IsTrue, List, length, Result, Err}
+use Rattle.std.specs.Int.{IsBitSet}
+use Rattle.drive_base.specs.HonestDamage.{IsHonestAt}
+use Rattle.drive_base.specs.View.{DriveView, view_at}
 use Rattle.drive_base.specs.declared.plan.SetPlan.{SetPlan}
 use Rattle.term_gate.specs.Complete.{CanMake, CanOpen}
+use Rattle.term_gate.specs.Formats.{IsUnsealed, format_name}
 use Rattle.term_gate.specs.Opening.{Opens}
-use Rattle.term_gate.specs.Terms.{EachHonest, EachTells, IsKept}
+use Rattle.term_gate.specs.Terms.{EachHonest, EachTells, IsKept, KeepsTerm}
 use Rattle.term_gate.specs.declared.opening.Opened.{Opened}
 use Rattle.term_gate.specs.declared.refusal.OpenRefusal.{OpenRefusal}
 use Rattle.term_gate.specs.declared.refusal.OpenRefusal.TheVariants.{NoMemory}
@@ -24,3 +27,9 @@ OpeningIsComplete = (set : SetPlan) (refusal : OpenRefusal) (old new : List Driv
 abbrev pub TermsStay : Type 0
 TermsStay = (set : SetPlan) (result : Result Opened OpenRefusal) (old new : List DriveView) → IsPlanFor set old → Opens set result old new
     → EachTells old → EachHonest old → (used : ℕ) → IsKept set used old → IsKept set used new
+
+-- a drive that tells, keeps a format and shows it honestly keeps one after each opening, also one that is refused, and isn't out of a set that was opened
+abbrev pub FormatsStay : Type 0
+FormatsStay = (set : SetPlan) (result : Result Opened OpenRefusal) (old new : List DriveView) → length old ≡ set.drives → Opens set result old new
+    → (k : ℕ) → k < length old → IsTrue (view_at old k).tells → KeepsTerm 0 (view_at old k) → IsHonestAt IsUnsealed format_name (view_at old k).files
+    → KeepsTerm 0 (view_at new k) × IfOk result (λ opened. IsBitSet opened.out k → ⊥)

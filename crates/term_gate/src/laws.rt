@@ -1,6 +1,6 @@
 //! Laws of openings.
 
-ghost use Rattle.term_gate.specs.Laws.{OpeningIsComplete, TermsStay};
+ghost use Rattle.term_gate.specs.Laws.{FormatsStay, OpeningIsComplete, TermsStay};
 
 /// The laws of openings, for a caller's proof. It does nothing.
 ///
@@ -10,7 +10,10 @@ ghost use Rattle.term_gate.specs.Laws.{OpeningIsComplete, TermsStay};
 ///   or none, and takes what is written.
 /// - A term that enough drives keep is kept by as many after an opening, also after one that was refused. So the term of a
 ///   life stays below that of each later one.
+/// - A drive that tells, keeps a format and shows it honestly keeps one after an opening, also after one that was refused,
+///   and it isn't out of a set that was opened.
 pub fn opening_laws()
     ensures complete { OpeningIsComplete }
     ensures terms { TermsStay }
+    ensures formats { FormatsStay }
 {}
