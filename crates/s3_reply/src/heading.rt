@@ -7,7 +7,7 @@ ghost use Rattle.s3_reply.specs.Replies.{head_bytes};
 
 use crate::bits::push_bytes;
 use crate::fields;
-use crate::status::{push_status_line, status};
+use crate::status::{push_status_line, reply_status};
 use call_types::Reply;
 use desk_base::Call;
 use fault_base::NoMemory;
@@ -58,7 +58,7 @@ pub(crate) fn push_head(
     requires { document.now ≡ document_bytes (asked_of head call reply.now) }
     ensures { OnOk result (out.new.items ≡ out.old.items ++ head_bytes (asked_of head.entry call.entry reply.now) now close) }
 {
-    let status = status(call, reply);
+    let status = reply_status(call, reply);
     push_status_line(out, status)?;
     fields::push_date(out, now)?;
     fields::push_connection(out, close)?;

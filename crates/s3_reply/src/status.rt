@@ -12,7 +12,7 @@ use fault_base::NoMemory;
 use http::StatusCode;
 
 /// The status of a reply to a call.
-pub(crate) fn status(call: Option<&Call>, reply: &Reply) -> StatusCode
+pub fn reply_status(call: Option<&Call>, reply: &Reply) -> StatusCode
     ensures { result ≡ status_of (seen_call call.entry) reply.now }
 {
     match reply {
