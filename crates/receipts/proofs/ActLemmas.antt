@@ -3,6 +3,7 @@ use Rattle.std.proofs.Common.{◌≡◌, ◌∙◌, ℕ, zero, suc, List, [], �
 use Rattle.std.proofs.lemmas.List.{get_or-map, length-map}
 use Rattle.std.proofs.lemmas.List.Elements.{Contains-append_left, Contains-push}
 use Rattle.call_types.specs.declared.act.Act.{Act}
+use Rattle.call_types.specs.declared.act.Act.TheVariants as act_of
 use Rattle.call_types.specs.declared.act.Brief.{Brief}
 use Rattle.call_types.specs.declared.act.Brief.TheVariants as brief
 use Rattle.call_types.specs.declared.names.Key.{Key}
@@ -22,7 +23,6 @@ use Rattle.version_list.specs.Answers.{IsServed}
 use Rattle.receipts.specs.BucketLists.{FindsRow}
 use Rattle.receipts.specs.Bucketing.{BucketActOwes, bucket_target}
 use Rattle.receipts.specs.Committing.{EndsAtCommit, KeyIsCommitted, Target, act_target}
-use Rattle.receipts.specs.Deleting.{Deletes}
 use Rattle.receipts.specs.Events.{Log, Note, Section, body_of, notes_of, sections_of}
 use Rattle.receipts.specs.Events.Event.{Told}
 use Rattle.receipts.specs.Laws.{IsDoneIn, IsLookedAtIn, NotesAreOwed, ReceiptShowsAct, ShowsAct, ShowsPage}
@@ -90,10 +90,11 @@ shows_bucket : (bucket : List ℕ) (call : Option ChangeId → Brief) (reply : R
 shows_bucket bucket call reply log (inl x) served = shows_commit (bucket_target bucket call) [] reply log x served
 shows_bucket bucket call reply log (inr x) served = absurd (unserved reply _ x.barred.told served)
 
-shows_delete : (set : SetPlan) (at : Key) (pick : Pick) (now : ℕ) (reply : Reply) (log : Log) → KeyIsCommitted at now (Deletes pick) reply log → IsServed reply
-    → ShowsAct set (call_of.Delete at pick) now (body_of log) reply (notes_of log)
-shows_delete set at pick now reply log x served =
-    let change = shows_change at now (Deletes pick) reply log x served in
+-- what a commit of just this act shows
+shows_deed : (at : Key) (act : Act) (now : ℕ) (reply : Reply) (log : Log) → KeyIsCommitted at now (λ done. done ≡ act) reply log → IsServed reply
+    → IsDoneIn (key_slot at) (key_register at) (λ call. (mode : Mode) × (change : Option ChangeId) × (call ≡ brief.Change at mode act change now)) reply (notes_of log)
+shows_deed at act now reply log x served =
+    let change = shows_change at now (λ done. done ≡ act) reply log x served in
     subst (λ done. IsDoneIn (key_slot at) (key_register at)
     (λ call. (mode : Mode) × (change : Option ChangeId) × (call ≡ brief.Change at mode done change now)) reply (notes_of log)) change.1 change.2
 
@@ -225,7 +226,7 @@ shows set (call_of.Head at pick matches) now reply log x served = elim x.1 [
 ]
 shows set (call_of.Delete at pick) now reply log x served = elim x.1 [
   | inl ended ↦ absurd (at_look at.bucket reply log ended served)
-  | inr (inl made) ↦ shows_delete set at pick now reply log made served
+  | inr (inl made) ↦ shows_deed at (act_of.Delete pick) now reply log made served
   | inr (inr barred) ↦ absurd (unserved reply _ barred.barred.told served)
 ]
 shows set (call_of.List2 bucket page) now reply log x served = shows_page (keys_rule page) bucket reply log x.1 served

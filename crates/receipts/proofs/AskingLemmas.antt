@@ -1,5 +1,5 @@
 -- No reply is told without the calls that it speaks of.
-use Rattle.std.proofs.Common.{◌≡◌, ◌∙◌, ◌<◌, ℕ, zero, suc, List, [], ◌∷◌, ◌++◌, ap, arith, cond, inl, inr, length, length-append, refl, slice_index_or, subst, sym}
+use Rattle.std.proofs.Common.{◌≡◌, ◌∙◌, ◌<◌, ℕ, zero, suc, List, [], ◌∷◌, ◌++◌, ap, arith, cond, inl, inr, length, length-append, refl, Some, slice_index_or, subst, sym}
 use Rattle.std.specs.Prelude.{Ok}
 use Rattle.std.proofs.lemmas.Bool.Decides.{eqb_tells}
 use Rattle.call_types.specs.Good.{good_count}
@@ -16,7 +16,8 @@ use Rattle.call_types.specs.declared.names.Key.{Key}
 use Rattle.stamp_id.specs.declared.version.VersionId.{VersionId}
 use Rattle.receipts.specs.Asking.{PutsAskDrives, PutsReachAll, RefusedReadsAskDrives}
 use Rattle.receipts.specs.Events.{Event, Log, Saw, body_of, called_in, calls_at}
-use Rattle.receipts.specs.Events.Event.{Called}
+use Rattle.receipts.specs.Events.Event.{Called, Turned}
+use Rattle.receipts.specs.Registers.{key_slot}
 use Rattle.receipts.specs.Letters.{IsBadManifest, IsInUse, ManifestLetter, Wanted}
 use Rattle.receipts.specs.Staging.{Staging, StagedLetter, TookData}
 use Rattle.receipts.proofs.JoinLemmas.{calls_join}
@@ -61,14 +62,15 @@ took_some id shard manifest log k took none =
     absurd (omega (arith, long, parts))
 
 pub puts_ask_drives : PutsAskDrives
-puts_ask_drives set at kind stated now reply log some none put =
+puts_ask_drives set at kind stated now reply log none put some =
     let enough = put.staged.enough in
     let good = some_good put.staged.whys (omega (arith, some, enough)) in
     let low : good.0 < set.drives = (let counted = put.staged.counted in let inside = good.1 in omega (arith, counted, inside)) in
     let staging : Staging = record { id = put.id; body = body_of log; shards = put.staged.shards } in
+    let behind : Log = Turned (key_slot at) (Some put.own) put.shown ∷ put.rest in
     let letter = subst (λ (w : Why). StagedLetter set at staging put.front good.0 w) good.2 (put.staged.each good.0 low) in
-    took_some put.id _ _ put.front good.0 letter.1 (front_none (calls_at good.0 put.front) (calls_at good.0 put.rest)
-    (sym (calls_join good.0 put.front put.rest) ∙ (ap (calls_at good.0) (sym put.parts) ∙ none good.0)))
+    took_some put.id _ _ put.front good.0 letter.1 (front_none (calls_at good.0 put.front) (calls_at good.0 behind)
+    (sym (calls_join good.0 put.front behind) ∙ (ap (calls_at good.0) (sym put.parts) ∙ none good.0)))
   where
     front_none : (front rest : List DriveCall) → front ++ rest ≡ [] → front ≡ []
     front_none [] rest none = refl

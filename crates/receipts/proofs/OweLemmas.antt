@@ -1,5 +1,5 @@
 -- What is owed stays owed while a log grows.
-use Rattle.std.proofs.Common.{◌≡◌, ◌≢◌, ◌∙◌, ℕ, List, [], ◌∷◌, Option, Contains, length, slice_index_or, inl, inr, sym, ap, subst, ◌≤◌, ◌*◌}
+use Rattle.std.proofs.Common.{◌≡◌, ◌≢◌, ◌∙◌, ℕ, List, [], ◌∷◌, ◌++◌, Some, Option, Contains, length, slice_index_or, append_assoc, inl, inr, sym, ap, subst, ◌≤◌, ◌*◌}
 use Rattle.call_types.specs.declared.act.Act.{Act}
 use Rattle.call_types.specs.declared.act.Brief.{Brief}
 use Rattle.call_types.specs.declared.names.Key.{Key}
@@ -31,10 +31,12 @@ use Rattle.s3_docs.specs.Documents.{IsDocument, IsPlace}
 use Rattle.s3_docs.specs.Machine.Value.{Versioning}
 use Rattle.s3_docs.specs.declared.prologue.Root.TheVariants.{VersioningConfiguration}
 use Rattle.receipts.specs.Events.{Event, Log, Section, body_of}
+use Rattle.receipts.specs.Events.Event.{Turned}
 use Rattle.receipts.specs.Letters.{BlockLetter, CannotRead, FewBlocks, FewTook, IsBadManifest, IsBadShard, IsGoodBlock, ManifestLetter, NoneServes, ShowedAt, ShowedBlock, ShowedTable, StageLetter, Wanted, Wants, bytes_in}
 use Rattle.receipts.specs.Owes.{IsWhole, OwesCall}
 use Rattle.receipts.specs.Putting.{BodyIsNotTaken, DigestDiffers, IsAgreed, PutIsCommitted, PutIsNotBegun, PutOwes, PutsBody}
 use Rattle.receipts.specs.Reading.{BodyIsLost, EndsBeforeRead, GetOwes, HeadOwes, ReadsKey, SpanIsTold, TellsRead}
+use Rattle.receipts.specs.Registers.{key_slot}
 use Rattle.receipts.specs.Pages.{keys_rule, versions_rule}
 use Rattle.receipts.specs.Staging.{IsStaged}
 use Rattle.receipts.proofs.GrowLemmas.{Grows, saw_grows}
@@ -59,8 +61,8 @@ stage_letter set id log later k (Lacks kind.Shard) g h = (h.0, saw_grows log lat
 
 few_took : (set : SetPlan) (slot : ℕ) (whys : List Why) (log later : Log) → Grows log later → FewTook set slot whys log → FewTook set slot whys later
 few_took set slot whys log later g x = record {
-  few = x.few;
   id = x.id;
+  few = x.few;
   of_slot = x.of_slot;
   each = λ k l. stage_letter set x.id log later k (slice_index_or whys k Good) g (x.each k l);
 }
@@ -199,13 +201,17 @@ key_committed at now IsAct reply log later g x = record {
 put_committed : (set : SetPlan) (at : Key) (kinds : List ℕ) (stated : Option (List ℕ)) (now : ℕ) (reply : Reply) (log later : Log) → Grows log later
     → PutIsCommitted set at kinds stated now reply log → PutIsCommitted set at kinds stated now reply later
 put_committed set at kinds stated now reply log later g x =
-    let grown = g.since x.front x.rest x.parts in
+    let own = Turned (key_slot at) (Some x.own) x.shown in
+    let grown = g.since (x.front ++ own ∷ []) x.rest (x.parts ∙ sym (append_assoc x.front (own ∷ []) x.rest)) in
     record {
       agreed = subst (λ body. IsAgreed stated body) (sym g.body) x.agreed;
       id = x.id;
+      of_slot = x.of_slot;
       front = x.front;
+      own = x.own;
+      shown = x.shown;
       rest = grown.0;
-      parts = grown.1;
+      parts = grown.1 ∙ append_assoc x.front (own ∷ []) grown.0;
       looked = x.looked;
       staged = subst (λ body. IsStaged set at x.id body x.front) (sym g.body) x.staged;
       commit = subst (λ body. KeyIsCommitted at now (PutsBody set kinds body x.id) reply later) (sym g.body) (key_committed at now _ reply log later g x.commit);

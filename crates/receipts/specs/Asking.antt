@@ -1,5 +1,6 @@
 -- What a reply says of the drives that were asked, whatever these tell: none is told without a call.
 use Rattle.std.specs.Prelude.{◌≡◌, ℕ, ◌<◌, List, [], Option, length, slice_index_or}
+use Rattle.body_print.specs.Plans.{data_plan}
 use Rattle.call_types.specs.declared.names.Key.{Key}
 use Rattle.call_types.specs.declared.reply.Reply.{Reply}
 use Rattle.call_types.specs.declared.why.Why.{Why}
@@ -16,7 +17,8 @@ use Rattle.receipts.specs.Staging.{TookData, manifest_under}
 -- a log by which no data drive was called is none in which a body was put
 abbrev pub PutsAskDrives : Type 0
 PutsAskDrives = (set : SetPlan) (at : Key) (kind : List ℕ) (stated : Option (List ℕ)) (now : ℕ) (reply : Reply) (log : Log)
-    → 0 < write_drives set.drives set.parity → ((k : ℕ) → calls_at k log ≡ []) → PutIsCommitted set at kind stated now reply log → ⊥
+    → ((k : ℕ) → calls_at k log ≡ []) → (put : PutIsCommitted set at kind stated now reply log)
+    → 0 < write_drives (data_plan set put.id).drives (data_plan set put.id).parity → ⊥
 
 -- where a body was put, each drive in use of which no call failed, and that forgot nothing, took its shard and the manifest
 abbrev pub PutsReachAll : Type 0

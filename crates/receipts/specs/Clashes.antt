@@ -1,6 +1,7 @@
 -- Two different byte strings with one SHA-256, of which a call of a log showed one.
 use Rattle.std.specs.Prelude.{◌≡◌, ◌⊎◌, ℕ, List, length, take, drop}
 use Rattle.body_print.specs.Clashes.{ClashesWith}
+use Rattle.body_print.specs.Plans.{data_plan}
 use Rattle.drive_base.specs.Calls.Seen.{Showed}
 use Rattle.drive_base.specs.declared.plan.SetPlan.{SetPlan}
 use Rattle.manifest_file.specs.Canonical.{IsCanonical}
@@ -39,4 +40,4 @@ WasMet bytes log = WasShown bytes log ⊎ IsShownText bytes log
 pub record ClashIn (set : SetPlan) (body print : List ℕ) (log : Log) : Type 0 where
   pub read : List ℕ
   pub met : WasMet read log
-  pub clash : ClashesWith set.drives set.parity body print read
+  pub clash : ClashesWith (data_plan set print).drives (data_plan set print).parity body print read

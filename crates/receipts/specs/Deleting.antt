@@ -1,7 +1,7 @@
--- What DeleteObject owes.
+-- What a call owes that commits an act to a key and has no body, as DeleteObject.
 use Rattle.std.specs.Prelude.{◌≡◌, ◌⊎◌, ℕ}
 use Rattle.call_types.specs.declared.act.Act.{Act}
-use Rattle.call_types.specs.declared.act.Act.TheVariants as act
+use Rattle.call_types.specs.declared.act.Act.TheVariants as acts
 use Rattle.call_types.specs.declared.names.Key.{Key}
 use Rattle.call_types.specs.declared.names.Pick.{Pick}
 use Rattle.call_types.specs.declared.reply.Reply.{Reply}
@@ -9,10 +9,10 @@ use Rattle.receipts.specs.Committing.{KeyIsBarred, KeyIsCommitted}
 use Rattle.receipts.specs.Events.{Log}
 use Rattle.receipts.specs.Looks.{EndsAtLook}
 
--- an act deletes what a call names
-abbrev pub Deletes : Pick → Act → Type 0
-Deletes pick done = done ≡ act.Delete pick
+-- what a call is answered that does just this act: how its look or its commit ended, or that the commit could not be done
+abbrev pub DeedOwes : Key → Act → ℕ → Reply → Log → Type 0
+DeedOwes at act now reply log = EndsAtLook at.bucket reply log ⊎ KeyIsCommitted at now (λ done. done ≡ act) reply log ⊎ KeyIsBarred at reply log
 
 -- what a DeleteObject is answered
 abbrev pub DeleteOwes : Key → Pick → ℕ → Reply → Log → Type 0
-DeleteOwes at pick now reply log = EndsAtLook at.bucket reply log ⊎ KeyIsCommitted at now (Deletes pick) reply log ⊎ KeyIsBarred at reply log
+DeleteOwes at pick now reply log = DeedOwes at (acts.Delete pick) now reply log

@@ -20,6 +20,7 @@ use Rattle.manifest_file.specs.declared.manifest.TheConstants.{LONGEST_FILE}
 use Rattle.shard_file.specs.Shards.{block_place, table_place}
 use Rattle.shard_file.specs.Stripes.{block_size, stripe_count, stripe_length, stripe_size}
 use Rattle.body_print.specs.Names.{loose_manifest_name, loose_shard_name, manifest_name, shard_name}
+use Rattle.body_print.specs.Plans.{data_plan}
 use Rattle.desk_base.specs.Telling.{Telling}
 use Rattle.desk_base.specs.Telling.Telling.{Head, Piece}
 use Rattle.receipts.specs.Events.{Log, Saw, tale_of}
@@ -46,10 +47,10 @@ StageLetter set id log k (Lacks Register) = ⊥
 StageLetter set id log k (Lacks ManifestKind) = IsInUse set k × Saw log k (Unwritten (loose_manifest_name id))
 StageLetter set id log k (Lacks Shard) = IsInUse set k × Saw log k (Unwritten (loose_shard_name id))
 
--- fewer drives than a write needs took a body, which was staged under an id of a slot
+-- fewer drives than a write of it needs took a body, which was staged under an id of a slot
 pub record FewTook (set : SetPlan) (slot : ℕ) (whys : List Why) (log : Log) : Type 0 where
-  pub few : FewGood set (write_drives set.drives set.parity) whys
   pub id : VersionId
+  pub few : FewGood set (write_drives (data_plan set id).drives (data_plan set id).parity) whys
   pub of_slot : id.slot ≡ slot
   pub each : (k : ℕ) → k < set.drives → StageLetter set id log k (slice_index_or whys k Good)
 
@@ -63,11 +64,11 @@ pub record Wanted : Type 0 where
 abbrev pub length_of_parts : List ManifestPart → ℕ
 length_of_parts parts = sum_by (λ (part : ManifestPart). part.length) parts
 
--- a manifest serves a read: it is canonical, of the numbers of the set, has the print, and its parts reach far enough
+-- a manifest serves a read: it is canonical, of the numbers of the data's plan, has the print, and its parts reach far enough
 pub record Serves (set : SetPlan) (wanted : Wanted) (m : Manifest) : Type 0 where
   pub canonical : IsCanonical m
-  pub drives : m.drives ≡ set.drives
-  pub parity : m.parity ≡ set.parity
+  pub drives : m.drives ≡ (data_plan set wanted).drives
+  pub parity : m.parity ≡ (data_plan set wanted).parity
   pub printed : wanted.print ≡ sha256 (text_under m)
   pub reaches : wanted.reach ≤ length_of_parts m.parts
 
@@ -215,10 +216,14 @@ pub record FewBlocks (set : SetPlan) (wanted : Wanted) (next : ℕ) (whys : List
   pub needed : next < wanted.reach
   pub since : Log
   pub is_since : IsSinceTurned log since drive (manifest_name wanted.id) (file_of manifest)
-  pub few : FewGood set (data_drives set.drives set.parity) whys
+  pub few : FewGood set (data_drives (data_plan set wanted).drives (data_plan set wanted).parity) whys
   pub each : (k : ℕ) → k < set.drives
-      → BlockLetter set (record { d = data_drives set.drives set.parity; part = part; stripe = stripe; root = slice_index_or part.roots k [] }) log since k
-      (slice_index_or whys k Good)
+      → BlockLetter set (record {
+        d = data_drives (data_plan set wanted).drives (data_plan set wanted).parity;
+        part = part;
+        stripe = stripe;
+        root = slice_index_or part.roots k [];
+      }) log since k (slice_index_or whys k Good)
 
 -- a read could not go on at the next byte
 abbrev pub CannotRead : SetPlan → Wanted → ℕ → List Why → Log → Type 0

@@ -1,6 +1,7 @@
 -- What PutObject owes.
 use Rattle.std.specs.Prelude.{◌≡◌, ◌≢◌, ◌⊎◌, ℕ, List, [], ◌∷◌, ◌++◌, length, Option, Some, None}
 use Rattle.md5.specs.Md5.{md5}
+use Rattle.body_print.specs.Plans.{data_plan}
 use Rattle.body_print.specs.Prints.{HasPrint}
 use Rattle.call_types.specs.declared.act.Act.{Act}
 use Rattle.call_types.specs.declared.act.Act.TheVariants as act
@@ -13,7 +14,8 @@ use Rattle.call_types.specs.declared.why.Why.{Why}
 use Rattle.drive_base.specs.declared.plan.SetPlan.{SetPlan}
 use Rattle.stamp_id.specs.declared.version.VersionId.{VersionId}
 use Rattle.receipts.specs.Committing.{HasLooked, KeyIsBarred, KeyIsCommitted}
-use Rattle.receipts.specs.Events.{Log, Section, body_of, sections_of}
+use Rattle.receipts.specs.Events.{Log, Note, Section, Shown, body_of, sections_of}
+use Rattle.receipts.specs.Events.Event.{Turned}
 use Rattle.receipts.specs.Letters.{FewTook}
 use Rattle.receipts.specs.Looks.{EndsAtLook, FindsBucket, TellsRefusal}
 use Rattle.receipts.specs.Registers.{key_slot}
@@ -23,19 +25,22 @@ use Rattle.receipts.specs.Staging.{IsStaged}
 pub record PutsBody (set : SetPlan) (kind body : List ℕ) (id : VersionId) (done : Act) : Type 0 where
   pub print : List ℕ
   pub is : done ≡ act.Put id print (length body) (md5 body) kind
-  pub printed : HasPrint set.drives set.parity body print
+  pub printed : HasPrint (data_plan set id).drives (data_plan set id).parity body print
 
 -- the MD5 that was stated, if any, is the body's
 abbrev pub IsAgreed : Option (List ℕ) → List ℕ → Type 0
 IsAgreed stated body = (given : List ℕ) → stated ≡ Some given → given ≡ md5 body
 
--- the body was put, or its commit was refused: it was staged before its one section behind the look at the bucket
+-- the body was put, or its commit was refused: it was staged under an id of the key's slot when the one section behind the look at the bucket was done
 pub record PutIsCommitted (set : SetPlan) (at : Key) (kind : List ℕ) (stated : Option (List ℕ)) (now : ℕ) (reply : Reply) (log : Log) : Type 0 where
   pub agreed : IsAgreed stated (body_of log)
   pub id : VersionId
+  pub of_slot : id.slot ≡ key_slot at
   pub front : Log
+  pub own : Note
+  pub shown : Shown
   pub rest : Log
-  pub parts : log ≡ front ++ rest
+  pub parts : log ≡ front ++ Turned (key_slot at) (Some own) shown ∷ rest
   pub looked : HasLooked at.bucket front
   pub staged : IsStaged set at id (body_of log) front
   pub commit : KeyIsCommitted at now (PutsBody set kind (body_of log) id) reply log

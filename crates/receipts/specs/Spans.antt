@@ -1,5 +1,6 @@
 -- Which bytes a reply with a body gives.
 use Rattle.std.specs.Prelude.{◌≡◌, ◌⊎◌, ℕ, ◌+◌, List, [], length, take, drop}
+use Rattle.body_print.specs.Plans.{data_plan}
 use Rattle.body_print.specs.Prints.{HasPrint}
 use Rattle.call_types.specs.declared.names.Span.{Span}
 use Rattle.call_types.specs.declared.reply.Reply.{Reply}
@@ -24,7 +25,7 @@ whole_of v = record { at = 0; length = body_length v.what }
 
 -- bytes are the first ones of the span of every body with the print, or there is a clash
 abbrev pub AreOfSpan : SetPlan → List ℕ → Span → List ℕ → Log → Type 0
-AreOfSpan set print span bytes log = (body : List ℕ) → HasPrint set.drives set.parity body print
+AreOfSpan set print span bytes log = (body : List ℕ) → HasPrint (data_plan set print).drives (data_plan set print).parity body print
     → (bytes ≡ take (length bytes) (drop span.at (take (span.at + span.length) body))) ⊎ ClashIn set body print log
 
 -- bytes are of the span of a version's body; a marker has none

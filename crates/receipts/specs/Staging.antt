@@ -12,6 +12,7 @@ use Rattle.manifest_file.specs.Spelling.{file_of}
 use Rattle.manifest_file.specs.declared.manifest.Manifest.{Manifest}
 use Rattle.manifest_file.specs.declared.manifest.ManifestPart.{ManifestPart}
 use Rattle.shard_file.specs.Shards.{root_of, shard_bytes}
+use Rattle.body_print.specs.Plans.{data_plan}
 use Rattle.body_print.specs.Shards.{AreShards}
 use Rattle.body_print.specs.Staging.{staging_calls}
 use Rattle.receipts.specs.Events.{Log, calls_at}
@@ -22,7 +23,7 @@ use Rattle.receipts.specs.Registers.{key_register}
 abbrev pub manifest_under : SetPlan → Key → VersionId → ℕ → List (List (List ℕ)) → Manifest
 manifest_under set at id long shards =
     let part : ManifestPart = record { id = id; length = long; roots = map root_of shards } in
-    record { name = key_register at; drives = set.drives; parity = set.parity; parts = part ∷ [] }
+    record { name = key_register at; drives = (data_plan set id).drives; parity = (data_plan set id).parity; parts = part ∷ [] }
 
 -- a drive took a shard and a manifest: the calls that a log has of it are those which write both, make them last and put them in place, each answered Ok
 pub record TookData (id : VersionId) (shard manifest : List ℕ) (log : Log) (k : ℕ) : Type 0 where
@@ -48,9 +49,9 @@ StagedLetter set at staging log k (Lacks kind) = StageLetter set staging.id log 
 -- a body is staged under an id: as many drives as must take a write, or more, took it, and of each other one its letter tells why not
 pub record IsStaged (set : SetPlan) (at : Key) (id : VersionId) (body : List ℕ) (log : Log) : Type 0 where
   pub shards : List (List (List ℕ))
-  pub are : AreShards set.drives (data_drives set.drives set.parity) body shards
+  pub are : AreShards (data_plan set id).drives (data_drives (data_plan set id).drives (data_plan set id).parity) body shards
   pub whys : List Why
   pub counted : length whys ≡ set.drives
-  pub enough : write_drives set.drives set.parity ≤ good_count whys
+  pub enough : write_drives (data_plan set id).drives (data_plan set id).parity ≤ good_count whys
   pub each : (k : ℕ) → k < set.drives
       → StagedLetter set at (record { id = id; body = body; shards = shards }) log k (slice_index_or whys k Good)
