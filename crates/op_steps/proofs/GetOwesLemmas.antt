@@ -36,7 +36,7 @@ use Rattle.receipts.specs.Paying.{BodyIsCut}
 use Rattle.receipts.specs.Reading.{BodyIsLost, EndsBeforeRead, GetOwes, ReadsKey, TellsRead}
 use Rattle.receipts.specs.Spans.{body_length}
 use Rattle.op_steps.specs.Getting.{GetsGoOn, GetsLackNothing}
-use Rattle.op_steps.specs.Reads.{EnoughServe, ReadsData, ShowsAnother}
+use Rattle.op_steps.specs.Reads.{EnoughServeReads, ReadsData, ShowsAnother}
 use Rattle.op_steps.specs.Requests.{LogComplete}
 use Rattle.op_steps.specs.Steps.{Ran}
 use Rattle.op_steps.specs.Store.{Store}
@@ -218,10 +218,10 @@ cut_read set task at pick ask matches whys tale log is x =
 module _ {D T : Type 0} (ghosts : Ghosts D) (takes breaks : Effect T) where
   -- a front of a log in which a read can't go on
   goes_on : (set : SetPlan) (disks : ℕ) (whys : List Why) (front more log : Log) (old new : Store D T) (ran : Ran ghosts takes breaks set log old new)
-      → LogComplete ghosts takes breaks set log old new ran → EnoughServe ghosts takes breaks set disks log old new ran → log ≡ front ++ more
+      → LogComplete ghosts takes breaks set log old new ran → EnoughServeReads ghosts takes breaks set disks log old new ran → log ≡ front ++ more
       → CannotGoOn set whys front → (wanted : Wanted) × ShowsAnother ghosts takes breaks set disks wanted log old new
   goes_on set disks whys front more log old new ran complete serve is x =
-      let on = complete.reads disks x.wanted front more serve is x.reads in
+      let on = complete.reads disks x.wanted front more (serve x.wanted front more is x.reads) is x.reads in
       elim x.cause [
         | inl none ↦ absurd (on.manifests whys none)
         | inr few ↦ (x.wanted, on.blocks x.next whys few)

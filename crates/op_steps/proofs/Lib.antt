@@ -53,4 +53,5 @@ pub mod StepDataLemmas
 pub mod StepLemmas
 pub mod TellLemmas
 pub mod TrailLemmas
+pub mod TroubleLemmas
 pub mod TurnLemmas

@@ -257,7 +257,7 @@ module _ {D T : Type 0} (ghosts : Ghosts D) (takes breaks : Effect T) (set : Set
 
   pub read_goes_on : EachStepKeepsData ghosts takes breaks → RanKeepsHistory ghosts takes breaks → ManifestsAreNoLonger LONGEST_FILE → (log : Log) (old new : Store D T)
       (at : ℕ → Standing) → AreInOrder set old.slots old.disks → old.claim.slot < 64 → AllHold ghosts.tells ghosts.files unseen old claims [] at
-      → (ran : Ran ghosts takes breaks set log old new) (disks : ℕ) (wanted : Wanted) (front more : Log) → EnoughServe ghosts takes breaks set disks log old new ran
+      → (ran : Ran ghosts takes breaks set log old new) (disks : ℕ) (wanted : Wanted) (front more : Log) → EnoughServe ghosts takes breaks set disks wanted log old new ran
       → log ≡ front ++ more → ReadsData wanted front → ReadGoesOn ghosts takes breaks set disks wanted front log old new
   read_goes_on step_law history lengths log old new at order low held ran disks wanted front more s is r =
       subst (λ (l : Log). ReadGoesOn ghosts takes breaks set disks wanted l log old new) (sym r.parts)

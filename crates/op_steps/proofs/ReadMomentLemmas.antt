@@ -19,7 +19,7 @@ use Rattle.op_steps.specs.Claims.{Claim}
 use Rattle.op_steps.specs.Leading.{Standing}
 use Rattle.op_steps.specs.Reads.{CallServes, CallsServe, IsStill, LeavesSlot}
 use Rattle.op_steps.specs.Refusing.{TookPlace}
-use Rattle.op_steps.specs.Steps.{Ran, StepMoves}
+use Rattle.op_steps.specs.Steps.{IsBarred, Ran, StepMoves, Turns}
 use Rattle.op_steps.specs.Store.{Store}
 use Rattle.op_steps.proofs.ReadBackLemmas.{Names, names_back, still_same}
 use Rattle.op_steps.proofs.ReadFilesLemmas.{HoldsData, KeepsFiles, KeepsManifest, keeps_then, step_keeps}
@@ -54,9 +54,9 @@ module _ {D T : Type 0} (ghosts : Ghosts D) (takes breaks : Effect T) (set : Set
         ∙ (ap (λ (l : Log). before ++ l) (append_assoc x.front (event ∷ x.rest) after) ∙ sym (append_assoc before x.front (event ∷ (x.rest ++ after)))));
     before = x.before;
     after = x.after;
-    led = ran_join ghosts takes breaks set before x.front old from x.before led x.led;
+    led = ran_join (Turns ghosts) IsBarred takes breaks set before x.front old from x.before led x.led;
     step = x.step;
-    leads_on = ran_join ghosts takes breaks set x.rest after x.after to new x.leads_on leads_on;
+    leads_on = ran_join (Turns ghosts) IsBarred takes breaks set x.rest after x.after to new x.leads_on leads_on;
   }
 
   module _ (unseen : Disks) (front rest : List Claim) (slot : ℕ) (small : slot < 64) (name : List ℕ) (named : NamedData) where

@@ -1,18 +1,18 @@
 -- Logs of steps, one behind another.
-use Rattle.std.proofs.Common.{◌∙◌, List, [], ◌∷◌, ◌++◌, append-nil, append_assoc, ap, inl, inr, refl, subst, sym}
+use Rattle.std.proofs.Common.{◌∙◌, ℕ, List, [], ◌∷◌, ◌++◌, Option, append-nil, append_assoc, ap, inl, inr, refl, subst, sym}
 use Rattle.desk_base.specs.Telling.{Effect}
 use Rattle.drive_base.specs.View.{DriveView}
-use Rattle.drive_base.specs.declared.drive.Drive.{Ghosts}
 use Rattle.drive_base.specs.declared.plan.SetPlan.{SetPlan}
 use Rattle.slot_core.specs.declared.stub.Stub.{Stub}
-use Rattle.receipts.specs.Events.{Log, notes_of}
+use Rattle.receipts.specs.Events.{Log, Note, Shown, notes_of}
 use Rattle.receipts.specs.Events.Event.{Called, Fed, Told}
+use Rattle.receipts.specs.declared.barred.Barred.{Barred}
 use Rattle.receipts.proofs.JoinLemmas.{notes_join}
 use Rattle.op_steps.specs.Claims.{Claim}
-use Rattle.op_steps.specs.Going.{AddsNotes, RanSo}
+use Rattle.op_steps.specs.Going.{AddsNotes, RanSoOver}
 use Rattle.op_steps.specs.Notes.{notes_by}
-use Rattle.op_steps.specs.Steps.{Ran}
-use Rattle.op_steps.specs.Store.{FeedSeen, SlotSeen, Store, TellerSeen, store_of}
+use Rattle.op_steps.specs.Steps.{RanOver}
+use Rattle.op_steps.specs.Store.{FeedSeen, StoreOver, TellerSeen, store_of}
 use Rattle.op_steps.specs.Words.{CallsSo, FeedsSo, TellsSo}
 
 -- the notes of two logs, one behind another, are those of both
@@ -20,21 +20,25 @@ pub notes_more : (log more : Log) (s t u : List Stub) → AddsNotes log s t → 
 notes_more log more s t u one two = two ∙ (ap (λ notes. notes ++ notes_of more) one
     ∙ (append_assoc (notes_by s) (notes_of log) (notes_of more) ∙ ap (λ notes. notes_by s ++ notes) (sym (notes_join log more))))
 
-module _ {D T : Type 0} (ghosts : Ghosts D) (takes breaks : Effect T) (set : SetPlan) where
+module _ {S T : Type 0} (turns : ℕ → Option Note → Shown → StoreOver S T → StoreOver S T → Type 0)
+    (bars : ℕ → Barred → StoreOver S T → StoreOver S T → Type 0) (takes breaks : Effect T) (set : SetPlan) where
+  abbrev pub Leads : Log → StoreOver S T → StoreOver S T → Type 0
+  Leads = RanOver turns bars takes breaks set
+
   -- a log leads on where another ends
-  pub ran_join : (log more : Log) (old mid new : Store D T) → Ran ghosts takes breaks set log old mid → Ran ghosts takes breaks set more mid new
-      → Ran ghosts takes breaks set (log ++ more) old new
-  ran_join [] more old mid new same ran = subst (λ (s : Store D T). Ran ghosts takes breaks set more s new) same ran
+  pub ran_join : (log more : Log) (old mid new : StoreOver S T) → Leads log old mid → Leads more mid new
+      → Leads (log ++ more) old new
+  ran_join [] more old mid new same ran = subst (λ (s : StoreOver S T). Leads more s new) same ran
   ran_join (event ∷ log) more old mid new (next, step, led) ran = (next, step, ran_join log more next mid new led ran)
 
   -- nothing was done
-  pub so_none : (Old : Claim → Log → Type 0) (store : Claim → Store D T) (stubs : List Stub) → RanSo ghosts takes breaks Old Old set store store stubs stubs
+  pub so_none : (Old : Claim → Log → Type 0) (store : Claim → StoreOver S T) (stubs : List Stub) → RanSoOver Leads Old Old store store stubs stubs
   so_none Old store stubs claim log holds =
       (claim, [], subst (λ l. Old claim l) (sym (append-nil log)) holds, refl, sym (append-nil (notes_by stubs)))
 
   -- more was done
-  pub so_more : (Old Mid New : Claim → Log → Type 0) (old mid new : Claim → Store D T) (s t u : List Stub)
-      → RanSo ghosts takes breaks Old Mid set old mid s t → RanSo ghosts takes breaks Mid New set mid new t u → RanSo ghosts takes breaks Old New set old new s u
+  pub so_more : (Old Mid New : Claim → Log → Type 0) (old mid new : Claim → StoreOver S T) (s t u : List Stub)
+      → RanSoOver Leads Old Mid old mid s t → RanSoOver Leads Mid New mid new t u → RanSoOver Leads Old New old new s u
   so_more Old Mid New old mid new s t u first second claim log holds =
       let one = first claim log holds in
       let two = second one.0 (log ++ one.1) one.2 in (
@@ -46,8 +50,8 @@ module _ {D T : Type 0} (ghosts : Ghosts D) (takes breaks : Effect T) (set : Set
       )
 
   -- a step at data drives is one call, or nothing was done
-  pub called_so : (Old New : Claim → Log → Type 0) (slots : List (SlotSeen D)) (old new : List DriveView) (feed : FeedSeen) (teller : TellerSeen T) (stubs : List Stub)
-      → CallsSo Old New set old new → RanSo ghosts takes breaks Old New set (λ claim. store_of slots old claim feed teller)
+  pub called_so : (Old New : Claim → Log → Type 0) (slots : S) (old new : List DriveView) (feed : FeedSeen) (teller : TellerSeen T) (stubs : List Stub)
+      → CallsSo Old New set old new → RanSoOver Leads Old New (λ claim. store_of slots old claim feed teller)
       (λ claim. store_of slots new claim feed teller) stubs stubs
   called_so Old New slots old new feed teller stubs calls claim log holds = elim (calls claim log holds) [
     | inl one ↦ (
@@ -67,8 +71,8 @@ module _ {D T : Type 0} (ghosts : Ghosts D) (takes breaks : Effect T) (set : Set
   ]
 
   -- bytes taken of the body are one step
-  pub fed_so : (Old New : Claim → Log → Type 0) (slots : List (SlotSeen D)) (disks : List DriveView) (old new : FeedSeen) (teller : TellerSeen T) (stubs : List Stub)
-      → FeedsSo Old New old new → RanSo ghosts takes breaks Old New set (λ claim. store_of slots disks claim old teller)
+  pub fed_so : (Old New : Claim → Log → Type 0) (slots : S) (disks : List DriveView) (old new : FeedSeen) (teller : TellerSeen T) (stubs : List Stub)
+      → FeedsSo Old New old new → RanSoOver Leads Old New (λ claim. store_of slots disks claim old teller)
       (λ claim. store_of slots disks claim new teller) stubs stubs
   fed_so Old New slots disks old new teller stubs feeds claim log holds =
       let one = feeds claim log holds in (
@@ -80,8 +84,8 @@ module _ {D T : Type 0} (ghosts : Ghosts D) (takes breaks : Effect T) (set : Set
       )
 
   -- and so is a telling
-  pub told_so : (Old New : Claim → Log → Type 0) (slots : List (SlotSeen D)) (disks : List DriveView) (feed : FeedSeen) (old new : TellerSeen T) (stubs : List Stub)
-      → TellsSo takes breaks Old New old new → RanSo ghosts takes breaks Old New set (λ claim. store_of slots disks claim feed old)
+  pub told_so : (Old New : Claim → Log → Type 0) (slots : S) (disks : List DriveView) (feed : FeedSeen) (old new : TellerSeen T) (stubs : List Stub)
+      → TellsSo takes breaks Old New old new → RanSoOver Leads Old New (λ claim. store_of slots disks claim feed old)
       (λ claim. store_of slots disks claim feed new) stubs stubs
   told_so Old New slots disks feed old new stubs tells claim log holds =
       let one = tells claim log holds in (

@@ -2,6 +2,7 @@
 use Rattle.std.proofs.Common.{◌≡◌, ◌∙◌, ◌<◌, ◌≤◌, ℕ, List, [], Option, Some, Contains, MatchOption, length, slice_index_or, sym, subst, inl, inr, refl, arith}
 use Rattle.std.specs.Int.{IsBitSet}
 use Rattle.std.proofs.lemmas.List.{get_or_default}
+use Rattle.body_print.specs.Plans.{data_plan}
 use Rattle.call_types.specs.declared.refusal.Refusal.{Refusal}
 use Rattle.call_types.specs.declared.refusal.Refusal.TheVariants.{NotInFlight}
 use Rattle.call_types.specs.declared.why.FileKind.TheVariants.{Format, Manifest, Register, Shard}
@@ -102,8 +103,8 @@ module _ {D T : Type 0} (ghosts : Ghosts D) (takes breaks : Effect T) (step_law 
 
     -- and not too few data drives took a body
     pub body_taken : (disks slot : ℕ) (whys : List Why) → DisksAreCalm set disks old.disks new.disks
-        → write_drives set.drives set.parity ≤ count_in disks set.drives → FewTook set slot whys log → ⊥
-    body_taken disks slot whys calm enough took =
+        → (took : FewTook set slot whys log) → write_drives (data_plan set took.id).drives (data_plan set took.id).parity ≤ count_in disks set.drives → ⊥
+    body_taken disks slot whys calm took enough =
         let counted = took.few.counted in
         let most = good_enough set.drives disks whys counted (λ k inside bit.
         get_or_default whys k (Lacks Format) Good (omega (arith, counted, inside))

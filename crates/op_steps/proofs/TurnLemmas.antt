@@ -24,7 +24,7 @@ use Rattle.op_steps.specs.declared.next.OpNext.TheVariants.{Section}
 use Rattle.op_steps.proofs.SlotLemmas.{order_index, order_stays}
 
 -- the stub of a section is kept behind the others
-notes_kept : (stubs : List Stub) (stub : Option Stub) (k : ℕ) (shown : Shown) → AddsNotes (Turned k (noted stub) shown ∷ []) stubs (stubs ++ option_to_list stub)
+pub notes_kept : (stubs : List Stub) (stub : Option Stub) (k : ℕ) (shown : Shown) → AddsNotes (Turned k (noted stub) shown ∷ []) stubs (stubs ++ option_to_list stub)
 notes_kept stubs None k shown = map-append note_of stubs []
 notes_kept stubs (Some stub) k shown = map-append note_of stubs (stub ∷ [])
 

@@ -4,6 +4,7 @@ use Rattle.std.specs.Int.{IsBitSet}
 use Rattle.audit_trail.specs.declared.entry.Deed.TheVariants.{Done, Kept}
 use Rattle.audit_trail.specs.declared.entry.Entry.{Entry}
 use Rattle.body_print.specs.Names.{manifest_name}
+use Rattle.body_print.specs.Plans.{data_plan}
 use Rattle.call_types.specs.Good.{good_count}
 use Rattle.call_types.specs.declared.act.Brief.{Brief}
 use Rattle.call_types.specs.declared.act.Brief.TheVariants.{Answer}
@@ -136,7 +137,7 @@ module _ {D : Type 0} (ghosts : Ghosts D) where
     pub adds_is : next.adds ≡ Some adds
     pub each : (drive : ℕ) → drive < length old
         → DriveLetter (of_manifests was.numbers.set adds) was.numbers.set.out drive (letter_at whys drive) (view_at old drive) (view_at new drive)
-    pub few : good_count whys < data_drives was.numbers.set.drives was.numbers.set.parity
+    pub few : good_count whys < data_drives (data_plan was.numbers.set adds.id).drives (data_plan was.numbers.set adds.id).parity
 
   -- why, by the refusal: fewer lanes than a read or a write needs were good, with their letters; the data of a change on its way is missing; the slot's numbers
   -- are spent, or its audit failed, and no entry was written; the claim's own put isn't listed; and a refusal by the state of a key is what the entry says

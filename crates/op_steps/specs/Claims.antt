@@ -2,11 +2,15 @@
 use Rattle.std.specs.Prelude.{◌≡◌, ◌⊎◌, ℕ, ◌<◌, ◌^◌, ◌==◌, Bool, IsTrue, bit_and, if◌then◌else◌, List, [], ◌∷◌, ◌++◌, Contains, filter, length, map, nat_eq, option_to_list, option_map, Option, Some, None}
 use Rattle.std.specs.Int.{IsBitSet}
 use Rattle.std.specs.List.{flat_map, range_with_len}
-use Rattle.drive_base.specs.Files.{Named}
+use Rattle.drive_base.specs.Files.{Files, Named}
+use Rattle.drive_base.specs.HonestDamage.{IsHonestAt}
 use Rattle.drive_base.specs.View.{DriveView, view_at}
 use Rattle.drive_base.specs.declared.plan.SetPlan.{SetPlan}
+use Rattle.manifest_file.specs.Spelling.{manifest_kind}
 use Rattle.put_stage.specs.Cells.{DataCells, data_of}
 use Rattle.put_stage.specs.Working.{HasNoneLoose, Keeps}
+use Rattle.seal_file.specs.Sealing.{IsDamage}
+use Rattle.seal_file.specs.declared.damage.Damage.{Damage}
 use Rattle.stamp_id.specs.declared.version.VersionId.{VersionId}
 use Rattle.version_list.specs.State.{AreDistinct}
 use Rattle.body_print.specs.Names.{manifest_name, shard_name}
@@ -73,10 +77,19 @@ pub record AllApart (claims : List Claim) : Type 0 where
   pub flights : AreDistinct (flights_in claims)
   pub pins : AreDistinct (pins_in claims)
 
--- each drive of a set that is in use tells what it holds
+-- bytes that are no sealed file of a manifest, whatever is kept
+abbrev pub IsUnsealed : Option (List ℕ) → List ℕ → Type 0
+IsUnsealed kept bytes = (damage : Damage) × IsDamage manifest_kind bytes damage
+
+-- damage of manifests is honest: under the name of each the files show what is kept, or bytes that are no sealed file of a manifest
+abbrev pub HasHonestManifests : Files → Type 0
+HasHonestManifests files = (id : VersionId) → IsHonestAt IsUnsealed (manifest_name id) files
+
+-- each drive of a set that is in use tells what it holds, and damage of its manifests is honest
 pub record DisksTell (set : SetPlan) (disks : List DriveView) : Type 0 where
   pub count : length disks ≡ set.drives
   pub tell : (k : ℕ) → k < set.drives → (IsBitSet set.out k → ⊥) → IsTrue (view_at disks k).tells
+  pub honest : (k : ℕ) → k < set.drives → (IsBitSet set.out k → ⊥) → HasHonestManifests (view_at disks k).files
 
 -- what a drive keeps that counts: one in use what it shows; in the place of one that is out any files may stand, of which no step knows
 abbrev pub counted_on : Disks → ℕ → List DriveView → ℕ → Named (List ℕ)

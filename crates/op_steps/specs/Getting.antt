@@ -15,7 +15,7 @@ use Rattle.drive_base.specs.declared.plan.SetPlan.{SetPlan}
 use Rattle.receipts.specs.Events.{Log}
 use Rattle.receipts.specs.Letters.{Wanted}
 use Rattle.receipts.specs.Paying.{BodyIsCut, WasOwed}
-use Rattle.op_steps.specs.Reads.{EnoughServe, ShowsAnother}
+use Rattle.op_steps.specs.Reads.{EnoughServeReads, ShowsAnother}
 use Rattle.op_steps.specs.Requests.{LogComplete}
 use Rattle.op_steps.specs.Steps.{Ran}
 use Rattle.op_steps.specs.Store.{Store}
@@ -30,11 +30,11 @@ module _ {D T : Type 0} (ghosts : Ghosts D) (takes breaks : Effect T) where
   abbrev pub GetsGoOn : Type 0
   GetsGoOn = (set : SetPlan) (task : Task) (at : Key) (pick : Pick) (ask : RangeAsk) (matches : Option (List ℕ)) (disks : ℕ) (whys : List Why) (log : Log)
       (old new : Store D T) (ran : Ran ghosts takes breaks set log old new) → LogComplete ghosts takes breaks set log old new ran → task.call ≡ Get at pick ask matches
-      → EnoughServe ghosts takes breaks set disks log old new ran → TellsLetters set task whys log
+      → EnoughServeReads ghosts takes breaks set disks log old new ran → TellsLetters set task whys log
       → (wanted : Wanted) × ShowsAnother ghosts takes breaks set disks wanted log old new
 
   -- where all data drives do, it is told none
   abbrev pub GetsLackNothing : Type 0
   GetsLackNothing = (set : SetPlan) (task : Task) (at : Key) (pick : Pick) (ask : RangeAsk) (matches : Option (List ℕ)) (disks : ℕ) (whys : List Why) (log : Log)
       (old new : Store D T) (ran : Ran ghosts takes breaks set log old new) → LogComplete ghosts takes breaks set log old new ran → task.call ≡ Get at pick ask matches
-      → EnoughServe ghosts takes breaks set disks log old new ran → ((k : ℕ) → k < set.drives → IsBitSet disks k) → TellsLetters set task whys log → ⊥
+      → EnoughServeReads ghosts takes breaks set disks log old new ran → ((k : ℕ) → k < set.drives → IsBitSet disks k) → TellsLetters set task whys log → ⊥

@@ -5,6 +5,7 @@ pub mod Calls
 pub mod Causes
 pub mod ChangeLetters
 pub mod Claims
+pub mod Coming
 pub mod Committing
 pub mod DriveLetters
 pub mod Getting
@@ -26,4 +27,5 @@ pub mod Serving
 pub mod Steps
 pub mod Store
 pub mod Trails
+pub mod Troubles
 pub mod Words

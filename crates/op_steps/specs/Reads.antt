@@ -5,6 +5,7 @@ use Rattle.audit_trail.specs.declared.entry.Deed.TheVariants.{Done}
 use Rattle.audit_trail.specs.declared.entry.Entry.{Entry}
 use Rattle.body_print.specs.Clashes.{IsClash}
 use Rattle.body_print.specs.Names.{manifest_name}
+use Rattle.body_print.specs.Plans.{data_plan}
 use Rattle.call_types.specs.declared.act.Brief.TheVariants.{Answer, Read}
 use Rattle.call_types.specs.declared.names.Key.{Key}
 use Rattle.call_types.specs.declared.names.Mode.{Mode}
@@ -106,11 +107,18 @@ module _ {D T : Type 0} (ghosts : Ghosts D) (takes breaks : Effect T) where
   CallsServe set disks [] old new ran = Unit {0}
   CallsServe set disks (event ∷ log) old new (mid, step, ran) = CallServes set disks event old.disks mid.disks × CallsServe set disks log mid new ran
 
-  -- data drives of a set are in use and serve in a log, and are enough: as many of any that took a write are among them as a stripe has data blocks
-  pub record EnoughServe (set : SetPlan) (disks : ℕ) (log : Log) (old new : Store D T) (ran : Ran ghosts takes breaks set log old new) : Type 0 where
+  -- data drives of a set are in use and serve in a log, and are enough for this data: as many of any that took a write of it are among them as a stripe of it
+  -- has data blocks
+  pub record EnoughServe (set : SetPlan) (disks : ℕ) (wanted : Wanted) (log : Log) (old new : Store D T) (ran : Ran ghosts takes breaks set log old new) : Type 0 where
     pub in_use : (k : ℕ) → k < set.drives → IsBitSet disks k → IsInUse set k
     pub serve : CallsServe set disks log old new ran
-    pub enough : set.drives + data_drives set.drives set.parity ≤ count_in disks set.drives + write_drives set.drives set.parity
+    pub enough : set.drives + data_drives (data_plan set wanted).drives (data_plan set wanted).parity
+        ≤ count_in disks set.drives + write_drives (data_plan set wanted).drives (data_plan set wanted).parity
+
+  -- they are enough for whatever data a log begins with a read of
+  abbrev pub EnoughServeReads : (set : SetPlan) (disks : ℕ) (log : Log) (old new : Store D T) → Ran ghosts takes breaks set log old new → Type 0
+  EnoughServeReads set disks log old new ran = (wanted : Wanted) (front more : Log) → log ≡ front ++ more → ReadsData wanted front
+      → EnoughServe set disks wanted log old new ran
 
   -- a drive that isn't one of a set showed another manifest with the print than one of the set keeps, and keeps none that begins so: two texts have one
   -- SHA-256, or it names data of other ids

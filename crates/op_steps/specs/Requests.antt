@@ -2,6 +2,7 @@
 use Rattle.std.specs.Prelude.{◌≡◌, ℕ, zero, suc, ◌<◌, ◌≤◌, List, [], ◌∷◌, ◌++◌, Contains, Option, Some, MatchOption}
 use Rattle.std.specs.Int.{IsBitSet}
 use Rattle.audit_trail.specs.declared.entry.Entry.{Entry}
+use Rattle.body_print.specs.Plans.{data_plan}
 use Rattle.call_types.specs.declared.refusal.Refusal.TheVariants.{NotInFlight}
 use Rattle.call_types.specs.declared.why.Why.{Why}
 use Rattle.desk_base.specs.Telling.{Effect}
@@ -63,11 +64,11 @@ module _ {D T : Type 0} (ghosts : Ghosts D) (takes breaks : Effect T) where
         → AreEnough ghosts set lanes disks (HasAllLanes set lanes note.entry) fault → note.refusal ≡ refusal_by (Quorum fault) → ⊥
     -- none in the call's own slot is refused for a put that isn't listed
     pub puts : (note : Note) (shown : Shown) (id : VersionId) → Contains log (Turned old.claim.slot (Some note) shown) → note.refusal ≡ Some (NotInFlight id) → ⊥
-    -- not too few data drives took a body where as many as must take a write are in use and have no fault over the log
-    pub body : (disks slot : ℕ) (whys : List Why) → DisksAreCalm set disks old.disks new.disks → write_drives set.drives set.parity ≤ count_in disks set.drives
-        → FewTook set slot whys log → ⊥
+    -- not too few data drives took a body where as many as must take a write of it are in use and have no fault over the log
+    pub body : (disks slot : ℕ) (whys : List Why) → DisksAreCalm set disks old.disks new.disks → (took : FewTook set slot whys log)
+        → write_drives (data_plan set took.id).drives (data_plan set took.id).parity ≤ count_in disks set.drives → ⊥
     -- a read of data that its section found goes on where enough data drives serve
-    pub reads : (disks : ℕ) (wanted : Wanted) (front more : Log) → EnoughServe ghosts takes breaks set disks log old new ran → log ≡ front ++ more
+    pub reads : (disks : ℕ) (wanted : Wanted) (front more : Log) → EnoughServe ghosts takes breaks set disks wanted log old new ran → log ≡ front ++ more
         → ReadsData wanted front → ReadGoesOn ghosts takes breaks set disks wanted front log old new
 
   -- so it is over the log of a call on a store that holds

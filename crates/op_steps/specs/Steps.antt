@@ -10,7 +10,7 @@ use Rattle.receipts.specs.Events.{Event, Log, Note, Shown}
 use Rattle.receipts.specs.Events.Event.{BarredFrom, Called, Fed, Told, Turned}
 use Rattle.receipts.specs.declared.barred.Barred.{Barred}
 use Rattle.op_steps.specs.Moves.{BarCause, CallMoves, FeedMoves, TellMoves, TurnMoves}
-use Rattle.op_steps.specs.Store.{SlotSeen, Store, store_of}
+use Rattle.op_steps.specs.Store.{SlotSeen, Store, StoreOver, store_of}
 
 -- one slot of a list: the one of this index was so
 abbrev pub IsSlotAt : {D : Type 0} → List (SlotSeen D) → ℕ → SlotSeen D → Type 0
@@ -34,29 +34,38 @@ pub record IsBarred {D T : Type 0} (k : ℕ) (why : Barred) (old new : Store D T
   pub leaves : new ≡ old
 
 -- one call of a data drive
-pub record Calls {D T : Type 0} (set : SetPlan) (k : ℕ) (made : MadeCall) (old new : Store D T) : Type 0 where
+pub record Calls {S T : Type 0} (set : SetPlan) (k : ℕ) (made : MadeCall) (old new : StoreOver S T) : Type 0 where
   pub moves : CallMoves set k made old.claim new.claim old.disks new.disks
   pub leaves : new ≡ store_of old.slots new.disks new.claim old.feed old.teller
 
 -- bytes taken of the body, and a telling
-pub record Feeds {D T : Type 0} (bytes : List ℕ) (cut : Option Cut) (old new : Store D T) : Type 0 where
+pub record Feeds {S T : Type 0} (bytes : List ℕ) (cut : Option Cut) (old new : StoreOver S T) : Type 0 where
   pub moves : FeedMoves bytes cut old.feed new.feed
   pub leaves : new ≡ store_of old.slots old.disks old.claim new.feed old.teller
 
-pub record TellsOne {D T : Type 0} (takes breaks : Effect T) (telling : Telling) (cut : Option Cut) (old new : Store D T) : Type 0 where
+pub record TellsOne {S T : Type 0} (takes breaks : Effect T) (telling : Telling) (cut : Option Cut) (old new : StoreOver S T) : Type 0 where
   pub moves : TellMoves takes breaks telling cut old.teller new.teller
   pub leaves : new ≡ store_of old.slots old.disks old.claim old.feed new.teller
 
-module _ {D T : Type 0} (ghosts : Ghosts D) (takes breaks : Effect T) (set : SetPlan) where
-  -- what an event does to a store
-  abbrev pub StepMoves : Event → Store D T → Store D T → Type 0
-  StepMoves (Turned k note shown) old new = Turns ghosts k note shown old new
-  StepMoves (BarredFrom k why) old new = IsBarred k why old new
-  StepMoves (Called k made) old new = Calls set k made old new
-  StepMoves (Fed bytes cut) old new = Feeds bytes cut old new
-  StepMoves (Told telling cut) old new = TellsOne takes breaks telling cut old new
+module _ {S T : Type 0} (turns : ℕ → Option Note → Shown → StoreOver S T → StoreOver S T → Type 0)
+    (bars : ℕ → Barred → StoreOver S T → StoreOver S T → Type 0) (takes breaks : Effect T) (set : SetPlan) where
+  -- what an event does to a store, where a section does this and one that could not be done that
+  abbrev pub StepOver : Event → StoreOver S T → StoreOver S T → Type 0
+  StepOver (Turned k note shown) old new = turns k note shown old new
+  StepOver (BarredFrom k why) old new = bars k why old new
+  StepOver (Called k made) old new = Calls set k made old new
+  StepOver (Fed bytes cut) old new = Feeds bytes cut old new
+  StepOver (Told telling cut) old new = TellsOne takes breaks telling cut old new
 
   -- a log leads from one store to another
+  abbrev pub RanOver : Log → StoreOver S T → StoreOver S T → Type 0
+  RanOver [] old new = new ≡ old
+  RanOver (event ∷ log) old new = (mid : StoreOver S T) × StepOver event old mid × RanOver log mid new
+
+module _ {D T : Type 0} (ghosts : Ghosts D) (takes breaks : Effect T) (set : SetPlan) where
+  -- so of the store that one op has for itself
+  abbrev pub StepMoves : Event → Store D T → Store D T → Type 0
+  StepMoves = StepOver (Turns ghosts) IsBarred takes breaks set
+
   abbrev pub Ran : Log → Store D T → Store D T → Type 0
-  Ran [] old new = new ≡ old
-  Ran (event ∷ log) old new = (mid : Store D T) × StepMoves event old mid × Ran log mid new
+  Ran = RanOver (Turns ghosts) IsBarred takes breaks set

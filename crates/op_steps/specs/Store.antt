@@ -53,16 +53,20 @@ teller_of teller faults = record { value = teller; faults = faults }
 abbrev pub any_effect : Effect (Unit {0})
 any_effect old telling new = Unit {0}
 
--- a store, as one op has it, with slots over drives of one type and a teller
-pub record Store (D T : Type 0) : Type 0 where
-  pub slots : List (SlotSeen D)
+-- a store, as one op has it, with a teller: of its slots there is seen what its desk gives
+pub record StoreOver (S T : Type 0) : Type 0 where
+  pub slots : S
   pub disks : List DriveView
   pub claim : Claim
   pub feed : FeedSeen
   pub teller : TellerSeen T
 
+-- one with slots over drives of one type
+abbrev pub Store : Type 0 → Type 0 → Type 0
+Store D T = StoreOver (List (SlotSeen D)) T
+
 -- a store of these parts
-abbrev pub store_of : {D T : Type 0} → List (SlotSeen D) → List DriveView → Claim → FeedSeen → TellerSeen T → Store D T
+abbrev pub store_of : {S T : Type 0} → S → List DriveView → Claim → FeedSeen → TellerSeen T → StoreOver S T
 store_of slots disks claim feed teller = record { slots = slots; disks = disks; claim = claim; feed = feed; teller = teller }
 
 -- the slots are of one set, and stand in the order of their indices, 64 of them

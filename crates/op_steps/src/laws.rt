@@ -4,6 +4,7 @@ ghost use Rattle.std.specs.Global.{Global};
 ghost use Rattle.op_steps.specs.Committing.{CommitIsTurn};
 ghost use Rattle.drive_base.specs.declared.plan.SetPlan.{SetPlan};
 ghost use Rattle.op_steps.specs.Calling.{CallsKeep};
+ghost use Rattle.op_steps.specs.Coming.{ClaimsCome, ClaimsGo};
 ghost use Rattle.op_steps.specs.ChangeLetters.{HealthyLanesKeep};
 ghost use Rattle.op_steps.specs.CalmRegisters.{CalmReadsGoOn};
 ghost use Rattle.op_steps.specs.Getting.{GetsGoOn, GetsLackNothing};
@@ -18,6 +19,7 @@ ghost use Rattle.op_steps.specs.Refusing.{BarsHaveCauses, CallsWereMade, CallsWe
 ghost use Rattle.op_steps.specs.Requests.{CallsComplete, RequestComplete};
 ghost use Rattle.op_steps.specs.Store.{any_effect};
 ghost use Rattle.op_steps.specs.Trails.{LogsAreTrails};
+ghost use Rattle.op_steps.specs.Troubles.{TroubleKeepsData};
 
 use desk_base::Teller;
 use drive_base::Drive;
@@ -47,6 +49,17 @@ pub fn call_law<D: Drive>()
 /// So it is over calls one after another. It does nothing.
 pub fn calls_law<D: Drive>()
     ensures { (set : SetPlan) → CallsKeep D.Drive set }
+{}
+
+/// A claim of nothing may come anywhere among the claims of a store that holds, and go. It does nothing.
+pub fn claim_laws<D: Drive>()
+    ensures come { ClaimsCome D.tells D.files }
+    ensures go { ClaimsGo D.tells D.files }
+{}
+
+/// Trouble that befalls lanes and data drives between two steps leaves the data of every slot, where the damage is honest. It does nothing.
+pub fn trouble_law<D: Drive>()
+    ensures { TroubleKeepsData D.Drive }
 {}
 
 /// Where entries run with what their sections showed, they run as a history does; such runs join, and each section of one showed what was so. It does nothing.
@@ -104,8 +117,8 @@ pub fn lanes_law<D: Drive>()
     ensures { HealthyLanesKeep D.Drive }
 {}
 
-/// In the log of a call a section that only looks at a register isn't refused for a fault of a quorum where the entries before it left the register calm, and as
-/// many of its lanes serve as a stripe has data blocks. It does nothing.
+/// In the log of a call over a slot whose lanes stand a section that only looks at a register isn't refused for a fault of a quorum where the entries before it
+/// left the register calm, and as many of its lanes serve as a stripe has data blocks. Of data drives nothing is asked. It does nothing.
 pub fn calm_law<D: Drive, T: Teller>()
     ensures { CalmReadsGoOn D.Drive T.takes T.breaks }
 {}

@@ -1,13 +1,10 @@
-//! What a call does step by step.
+//! What is done step by step.
 
 ghost use Rattle.std.specs.Prelude.{◌≡◌, ◌+◌, ◌<◌, ◌^◌, ℕ, Option, length};
 ghost use Rattle.call_types.specs.declared.feed.Cut.{Cut};
-ghost use Rattle.desk_base.specs.Answering.{Task};
-ghost use Rattle.desk_base.specs.Calls.{stated_length};
 ghost use Rattle.drive_base.specs.View.{views};
 ghost use Rattle.drive_base.specs.declared.plan.SetPlan.{SetPlan};
 ghost use Rattle.receipts.specs.Events.{Log};
-ghost use Rattle.receipts.specs.Paying.{Pays};
 ghost use Rattle.slot_core.specs.Numbers.{NumbersMove};
 ghost use Rattle.slot_core.specs.Views.{numbers_of};
 ghost use Rattle.op_steps.specs.Claims.{Claim};
@@ -24,15 +21,24 @@ use receipts::Barred;
 use slot_core::{Slot, Stub};
 use std::alloc::Global;
 
-/// A call that is served step by step: each step is one section of a slot, one call of a data drive, some bytes of the body or one telling. Other calls may
-/// work between two steps. An op holds no slot, no drive and no connection; what it does to them stands in the log of its steps, and what it relies on between
-/// two steps is its claim. An op that never makes such a step has a `data` or a `feed` that does nothing.
+/// What is done step by step for a caller or by the store itself: each step is one section of a slot, one call of a data drive, some bytes of the body or one
+/// telling. Other ops may work between two steps. An op holds no slot, no drive and no connection; what it does to them stands in the log of its steps, and what
+/// it relies on between two steps is its claim. An op that never makes such a step has a `data` or a `feed` that does nothing.
 pub trait Op {
     /// The set of the store.
     ghost set: { Self → SetPlan };
 
-    /// What is asked.
-    ghost task: { Self → Task };
+    /// What it is to do: what a caller asks, or work of the store's own.
+    ghost Asked: { Type 0 };
+
+    /// That of an op.
+    ghost asked: { Self → Asked };
+
+    /// What its log must be once nothing is left to do, where it was cut for this.
+    ghost owed: { SetPlan → Asked → Option Cut → Log → Type 0 };
+
+    /// The stated length of its body; 0 where it has none.
+    ghost stated: { Asked → ℕ };
 
     /// What comes next.
     ghost step: { Self → OpNext };
@@ -49,12 +55,12 @@ pub trait Op {
     /// Why it was cut, if it was.
     ghost cut_at: { Self → Option Cut };
 
-    /// What comes next. Where nothing does, each log that it may have pays what the call owes, and it holds nothing any more but where a section could not be
+    /// What comes next. Where nothing does, each log that it may have is owed, and it holds nothing any more but where a section could not be
     /// done.
     fn next(&self) -> OpNext
         ensures step { result ≡ step self.now }
         ensures slot { IsInStore result }
-        ensures done { (claim : Claim) (log : Log) → result ≡ OpNext.Done → stands self.now claim log → Pays (set self.now) (task self.now) (cut_at self.now) log }
+        ensures done { (claim : Claim) (log : Log) → result ≡ OpNext.Done → stands self.now claim log → owed (set self.now) (asked self.now) (cut_at self.now) log }
         ensures ends { (claim : Claim) (log : Log) → result ≡ OpNext.Done → stands self.now claim log → LetsGo claim log };
 
     /// Does a section of the slot that `next` named. It gives the section's stub, if that has one.
@@ -69,7 +75,7 @@ pub trait Op {
         requires slot_set { (numbers_of slot.old).set ≡ set self.old }
         requires disks { length disks.old ≡ (set self.old).drives }
         ensures set { set self.new ≡ set self.old }
-        ensures task { task self.new ≡ task self.old }
+        ensures asked { asked self.new ≡ asked self.old }
         ensures left { left self.new < left self.old }
         ensures taken { taken self.new ≡ taken self.old }
         ensures disks { length disks.new ≡ length disks.old }
@@ -81,7 +87,7 @@ pub trait Op {
     fn barred(&mut self, why: Barred)
         requires next { IsSection (step self.old) }
         ensures set { set self.new ≡ set self.old }
-        ensures task { task self.new ≡ task self.old }
+        ensures asked { asked self.new ≡ asked self.old }
         ensures left { left self.new < left self.old }
         ensures taken { taken self.new ≡ taken self.old }
         ensures barred { BarredSo (stands self.old) (stands self.new) (step self.old) why };
@@ -90,7 +96,7 @@ pub trait Op {
     fn data<D: Drive>(&mut self, alloc: Global, disks: &mut [D])
         requires disks { length disks.old ≡ (set self.old).drives }
         ensures set { set self.new ≡ set self.old }
-        ensures task { task self.new ≡ task self.old }
+        ensures asked { asked self.new ≡ asked self.old }
         ensures left { step self.old ≡ OpNext.Data → left self.new < left self.old }
         ensures taken { taken self.new ≡ taken self.old }
         ensures disks { length disks.new ≡ length disks.old }
@@ -98,10 +104,10 @@ pub trait Op {
 
     /// Takes the next bytes of the body from its feed, which is the same one at each step, where some are due.
     fn feed<F: Feed>(&mut self, alloc: Global, feed: &mut F)
-        requires stated { (F.seen feed.old).stated ≡ stated_length (task self.old).call }
+        requires stated { (F.seen feed.old).stated ≡ stated (asked self.old) }
         requires given { (F.seen feed.old).given ≡ taken self.old }
         ensures set { set self.new ≡ set self.old }
-        ensures task { task self.new ≡ task self.old }
+        ensures asked { asked self.new ≡ asked self.old }
         ensures left { step self.old ≡ OpNext.Feed → left self.new < left self.old }
         ensures taken { taken self.new ≡ (F.seen feed.new).given }
         ensures stated { (F.seen feed.new).stated ≡ (F.seen feed.old).stated }
@@ -112,7 +118,7 @@ pub trait Op {
     fn tell<T: Teller>(&mut self, alloc: Global, teller: &mut T)
         requires next { step self.old ≡ OpNext.Tell }
         ensures set { set self.new ≡ set self.old }
-        ensures task { task self.new ≡ task self.old }
+        ensures asked { asked self.new ≡ asked self.old }
         ensures left { left self.new < left self.old }
         ensures taken { taken self.new ≡ taken self.old }
         ensures tells { TellsSo T.takes T.breaks (stands self.old) (stands self.new) (teller_of teller.old (T.faults teller.old))

@@ -40,7 +40,7 @@ fn section_at<O: Op, D: Drive, A: Audit>(
     requires order { AreInOrder (O.set op.old) (slots_seen A.entries A.count slots.old) (views D.Drive disks.old) }
     requires turns { (d : Slot D A) → (numbers_of (slice_index_or slots.old index d)).turns + 1 < 2 ^ 64 }
     ensures set { O.set op.new ≡ O.set op.old }
-    ensures task { O.task op.new ≡ O.task op.old }
+    ensures asked { O.asked op.new ≡ O.asked op.old }
     ensures left { O.left op.new < O.left op.old }
     ensures taken { O.taken op.new ≡ O.taken op.old }
     ensures order { AreInOrder (O.set op.old) (slots_seen A.entries A.count slots.new) (views D.Drive disks.new) }
@@ -52,7 +52,7 @@ fn section_at<O: Op, D: Drive, A: Audit>(
 
 /// Does a section of the slot of this index, and puts its stub behind the others. A section that can't be done is told to the op with its reason: the slot's
 /// turns are spent, or there is no memory for one stub more. So nothing is refused for want of memory once a section was done.
-pub(crate) fn turn<O: Op, D: Drive, A: Audit, T: Teller>(
+pub fn turn<O: Op, D: Drive, A: Audit, T: Teller>(
     alloc: Global,
     op: &mut O,
     slots: &mut [Slot<D, A>],
@@ -64,7 +64,7 @@ pub(crate) fn turn<O: Op, D: Drive, A: Audit, T: Teller>(
     requires index { index < 64 }
     requires order { AreInOrder (O.set op.old) (slots_seen A.entries A.count slots.old) (views D.Drive disks.old) }
     ensures set { O.set op.new ≡ O.set op.old }
-    ensures task { O.task op.new ≡ O.task op.old }
+    ensures asked { O.asked op.new ≡ O.asked op.old }
     ensures left { O.left op.new < O.left op.old }
     ensures taken { O.taken op.new ≡ O.taken op.old }
     ensures order { AreInOrder (O.set op.old) (slots_seen A.entries A.count slots.new) (views D.Drive disks.new) }

@@ -7,24 +7,24 @@ use Rattle.op_steps.proofs.TellLemmas.{none_pays}
 use Rattle.op_steps.proofs.run.call_op.Goals as goal
 
 pub returns-clause-done : goal.returns-clause-done
-returns-clause-done g c = λ slot holds.
+returns-clause-done g c = λ slot task pays holds.
     let got = c.run_op.ensures.ran (no_claim slot) [] holds in
     record {
       left = got.0;
       log = got.1;
       lets_go = c.run_op.ensures.ends got.0 got.1 got.2;
-      pays = subst (λ cut. Pays (g.O.Op.set c.args.op.now) (g.O.Op.task c.args.op.now) cut got.1) (sym c.cut.ensures)
-          (c.run_op.ensures.pays got.0 got.1 got.2);
+      owed = subst (λ cut. Pays (g.O.Op.set c.args.op.now) task cut got.1) (sym c.cut.ensures)
+          (pays (g.O.Op.cut_at c.run_op.new.op) got.1 (c.run_op.ensures.owed got.0 got.1 got.2));
       ran = got.3;
       notes = got.4 ∙ ap (λ items. notes_by items ++ notes_of got.1) (c.reserve.ensures.items ∙ c.new-stubs.ensures.items);
     }
 
 pub returns-then-is_err-clause-done : goal.returns-then-is_err-clause-done
-returns-then-is_err-clause-done g c = λ slot holds. record {
+returns-then-is_err-clause-done g c = λ slot task pays holds. record {
   left = no_claim slot;
   log = [];
   lets_go = inl refl;
-  pays = none_pays (g.O.Op.set c.args.op.now) (g.O.Op.task c.args.op.now) [] refl refl (inl (λ k d l. let below : k < 0 = l in absurd (omega arith)));
+  owed = none_pays (g.O.Op.set c.args.op.now) task [] refl refl (inl (λ k d l. let below : k < 0 = l in absurd (omega arith)));
   ran = refl;
   notes = ap notes_by (c.reserve.ensures.items ∙ c.new-stubs.ensures.items);
 }
