@@ -1,6 +1,9 @@
 //! CreateBucket and PutBucketVersioning.
 
 ghost use Rattle.std.specs.Prelude.{◌≡◌, ◌<◌, vec_len};
+ghost use Rattle.desk_base.specs.Answering.{Task};
+ghost use Rattle.desk_base.specs.Calls.{stated_length};
+ghost use Rattle.receipts.specs.Paying.{Pays};
 ghost use Rattle.slot_history.specs.Names.{bucket_slot};
 ghost use Rattle.bucket_ops.specs.Changes.{ChangeStands, change_task, cut_of, left_of, step_of};
 
@@ -23,7 +26,13 @@ use std::mem;
 impl Op for ChangeOp {
     ghost set = { λ op. op.set };
 
-    ghost task = { λ op. change_task op.sets_mode op.document op.bucket op.now };
+    ghost Asked = { Task };
+
+    ghost asked = { λ op. change_task op.sets_mode op.document op.bucket op.now };
+
+    ghost owed = { λ set task cut log. Pays set task cut log };
+
+    ghost stated = { λ task. stated_length task.call };
 
     ghost step = { λ op. step_of op.state (bucket_slot op.bucket) };
 

@@ -25,7 +25,7 @@ impl ChangeOp {
         requires call { IsChange call.now }
         requires moment { IsMoment now }
         ensures set { IfOk result (λ op. ⟦<ChangeOp as Op>⟧.set op ≡ set) }
-        ensures task { IfOk result (λ op. ⟦<ChangeOp as Op>⟧.task op ≡ record { call = call.now; now = now }) }
+        ensures task { IfOk result (λ op. ⟦<ChangeOp as Op>⟧.asked op ≡ record { call = call.now; now = now }) }
         ensures taken { IfOk result (λ op. ⟦<ChangeOp as Op>⟧.taken op ≡ 0) }
         ensures begins { IfOk result (λ op. (slot : ℕ) × (slot < 64) × ⟦<ChangeOp as Op>⟧.stands op (no_claim slot) []) }
     {

@@ -1,6 +1,9 @@
 //! ListBuckets.
 
 ghost use Rattle.std.specs.Prelude.{◌≡◌};
+ghost use Rattle.desk_base.specs.Answering.{Task};
+ghost use Rattle.desk_base.specs.Calls.{stated_length};
+ghost use Rattle.receipts.specs.Paying.{Pays};
 ghost use Rattle.bucket_ops.specs.Lists.{ListStands, list_cut, list_step, list_task};
 ghost use Rattle.bucket_ops.specs.Seeking.{list_left};
 
@@ -23,7 +26,13 @@ use std::mem;
 impl Op for ListOp {
     ghost set = { λ op. op.set };
 
-    ghost task = { λ op. list_task op.now };
+    ghost Asked = { Task };
+
+    ghost asked = { λ op. list_task op.now };
+
+    ghost owed = { λ set task cut log. Pays set task cut log };
+
+    ghost stated = { λ task. stated_length task.call };
 
     ghost step = { λ op. list_step op.state };
 

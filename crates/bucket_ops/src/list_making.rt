@@ -30,7 +30,7 @@ impl ListOp {
     /// The op of a ListBuckets, made in this Unix second, on a store over this set. It has done nothing yet.
     pub fn new(alloc: Global, set: SetPlan, now: u64) -> Result<ListOp, NoMemory>
         ensures set { IfOk result (λ op. ⟦<ListOp as Op>⟧.set op ≡ set) }
-        ensures task { IfOk result (λ op. ⟦<ListOp as Op>⟧.task op ≡ record { call = ListBuckets; now = now }) }
+        ensures task { IfOk result (λ op. ⟦<ListOp as Op>⟧.asked op ≡ record { call = ListBuckets; now = now }) }
         ensures taken { IfOk result (λ op. ⟦<ListOp as Op>⟧.taken op ≡ 0) }
         ensures begins { IfOk result (λ op. (slot : ℕ) × (slot < 64) × ⟦<ListOp as Op>⟧.stands op (no_claim slot) []) }
     {

@@ -1,6 +1,9 @@
 //! HeadBucket and GetBucketVersioning.
 
 ghost use Rattle.std.specs.Prelude.{◌≡◌};
+ghost use Rattle.desk_base.specs.Answering.{Task};
+ghost use Rattle.desk_base.specs.Calls.{stated_length};
+ghost use Rattle.receipts.specs.Paying.{Pays};
 ghost use Rattle.slot_history.specs.Names.{bucket_slot};
 ghost use Rattle.bucket_ops.specs.Looks.{StandsSo, barred_state, cut_of, left_of, look_call, step_of};
 
@@ -31,7 +34,13 @@ fn barred_state(why: Barred) -> State
 impl Op for LookOp {
     ghost set = { λ op. op.set };
 
-    ghost task = { λ op. record { call = look_call op.asks_mode op.bucket; now = op.now } };
+    ghost Asked = { Task };
+
+    ghost asked = { λ op. record { call = look_call op.asks_mode op.bucket; now = op.now } };
+
+    ghost owed = { λ set task cut log. Pays set task cut log };
+
+    ghost stated = { λ task. stated_length task.call };
 
     ghost step = { λ op. step_of op.state (bucket_slot op.bucket) };
 

@@ -21,7 +21,7 @@ impl LookOp {
     pub fn new(alloc: Global, set: SetPlan, call: &Call, now: u64) -> Result<LookOp, NoMemory>
         requires { IsLook call.now }
         ensures set { IfOk result (λ op. ⟦<LookOp as Op>⟧.set op ≡ set) }
-        ensures task { IfOk result (λ op. ⟦<LookOp as Op>⟧.task op ≡ record { call = call.now; now = now }) }
+        ensures task { IfOk result (λ op. ⟦<LookOp as Op>⟧.asked op ≡ record { call = call.now; now = now }) }
         ensures taken { IfOk result (λ op. ⟦<LookOp as Op>⟧.taken op ≡ 0) }
         ensures begins { IfOk result (λ op. (slot : ℕ) × (slot < 64) × ⟦<LookOp as Op>⟧.stands op (no_claim slot) []) }
     {

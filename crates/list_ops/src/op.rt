@@ -1,6 +1,9 @@
 //! Listings, as ops.
 
 ghost use Rattle.std.specs.Prelude.{◌≡◌};
+ghost use Rattle.desk_base.specs.Answering.{Task};
+ghost use Rattle.desk_base.specs.Calls.{stated_length};
+ghost use Rattle.receipts.specs.Paying.{Pays};
 ghost use Rattle.list_ops.specs.Lists.{page_cut, page_step};
 ghost use Rattle.list_ops.specs.OpStands.{StandsFor, op_task};
 ghost use Rattle.list_ops.specs.Sheets.{page_left};
@@ -24,7 +27,13 @@ use std::mem;
 impl Op for PageOp {
     ghost set = { λ op. op.set };
 
-    ghost task = { λ op. op_task op };
+    ghost Asked = { Task };
+
+    ghost asked = { λ op. op_task op };
+
+    ghost owed = { λ set task cut log. Pays set task cut log };
+
+    ghost stated = { λ task. stated_length task.call };
 
     ghost step = { λ op. page_step op.target.bucket op.state };
 

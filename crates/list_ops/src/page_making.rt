@@ -91,7 +91,7 @@ impl PageOp {
     pub fn new(alloc: Global, set: SetPlan, call: &Call, now: u64) -> Result<PageOp, NoMemory>
         requires { IsListing call.now }
         ensures set { IfOk result (λ op. ⟦<PageOp as Op>⟧.set op ≡ set) }
-        ensures task { IfOk result (λ op. ⟦<PageOp as Op>⟧.task op ≡ record { call = call.now; now = now }) }
+        ensures task { IfOk result (λ op. ⟦<PageOp as Op>⟧.asked op ≡ record { call = call.now; now = now }) }
         ensures taken { IfOk result (λ op. ⟦<PageOp as Op>⟧.taken op ≡ 0) }
         ensures begins { IfOk result (λ op. (slot : ℕ) × (slot < 64) × ⟦<PageOp as Op>⟧.stands op (no_claim slot) []) }
     {
