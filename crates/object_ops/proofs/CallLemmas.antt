@@ -8,13 +8,12 @@ use Rattle.drive_base.specs.Calls.Seen.{CutShort, Faulted, Missing, Showed, Size
 use Rattle.drive_base.specs.DriveModel.{DriveModel}
 use Rattle.drive_base.specs.Files.{with_placed}
 use Rattle.drive_base.specs.Trail.{DriveCall, Remove}
-use Rattle.drive_base.specs.View.{DriveView, GoesOn, blank_view, view, view_at, views}
+use Rattle.drive_base.specs.View.{DriveView, blank_view, view, view_at, views}
 use Rattle.drive_base.specs.declared.drive.Drive.{Ghosts}
 use Rattle.drive_base.specs.declared.plan.SetPlan.{SetPlan}
 use Rattle.stamp_id.specs.declared.version.VersionId.{VersionId}
 use Rattle.drive_base.specs.declared.fault.DriveFault.{DriveFault}
 use Rattle.drive_base.specs.declared.fault.DriveFault.TheVariants.{Absent, Failed, NoMemory}
-use Rattle.drive_base.proofs.CallLemmas.{calls_go_on}
 use Rattle.drive_base.proofs.ViewLemmas.{length-views, view_at-views}
 use Rattle.op_steps.specs.Moves.{SaysUnwritten}
 use Rattle.object_ops.specs.Clearing.{RemovesOne}
@@ -49,9 +48,6 @@ removed_so name result old new model = (
 
 -- what it leaves of a drive
 module _ (name : List ℕ) (made : MadeCall) (old new : DriveView) (x : RemoveCall name made old new) where
-  pub removal_goes_on : GoesOn old new
-  removal_goes_on = calls_go_on made.call old new x.was_made.model
-
   -- the file is gone, or all stays
   pub removal_leaves : IsTrue old.tells → (new.files ≡ old.files) ⊎ (new.files ≡ with_placed old.files name None)
   removal_leaves told = by x.answer (subst (λ (c : DriveCall). DriveModel c old new) x.is x.was_made.model)

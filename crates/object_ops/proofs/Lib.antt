@@ -1,8 +1,7 @@
 pub mod CallLemmas
 pub mod ClaimLemmas
-pub mod DeleteLemmas
-pub mod DeleteOpLemmas
-pub mod DeletionLemmas
+pub mod DeedLemmas
+pub mod DeedOpLemmas
 pub mod DueLemmas
 pub mod ElsewhereLemmas
 pub mod GetLeft
@@ -10,6 +9,7 @@ pub mod GetLemmas
 pub mod GetTelling
 pub mod HeadLemmas
 pub mod KeyCommitLemmas
+pub mod KeyDeedLemmas
 pub mod LeftLemmas
 pub mod OrderLemmas
 pub mod PutAnswers
@@ -19,6 +19,7 @@ pub mod PutBegins
 pub mod PutCalls
 pub mod PutCells
 pub mod PutCommits
+pub mod PutDeeds
 pub mod PutDisks
 pub mod PutEnds
 pub mod PutFeeds
@@ -36,6 +37,7 @@ pub mod PutStaged
 pub mod PutStep
 pub mod PutStepClaims
 pub mod PutSteps
+pub mod PutTargets
 pub mod PutTurns
 pub mod PutWrites
 pub mod ReadingBars

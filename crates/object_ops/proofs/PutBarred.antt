@@ -12,6 +12,7 @@ use Rattle.object_ops.specs.Put.{left_at}
 use Rattle.object_ops.specs.PutStands.{PutStands, PutStandsAt, ask_of, step_of}
 use Rattle.object_ops.specs.Putting.{BarredAfter}
 use Rattle.object_ops.specs.Removing.{files_of}
+use Rattle.object_ops.specs.PutTarget.{key_of}
 use Rattle.object_ops.specs.declared.clearing.Clearing.{Clearing}
 use Rattle.object_ops.specs.declared.put_op.PutOp.{PutOp}
 use Rattle.object_ops.specs.declared.put_state.PutState.{PutState}
@@ -55,4 +56,4 @@ module _ (op : PutOp) (later : PutState) (why : Barred) (untold : (cut : Option 
   bars_so = barred_so (ask_of op) op.read op.clearing op.state later why untold unread whole after
 
   pub bars_left : IsSection (step_of op) → left_at op.set op.long op.read op.clearing later < left_at op.set op.long op.read op.clearing op.state
-  bars_left section = barred_left op.set op.at op.long op.read op.clearing op.state later why untold (λ work is ends. (whole work is ends).0) section after
+  bars_left section = barred_left op.set (key_of op.target) op.long op.read op.clearing op.state later why untold (λ work is ends. (whole work is ends).0) section after

@@ -25,6 +25,7 @@ use Rattle.object_ops.specs.Put.{PutAsk, step_at, task_of, work_step}
 use Rattle.object_ops.specs.PutStands.{HoldsPut, HoldsRest, PutStandsAt, Stages}
 use Rattle.object_ops.specs.Putting.{BarredAfter}
 use Rattle.object_ops.specs.Removing.{files_of, ids_of}
+use Rattle.object_ops.specs.PutTarget.{key_of}
 use Rattle.object_ops.specs.declared.clearing.Clearing.{Clearing}
 use Rattle.object_ops.specs.declared.put_state.PutState.{PutState}
 use Rattle.object_ops.specs.declared.put_state.PutState.TheVariants as state
@@ -39,41 +40,41 @@ use Rattle.object_ops.proofs.TellingLemmas.{pays_on}
 
 module _ (ask : PutAsk) (read : ℕ) where
   abbrev bar : Barred → Log → Log
-  bar why log = log ++ BarredFrom (key_slot ask.at) why ∷ []
+  bar why log = log ++ BarredFrom (key_slot (key_of ask.target)) why ∷ []
 
-  rest_none : (clearing : Clearing) (claim : Claim) (log : Log) → HasNone clearing → claim ≡ no_claim (key_slot ask.at) → HoldsRest (key_slot ask.at) clearing claim log
+  rest_none : (clearing : Clearing) (claim : Claim) (log : Log) → HasNone clearing → claim ≡ no_claim (key_slot (key_of ask.target)) → HoldsRest (key_slot (key_of ask.target)) clearing claim log
   rest_none clearing claim log none is =
-      inl (is ∙ ap (λ (q : List Removal). with_taken (no_claim (key_slot ask.at)) (ids_of (files_of q))) (sym none.queue))
+      inl (is ∙ ap (λ (q : List Removal). with_taken (no_claim (key_slot (key_of ask.target))) (ids_of (files_of q))) (sym none.queue))
 
   -- a put is left listed
-  left_held : (clearing : Clearing) (flight : Flight) (claim : Claim) (log : Log) (why : Barred) → HasNone clearing → HoldsPut ask.at flight claim
-      → HoldsRest (key_slot ask.at) clearing claim (bar why log)
+  left_held : (clearing : Clearing) (flight : Flight) (claim : Claim) (log : Log) (why : Barred) → HasNone clearing → HoldsPut (key_of ask.target) flight claim
+      → HoldsRest (key_slot (key_of ask.target)) clearing claim (bar why log)
   left_held clearing flight claim log why none held = inr (
     none,
-    record { slot_is = held.slot_is; none_taken = held.none_taken; why = why; barred = Contains-push log (BarredFrom (key_slot ask.at) why) },
+    record { slot_is = held.slot_is; none_taken = held.none_taken; why = why; barred = Contains-push log (BarredFrom (key_slot (key_of ask.target)) why) },
   )
 
-  looking_bar : (clearing : Clearing) (later : PutState) (claim : Claim) (why : Barred) → read ≡ 0 → HasNone clearing → claim ≡ no_claim (key_slot ask.at)
+  looking_bar : (clearing : Clearing) (later : PutState) (claim : Claim) (why : Barred) → read ≡ 0 → HasNone clearing → claim ≡ no_claim (key_slot (key_of ask.target))
       → BarredAfter state.Looking why read ask.long later
-      → PutStandsAt ask read clearing later claim (BarredFrom (bucket_slot ask.at.bucket) why ∷ [])
+      → PutStandsAt ask read clearing later claim (BarredFrom (bucket_slot (key_of ask.target).bucket) why ∷ [])
   looking_bar clearing later claim barred.Spent zero none is after =
-      let log = BarredFrom (bucket_slot ask.at.bucket) barred.Spent ∷ [] in
+      let log = BarredFrom (bucket_slot (key_of ask.target).bucket) barred.Spent ∷ [] in
       decided_stands ask read clearing (Refused refusal.SeqSpent) later claim log after (omega (arith, zero)) (rest_none clearing claim log none is) (record {
-        untold = (bar_fresh (bucket_slot ask.at.bucket) barred.Spent).untold;
+        untold = (bar_fresh (bucket_slot (key_of ask.target).bucket) barred.Spent).untold;
         uncut = refl;
         read_is = sym zero;
-        decided = inl (bars ask.at.bucket);
+        decided = inl (bars (key_of ask.target).bucket);
       })
   looking_bar clearing later claim barred.NoMemory zero none is after =
-      let log = BarredFrom (bucket_slot ask.at.bucket) barred.NoMemory ∷ [] in
+      let log = BarredFrom (bucket_slot (key_of ask.target).bucket) barred.NoMemory ∷ [] in
       subst (λ s. PutStandsAt ask read clearing s claim log) (sym after)
-      (rest_none clearing claim log none is, fresh_pays ask.set (task_of ask) log (bar_fresh (bucket_slot ask.at.bucket) barred.NoMemory))
+      (rest_none clearing claim log none is, fresh_pays ask.set (task_of ask) log (bar_fresh (bucket_slot (key_of ask.target).bucket) barred.NoMemory))
 
   beginning_bar : (clearing : Clearing) (mode : Mode) (later : PutState) (claim : Claim) (log : Log) (why : Barred) → read ≡ 0 → HasNone clearing
-      → claim ≡ no_claim (key_slot ask.at) → HasFound ask.at.bucket mode log → BarredAfter (state.Beginning mode) why read ask.long later
+      → claim ≡ no_claim (key_slot (key_of ask.target)) → HasFound (key_of ask.target).bucket mode log → BarredAfter (state.Beginning mode) why read ask.long later
       → PutStandsAt ask read clearing later claim (bar why log)
   beginning_bar clearing mode later claim log barred.Spent zero none is found after =
-      let bars_so = key_bars ask.at mode log (key_slot ask.at) barred.Spent found in
+      let bars_so = key_bars (key_of ask.target) mode log (key_slot (key_of ask.target)) barred.Spent found in
       decided_stands ask read clearing (Refused refusal.SeqSpent) later claim (bar barred.Spent log) after (omega (arith, zero))
       (rest_none clearing claim (bar barred.Spent log) none is) (record {
         untold = bars_so.0.untold;
@@ -84,15 +85,15 @@ module _ (ask : PutAsk) (read : ℕ) where
   beginning_bar clearing mode later claim log barred.NoMemory zero none is found after =
       subst (λ s. PutStandsAt ask read clearing s claim (bar barred.NoMemory log)) (sym after) (
         rest_none clearing claim (bar barred.NoMemory log) none is,
-        fresh_pays ask.set (task_of ask) (bar barred.NoMemory log) (key_bars ask.at mode log (key_slot ask.at) barred.NoMemory found).0,
+        fresh_pays ask.set (task_of ask) (bar barred.NoMemory log) (key_bars (key_of ask.target) mode log (key_slot (key_of ask.target)) barred.NoMemory found).0,
       )
 
   staging_bar : (clearing : Clearing) (work : Work) (later : PutState) (claim : Claim) (log : Log) (why : Barred) → read ≡ ask.long → work.stage.load.left ≡ 0
       → HasNone clearing → Stages ask work claim log → BarredAfter (state.Staging work) why read ask.long later
       → PutStandsAt ask read clearing later claim (bar why log)
   staging_bar clearing work later claim log barred.Spent all whole none s after =
-      let looked = looked_on ask.at.bucket work.mode log (BarredFrom (key_slot ask.at) barred.Spent) tt s.looked in
-      let body = quiet_bodies log (BarredFrom (key_slot ask.at) barred.Spent ∷ []) (one_all IsQuiet (BarredFrom (key_slot ask.at) barred.Spent) tt) in
+      let looked = looked_on (key_of ask.target).bucket work.mode log (BarredFrom (key_slot (key_of ask.target)) barred.Spent) tt s.looked in
+      let body = quiet_bodies log (BarredFrom (key_slot (key_of ask.target)) barred.Spent ∷ []) (one_all IsQuiet (BarredFrom (key_slot (key_of ask.target)) barred.Spent) tt) in
       let long = s.taken.long in
       let same = s.stage_of.long_is in
       decided_stands ask read clearing (Refused refusal.SeqSpent) later claim (bar barred.Spent log) after (omega (arith, all))
@@ -102,11 +103,11 @@ module _ (ask : PutAsk) (read : ℕ) where
         read_is = ap length body ∙ omega (arith, all, whole, long, same);
         decided = inr (inl (record {
           looked = record { look = looked.look; sections = looked.sections; mode = work.mode; finds = looked.finds };
-          barred = record { spent = Contains-push log (BarredFrom (key_slot ask.at) barred.Spent); told = refl };
+          barred = record { spent = Contains-push log (BarredFrom (key_slot (key_of ask.target)) barred.Spent); told = refl };
         }));
       })
   staging_bar clearing work later claim log barred.NoMemory all whole none s after =
-      let looked = looked_on ask.at.bucket work.mode log (BarredFrom (key_slot ask.at) barred.NoMemory) tt s.looked in
+      let looked = looked_on (key_of ask.target).bucket work.mode log (BarredFrom (key_slot (key_of ask.target)) barred.NoMemory) tt s.looked in
       subst (λ t. PutStandsAt ask read clearing t claim (bar barred.NoMemory log)) (sym after) (
         none,
         s.held,
@@ -118,7 +119,7 @@ module _ (ask : PutAsk) (read : ℕ) where
       → ((mode : Mode) → (one ≡ state.Looking) ⊎ (one ≡ state.Beginning mode) → read ≡ 0)
       → ((work : Work) → one ≡ state.Staging work → work.next ≡ Finish → (read ≡ ask.long) × (work.stage.load.left ≡ 0))
       → BarredAfter one why read ask.long later
-      → BarredSo (PutStandsAt ask read clearing one) (PutStandsAt ask read clearing later) (step_at ask.at clearing one) why
+      → BarredSo (PutStandsAt ask read clearing one) (PutStandsAt ask read clearing later) (step_at (key_of ask.target) clearing one) why
   barred_so clearing state.Looking later why untold zero all after claim log k step x =
       subst (λ l. PutStandsAt ask read clearing later claim (l ++ BarredFrom k why ∷ [])) (sym x.2)
       (subst (λ i. PutStandsAt ask read clearing later claim (BarredFrom i why ∷ [])) (ap slot_in step)
@@ -132,7 +133,7 @@ module _ (ask : PutAsk) (read : ℕ) where
       subst (λ i. PutStandsAt ask read clearing later claim (log ++ BarredFrom i why ∷ [])) ends.1
       (staging_bar clearing work later claim log why whole.0 whole.1 x.0 x.1 after)
     where
-      finishes : (n : StageNext) → work_step (key_slot ask.at) n ≡ Section k → (n ≡ Finish) × (key_slot ask.at ≡ k)
+      finishes : (n : StageNext) → work_step (key_slot (key_of ask.target)) n ≡ Section k → (n ≡ Finish) × (key_slot (key_of ask.target) ≡ k)
       finishes Fill is = absurd (subst IsSection (sym is) tt)
       finishes Step is = absurd (subst IsSection (sym is) tt)
       finishes Finish is = (refl, ap slot_in is)
@@ -140,7 +141,7 @@ module _ (ask : PutAsk) (read : ℕ) where
       subst (λ i. PutStandsAt ask read clearing later claim (log ++ BarredFrom i why ∷ [])) (ap slot_in step)
       (subst (λ s. PutStandsAt ask read clearing s claim (bar why log)) (sym after) (
         left_held clearing flight claim log why x.0 x.1,
-        pays_on ask.set (task_of ask) (Some why_cut) log (BarredFrom (key_slot ask.at) why) tt x.2,
+        pays_on ask.set (task_of ask) (Some why_cut) log (BarredFrom (key_slot (key_of ask.target)) why) tt x.2,
       ))
   barred_so clearing (state.Draining reply) later why untold zero all after claim log k step x = absurd (subst IsSection (sym step) tt)
   barred_so clearing (state.Telling reply) later why untold zero all after claim log k step x = absurd (subst IsSection (sym step) tt)
@@ -149,12 +150,12 @@ module _ (ask : PutAsk) (read : ℕ) where
   -- no trash is taken
   pub pass_so : (clearing passed : Clearing) (one : PutState) (why_cut : Option Cut) (why : Barred) → one ≡ state.Told why_cut → clearing.takes ≡ true
       → passed.queue.items ≡ clearing.queue.items
-      → BarredSo (PutStandsAt ask read clearing one) (PutStandsAt ask read passed one) (step_at ask.at clearing one) why
+      → BarredSo (PutStandsAt ask read clearing one) (PutStandsAt ask read passed one) (step_at (key_of ask.target) clearing one) why
   pass_so clearing passed one why_cut why is takes same claim log k step x =
       let here = subst (λ s. PutStandsAt ask read clearing s claim log) is x in
       subst (λ s. PutStandsAt ask read passed s claim (log ++ BarredFrom k why ∷ [])) (sym is)
       (by here.0, pays_on ask.set (task_of ask) why_cut log (BarredFrom k why) tt here.1)
     where
-      by : HoldsRest (key_slot ask.at) clearing claim log → HoldsRest (key_slot ask.at) passed claim (log ++ BarredFrom k why ∷ [])
-      by (inl holds) = inl (holds ∙ ap (λ (q : List Removal). with_taken (no_claim (key_slot ask.at)) (ids_of (files_of q))) (sym same))
+      by : HoldsRest (key_slot (key_of ask.target)) clearing claim log → HoldsRest (key_slot (key_of ask.target)) passed claim (log ++ BarredFrom k why ∷ [])
+      by (inl holds) = inl (holds ∙ ap (λ (q : List Removal). with_taken (no_claim (key_slot (key_of ask.target))) (ids_of (files_of q))) (sym same))
       by (inr (none, left)) = let no : clearing.takes ≡ false = none.takes in absurd cc

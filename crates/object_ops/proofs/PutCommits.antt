@@ -47,7 +47,9 @@ use Rattle.op_steps.proofs.MovesLemmas.{turn_moves}
 use Rattle.op_steps.proofs.NoteLemmas.{audit_noted, calm_noted, entry_counts, entry_noted, same_entry}
 use Rattle.object_ops.specs.Put.{PutAsk}
 use Rattle.object_ops.specs.PutStands.{ClaimsSo, HoldsPut, IsStageOf}
-use Rattle.object_ops.specs.Putting.{Answers, put_deed}
+use Rattle.object_ops.specs.Putting.{Answers}
+use Rattle.object_ops.specs.PutTarget.{deed_of, key_of, register_of}
+use Rattle.object_ops.proofs.PutTargets.{deed_brings, deed_name}
 use Rattle.object_ops.proofs.PutEnds.{IsPutClaim, ends_hold, is_listed, none_knows, stays}
 use Rattle.object_ops.proofs.PutHolders.{has_holders}
 use Rattle.object_ops.proofs.PutMine.{met_mine}
@@ -94,13 +96,13 @@ module _ {D : Type 0} (ghosts : Ghosts D) where
   module _ (was now : SlotSeen D) (ask : PutAsk) (flight : Flight) (stage : Stage) (staged : Staged) (mode : Mode) (at : ℕ) (answer : Result Committed SlotFault)
       (stub : Option Stub) (old new : List D) (claim : Claim) (body : List ℕ) (shards : List (List (List ℕ))) (set_is : was.numbers.set ≡ ask.set)
       (own : claim.slot ≡ was.numbers.index) (of : IsStageOf ask flight stage) (taken : HasTaken stage.load body shards) (whole : stage.load.left ≡ 0)
-      (answers : Answers stage (Ok staged)) (held : HoldsPut ask.at flight claim) (claims : ClaimsSo stage shards flight.id claim)
-      (x : PutSays was now (put_deed ask.at ask.kind mode flight.id staged) at flight answer stub old new) where
+      (answers : Answers stage (Ok staged)) (held : HoldsPut (key_of ask.target) flight claim) (claims : ClaimsSo stage shards flight.id claim)
+      (x : PutSays was now (deed_of ask.target mode flight.id staged) at flight answer stub old new) where
     abbrev f : Flying
-    f = record { id = flight.id; name = key_name ask.at }
+    f = record { id = flight.id; name = key_name (key_of ask.target) }
 
     abbrev deed : Commit
-    deed = put_deed ask.at ask.kind mode flight.id staged
+    deed = deed_of ask.target mode flight.id staged
 
     abbrev index : ℕ
     index = was.numbers.index
@@ -109,10 +111,10 @@ module _ {D : Type 0} (ghosts : Ghosts D) where
     data_now = record { id = flight.id; print = staged.print; size = staged.length }
 
     abbrev this : Known
-    this = record { named = data_now; name = key_name ask.at }
+    this = record { named = data_now; name = register_of ask.target }
 
     is_put : IsPutClaim index f claim
-    is_put = put_claim ask.at flight claim index own held
+    is_put = put_claim (key_of ask.target) flight claim index own held
 
     module _ (unseen : Disks) (front rest : List Claim) (records after : Records) (state then : State)
         (d : HoldsAt was.numbers.set index (last_of was.numbers) was.holding unseen (views ghosts old) (among front claim rest) records state) where
@@ -141,7 +143,7 @@ module _ {D : Type 0} (ghosts : Ghosts D) where
           by (staging, staged_is, inr works) =
               holders_are_known was.numbers.set index (last_of was.numbers) records state was.holding disks hands this
               (inl (record { flight = f; there = listed_there; id_is = refl }))
-              (subst (λ (p : SetPlan). HasHolders p (disks_of unseen p.out (views ghosts old)) data_now (key_name ask.at)) (sym set_is)
+              (subst (λ (p : SetPlan). HasHolders p (disks_of unseen p.out (views ghosts old)) data_now (register_of ask.target)) (sym set_is)
               (has_holders ask flight stage staged body shards claim staging of taken whole answers staged_is works held was.holding unseen (views ghosts old)
               (subst (λ (p : SetPlan). DisksTell p (views ghosts old)) set_is d.tell)
               (subst (λ (p : SetPlan). IsMet p was.holding unseen (views ghosts old) claim) set_is met)))
@@ -164,8 +166,9 @@ module _ {D : Type 0} (ghosts : Ghosts D) where
 
         may : MayCommitData deed now.holding disks (with_known hands this) hands
         may = record {
-          known = λ given is. subst (λ (n : NamedData). Contains (with_known hands this).known (record { named = n; name = key_name ask.at }))
-              (some_named data_now given is) (Contains-push hands.known this);
+          known = λ given is. subst₂ (λ (n : NamedData) (name : List ℕ). Contains (with_known hands this).known (record { named = n; name = name }))
+              (some_named data_now given (sym (deed_brings ask.target mode flight.id staged) ∙ is)) (sym (deed_name ask.target mode flight.id staged))
+              (Contains-push hands.known this);
           goes_on = record {
             taken = λ id there. there;
             known = λ k there. Contains-append_left hands.known (this ∷ []) k there;

@@ -5,8 +5,9 @@ use Rattle.std.specs.Str.{bytes_eq}
 use Rattle.std.proofs.lemmas.Bool.Decides.{eqb_tells}
 use Rattle.std.proofs.lemmas.List.FromFn.{get_or-map-range_with_len}
 use Rattle.stamp_id.specs.declared.version.VersionId.{VersionId}
+use Rattle.drive_base.specs.Calls.{MadeCall, WasMade}
 use Rattle.drive_base.specs.Files.{Files, Named}
-use Rattle.drive_base.specs.View.{DriveView, GoesOn, view_at}
+use Rattle.drive_base.specs.View.{DriveView, view_at}
 use Rattle.drive_base.specs.declared.plan.SetPlan.{SetPlan}
 use Rattle.body_print.specs.Names.{loose_manifest_name, loose_shard_name, manifest_name, shard_name}
 use Rattle.put_stage.specs.Cells.{IsNeither, Spares, data_of}
@@ -15,12 +16,14 @@ use Rattle.slot_history.proofs.NameLemmas.{first_bytes, hex_texts_are_one}
 use Rattle.slot_data.specs.DiskLaws.{IsElsewhere, OnlyUnder}
 use Rattle.slot_data.specs.Disks.{Disks, kept_on}
 use Rattle.op_steps.specs.Claims.{DisksTell, counted_on, disks_of}
+use Rattle.op_steps.proofs.DataLemmas.{tell_called}
 
 -- one drive in use was called; where it tells, it spares all names but the four of an id; no other drive was called
 pub record WritesUnder (set : SetPlan) (id : VersionId) (k : ℕ) (old new : List DriveView) : Type 0 where
   pub inside : k < set.drives
   pub in_use : IsBitSet set.out k → ⊥
-  pub goes_on : GoesOn (view_at old k) (view_at new k)
+  pub made : MadeCall
+  pub was_made : WasMade made (view_at old k) (view_at new k)
   pub spares : IsTrue (view_at old k).tells → Spares id (view_at old k).files (view_at new k).files
   pub long : length new ≡ length old
   pub others : (other : ℕ) → other ≢ k → view_at new other ≡ view_at old other
@@ -113,13 +116,7 @@ module _ (set : SetPlan) (unseen : Disks) (id : VersionId) (drive : ℕ) (old ne
 
   -- the drives go on to tell
   pub tell_after : DisksTell set new
-  tell_after = record {
-    count = writes.long ∙ tell.count;
-    tell = λ k inside in_use. elim (eqb_tells k drive) [
-      | inl here ↦ subst (λ i. IsTrue (view_at new i).tells) (sym here.1) (subst IsTrue (sym writes.goes_on.tells) (tell.tell drive writes.inside writes.in_use))
-      | inr apart ↦ subst (λ (v : DriveView). IsTrue v.tells) (sym (writes.others k apart.1)) (tell.tell k inside in_use)
-    ];
-  }
+  tell_after = tell_called set drive writes.made old new tell writes.inside writes.in_use writes.was_made writes.long writes.others
 
   -- another drive keeps what it kept
   pub kept_beside : (k : ℕ) → k < set.drives → k ≢ drive → kept_on after k ≡ kept_on before k

@@ -22,6 +22,7 @@ use Rattle.object_ops.specs.Clearing.{files_left, next_of}
 use Rattle.object_ops.specs.Put.{PutAsk, left_at, long_by, step_at, task_of, work_step}
 use Rattle.object_ops.specs.PutFeeding.{DrainsTo, FeedsTo, FillsTo, feed_cut}
 use Rattle.object_ops.specs.PutStands.{Drains, IsDecided, PutStandsAt}
+use Rattle.object_ops.specs.PutTarget.{key_of}
 use Rattle.object_ops.specs.declared.clearing.Clearing.{Clearing}
 use Rattle.object_ops.specs.declared.put_feeding.PutFed.{PutFed}
 use Rattle.object_ops.specs.declared.put_state.PutState.{PutState}
@@ -97,19 +98,19 @@ module _ (ask : PutAsk) (read : ℕ) where
         x.bytes,
         None,
         decided_stands ask fed.read clearing told fed.state claim (log ++ Fed x.bytes None ∷ []) x.owes x.within
-            (left_on ask read (key_slot ask.at) clearing claim log (Fed x.bytes None) here.0)
+            (left_on ask read (key_slot (key_of ask.target)) clearing claim log (Fed x.bytes None) here.0)
             (subst (λ n. Drains ask n told (log ++ Fed x.bytes None ∷ [])) (omega (arith, gave, given, given_now)) (drain_on ask read told log x.bytes here.1)),
         x.moves,
       )
   drain_so clearing one told fed old new is given stated given_now (inr (why, same, moves)) claim log s =
       let here = subst (λ (t : PutState). PutStandsAt ask read clearing t claim log) is s in
       let kind = fed_kind why old new moves.cause in
-      let idle = decided_idle ask.at told log here.1.decided in
+      let idle = decided_idle (key_of ask.target) told log here.1.decided in
       let read_is = here.1.read_is in (
         [],
         Some why,
         subst (λ (t : PutState). PutStandsAt ask fed.read clearing t claim (log ++ Fed [] (Some why) ∷ [])) (sym same) (
-          left_on ask read (key_slot ask.at) clearing claim log (Fed [] (Some why)) here.0,
+          left_on ask read (key_slot (key_of ask.target)) clearing claim log (Fed [] (Some why)) here.0,
           subst (λ c. Pays ask.set (task_of ask) (Some why) (log ++ Fed [] c ∷ [])) kind
               (cut_pays ask log [] why old new here.1.untold here.1.uncut idle (omega (arith, read_is, given)) stated
               (subst (λ c. FeedMoves [] c old new) (sym kind) moves) (inr kind)),
@@ -117,18 +118,18 @@ module _ (ask : PutAsk) (read : ℕ) where
         moves,
       )
 
-  pub feed_so : (clearing : Clearing) (one : PutState) (fed : PutFed) (old new : FeedSeen) → step_at ask.at clearing one ≡ next.Feed → long_by ask.long read one ≡ ask.long
+  pub feed_so : (clearing : Clearing) (one : PutState) (fed : PutFed) (old new : FeedSeen) → step_at (key_of ask.target) clearing one ≡ next.Feed → long_by ask.long read one ≡ ask.long
       → old.view.given ≡ read → old.view.stated ≡ ask.long → new.view.given ≡ fed.read → FeedsTo one read ask.long fed old new
       → FeedsSo (PutStandsAt ask read clearing one) (PutStandsAt ask fed.read clearing fed.state) old new
   feed_so clearing state.Looking fed old new step counted given stated given_now feeds = absurd (subst is_feed (sym step) tt)
   feed_so clearing (state.Beginning mode) fed old new step counted given stated given_now feeds = absurd (subst is_feed (sym step) tt)
   feed_so clearing (state.Staging work) fed old new step counted given stated given_now feeds =
-      fill_so ask read clearing (state.Staging work) work fed old new refl counted given stated (feeds (fill_next (key_slot ask.at) work.next step))
+      fill_so ask read clearing (state.Staging work) work fed old new refl counted given stated (feeds (fill_next (key_slot (key_of ask.target)) work.next step))
   feed_so clearing (state.Dropping flight why) fed old new step counted given stated given_now feeds = absurd (subst is_feed (sym step) tt)
   feed_so clearing (state.Draining told) fed old new step counted given stated given_now feeds =
       drain_so clearing (state.Draining told) told fed old new refl given stated given_now feeds
   feed_so clearing (state.Telling told) fed old new step counted given stated given_now feeds = absurd (subst is_feed (sym step) tt)
-  feed_so clearing (state.Told why) fed old new step counted given stated given_now feeds = absurd (cleared_feeds (key_slot ask.at) clearing step)
+  feed_so clearing (state.Told why) fed old new step counted given stated given_now feeds = absurd (cleared_feeds (key_slot (key_of ask.target)) clearing step)
 
 -- ---- how much is left
 

@@ -39,6 +39,7 @@ use Rattle.op_steps.specs.Claims.{Claim, DisksTell, Expected, IsExpected, IsMet,
 use Rattle.object_ops.specs.Put.{PutAsk}
 use Rattle.object_ops.specs.PutStands.{ClaimsStage, HasWorked, HoldsPut, IsStageOf, no_cells}
 use Rattle.object_ops.specs.Putting.{Answers}
+use Rattle.object_ops.specs.PutTarget.{key_of, register_of}
 use Rattle.object_ops.proofs.PutDisks.{kept_in_use, kept_out}
 use Rattle.object_ops.proofs.PutPlaces.{work_manifest}
 
@@ -92,7 +93,7 @@ out_or_used out k = elim (eqb_tells (bit_and out (2 ^ k)) 0) [
 
 module _ (ask : PutAsk) (flight : Flight) (stage : Stage) (staged : Staged) (body : List ℕ) (shards : List (List (List ℕ))) (claim : Claim) (staging : Staging)
     (of : IsStageOf ask flight stage) (taken : HasTaken stage.load body shards) (whole : stage.load.left ≡ 0) (answers : Answers stage (Ok staged))
-    (staged_is : claim.stage ≡ Some staging) (claims : ClaimsStage stage shards flight.id staging) (held : HoldsPut ask.at flight claim)
+    (staged_is : claim.stage ≡ Some staging) (claims : ClaimsStage stage shards flight.id staging) (held : HoldsPut (key_of ask.target) flight claim)
     (holding : Holding) (unseen : Disks) (disks : List DriveView) (tell : DisksTell ask.set disks) (met : IsMet ask.set holding unseen disks claim) where
   abbrev set : SetPlan
   set = ask.set
@@ -157,7 +158,7 @@ module _ (ask : PutAsk) (flight : Flight) (stage : Stage) (staged : Staged) (bod
       subst (λ (p : SetPlan). write_drives p.drives p.parity ≤ good_count stage.whys) of.set_is answers.concludes.0.enough in
       omega (arith, good, w)
 
-  pub has_holders : HasHolders set now named (key_name ask.at)
+  pub has_holders : HasHolders set now named (register_of ask.target)
   has_holders = record {
     manifest = m;
     is = record {
@@ -174,7 +175,7 @@ module _ (ask : PutAsk) (flight : Flight) (stage : Stage) (staged : Staged) (bod
     };
     alike = λ k bytes below is. elim (out_or_used set.out k) [
       | inl out ↦ (let none = sym (ap (λ n. n (manifest_name id)) (kept_out unseen set disks k tell below out)) ∙ is in
-          let nothing = (met.unwritten (record { id = id; name = key_name ask.at }) k held.flight_is below out).manifest in
+          let nothing = (met.unwritten (record { id = id; name = key_name (key_of ask.target) }) k held.flight_is below out).manifest in
           absurd (none_some (sym nothing ∙ none)))
       | inr used ↦
           let at = cells_at k below used in

@@ -1,5 +1,5 @@
 -- How much of a PutObject is left after each step.
-use Rattle.std.proofs.Common.{◌≡◌, ◌∙◌, ◌<◌, ◌≤◌, ◌+◌, ◌-◌, ◌*◌, ℕ, zero, suc, Bool, true, false, List, Option, Some, None, Result, Ok, Err, MatchOption, cond, length, inl, inr, refl, sym, ap, subst, arith}
+use Rattle.std.proofs.Common.{◌≡◌, ◌∙◌, ◌<◌, ◌≤◌, ◌+◌, ◌-◌, ◌*◌, ℕ, true, false, List, Option, Some, None, Result, Ok, Err, MatchOption, cond, length, inl, inr, refl, sym, ap, subst, arith}
 use Rattle.call_types.specs.declared.feed.Cut.{Cut}
 use Rattle.call_types.specs.declared.feed.Cut.TheVariants.{NoMemory}
 use Rattle.call_types.specs.declared.names.Key.{Key}

@@ -1,5 +1,5 @@
 -- The log of a PutObject after each of its steps.
-use Rattle.std.proofs.Common.{◌≡◌, ◌⊎◌, ◌∙◌, ◌<◌, ◌≤◌, ◌+◌, ℕ, List, [], ◌∷◌, ◌++◌, All, Option, Some, None, append-nil, length, length-append, slice_index_or, inl, inr, refl, sym, ap, ap₂, subst, subst₂, arith}
+use Rattle.std.proofs.Common.{◌≡◌, ◌⊎◌, ◌∙◌, ◌<◌, ◌≤◌, ◌+◌, ℕ, List, [], ◌∷◌, ◌++◌, All, Option, Some, None, append-nil, length, length-append, slice_index_or, inl, inr, refl, sym, ap, subst, subst₂, arith}
 use Rattle.std.specs.Prelude.{Ok, Err}
 use Rattle.std.proofs.lemmas.List.Elements.{All-append, Contains-append_left}
 use Rattle.call_types.specs.declared.feed.Cut.{Cut}
@@ -11,10 +11,8 @@ use Rattle.call_types.specs.declared.refusal.Refusal.TheVariants as refusal
 use Rattle.call_types.specs.declared.reply.Reply.{Reply}
 use Rattle.call_types.specs.declared.reply.Reply.TheVariants.{Refused}
 use Rattle.call_types.specs.Good.{good_count}
-use Rattle.call_types.specs.declared.act.Act.TheVariants as act
 use Rattle.call_types.specs.declared.why.Why.{Why}
 use Rattle.call_types.specs.declared.why.Why.TheVariants.{Good}
-use Rattle.body_print.specs.Prints.{HasPrint}
 use Rattle.drive_base.specs.Plan.{write_drives}
 use Rattle.drive_base.specs.declared.plan.SetPlan.{SetPlan}
 use Rattle.put_stage.specs.Taking.{HasTaken, WorkGoesOn}
@@ -29,7 +27,7 @@ use Rattle.receipts.specs.Events.Event.{BarredFrom, Fed, Turned}
 use Rattle.receipts.specs.Letters.{IsInUse, StageLetter}
 use Rattle.receipts.specs.Paying.{ChangesNothing, Pays}
 use Rattle.receipts.specs.Paying.Outcome.{CutOff}
-use Rattle.receipts.specs.Putting.{IsAgreed, PutOwes, PutsBody}
+use Rattle.receipts.specs.Putting.{IsAgreed}
 use Rattle.receipts.specs.Registers.{bucket_slot, key_slot}
 use Rattle.receipts.specs.declared.barred.Barred.TheVariants as barred
 use Rattle.put_stage.specs.Called.{CalledSo}
@@ -47,10 +45,12 @@ use Rattle.object_ops.specs.Put.{PutAsk, task_of}
 use Rattle.object_ops.specs.PutFeeding.{FillsOn, feed_cut}
 use Rattle.object_ops.specs.PutStands.{ClaimsSo, Drains, HasLookedAt, HoldsPut, HoldsRest, IsDecided, PutStandsAt, Stages, no_cells}
 use Rattle.object_ops.specs.Putting.{AfterLook, Answers, OwesNext, refusal_of_stage}
+use Rattle.object_ops.specs.PutTarget.{key_of}
 use Rattle.object_ops.specs.declared.clearing.Clearing.{Clearing}
 use Rattle.object_ops.specs.declared.put_state.PutState.{PutState}
 use Rattle.object_ops.specs.declared.put_state.PutState.TheVariants as state
 use Rattle.object_ops.specs.declared.put_work.Work.{Work}
+use Rattle.object_ops.proofs.PutTargets.{OwesPut, call_long, owes_call}
 use Rattle.object_ops.proofs.PutCalls.{letter_grows}
 use Rattle.object_ops.proofs.ReadingLook.{looks}
 use Rattle.object_ops.proofs.ReadingTell.{fresh_pays, one_all}
@@ -60,7 +60,7 @@ some_why a b e = cc
 
 -- ---- what is decided
 
-pub decided_owes : (ask : PutAsk) (told : Reply) (log : Log) → IsDecided ask.at told log → PutOwes ask.set ask.at ask.kind ask.stated ask.now told log
+pub decided_owes : (ask : PutAsk) (told : Reply) (log : Log) → IsDecided (key_of ask.target) told log → OwesPut ask.target ask.set ask.stated ask.now told log
 decided_owes ask told log (inl look) = inl look
 decided_owes ask told log (inr (inl bar)) = inr (inr (inl bar))
 decided_owes ask told log (inr (inr none)) = inr (inr (inr (inl none)))
@@ -93,7 +93,7 @@ decided_on at told log event same (inr (inr x)) = inr (inr (record {
 
 -- a put of which the reply is decided stands: it drains the rest of its body, or tells it
 pub decided_stands : (ask : PutAsk) (read : ℕ) (clearing : Clearing) (told : Reply) (next : PutState) (claim : Claim) (log : Log)
-    → OwesNext told read ask.long next → read ≤ ask.long → HoldsRest (key_slot ask.at) clearing claim log → Drains ask read told log
+    → OwesNext told read ask.long next → read ≤ ask.long → HoldsRest (key_slot (key_of ask.target)) clearing claim log → Drains ask read told log
     → PutStandsAt ask read clearing next claim log
 decided_stands ask read clearing told next claim log (inl (less, is)) within held drains =
     subst (λ s. PutStandsAt ask read clearing s claim log) (sym is) (held, drains)
@@ -103,26 +103,27 @@ decided_stands ask read clearing told next claim log (inr (whole, is)) within he
       record {
         untold = drains.untold;
         uncut = drains.uncut;
-        owed = (omega (arith, drains.read_is, whole, within), decided_owes ask told log drains.decided);
+        owed = owes_call ask.target ask.set ask.stated ask.long ask.now told log (omega (arith, drains.read_is, whole, within))
+            (decided_owes ask told log drains.decided);
       },
     )
 
 -- ---- the bucket's look
 
 pub look_stands : (ask : PutAsk) (clearing : Clearing) (k : ℕ) (stub : Option Stub) (shown : Shown) (seen : Looked) (next : PutState) (claim : Claim)
-    → AfterLook seen ask.long next → SaysBucket ask.at.bucket seen (Turned k (noted stub) shown ∷ [])
-    → PutStandsAt ask 0 clearing state.Looking claim [] → HoldsRest (key_slot ask.at) clearing claim (Turned k (noted stub) shown ∷ [])
+    → AfterLook seen ask.long next → SaysBucket (key_of ask.target).bucket seen (Turned k (noted stub) shown ∷ [])
+    → PutStandsAt ask 0 clearing state.Looking claim [] → HoldsRest (key_slot (key_of ask.target)) clearing claim (Turned k (noted stub) shown ∷ [])
     → PutStandsAt ask 0 clearing next claim (Turned k (noted stub) shown ∷ [])
 look_stands ask clearing k stub shown (looked.There mode) next claim after says (none, holds, empty) rest =
     subst (λ s. PutStandsAt ask 0 clearing s claim (Turned k (noted stub) shown ∷ [])) (sym after)
-    (none, holds, looks ask.at.bucket (looked.There mode) k stub shown says)
+    (none, holds, looks (key_of ask.target).bucket (looked.There mode) k stub shown says)
 look_stands ask clearing k stub shown (looked.Refused why) next claim after says (none, holds, empty) rest =
-    let refused = looks ask.at.bucket (looked.Refused why) k stub shown says in
+    let refused = looks (key_of ask.target).bucket (looked.Refused why) k stub shown says in
     decided_stands ask 0 clearing (Refused why) next claim (Turned k (noted stub) shown ∷ []) after (omega arith) rest
     (record { untold = refused.0.untold; uncut = refused.0.uncut; read_is = ap length refused.0.untaken; decided = inl refused.1 })
 look_stands ask clearing k stub shown looked.LacksMemory next claim after says (none, holds, empty) rest =
     subst (λ s. PutStandsAt ask 0 clearing s claim (Turned k (noted stub) shown ∷ [])) (sym after)
-    (rest, fresh_pays ask.set (task_of ask) (Turned k (noted stub) shown ∷ []) (looks ask.at.bucket looked.LacksMemory k stub shown says))
+    (rest, fresh_pays ask.set (task_of ask) (Turned k (noted stub) shown ∷ []) (looks (key_of ask.target).bucket looked.LacksMemory k stub shown says))
 
 -- ---- bytes that are taken
 
@@ -153,7 +154,7 @@ drain_on ask read told log bytes x = record {
   untold = fed_untold log bytes None x.untold;
   uncut = cuts_after log (Fed bytes None) x.uncut;
   read_is = ap length (fed_body log bytes None) ∙ (length-append (body_of log) bytes ∙ ap (λ n. n + length bytes) x.read_is);
-  decided = decided_on ask.at told log (Fed bytes None) (fed_sections log bytes None) x.decided;
+  decided = decided_on (key_of ask.target) told log (Fed bytes None) (fed_sections log bytes None) x.decided;
 }
 
 abbrev is_memory : Cut → Type 0
@@ -197,7 +198,7 @@ cut_pays ask log bytes why old new untold uncut idle given stated moves kind = b
             refl,
             cuts_after log (Fed bytes (Some (cut.BodyCut read long))) uncut,
             sym counted,
-            states,
+            states ∙ sym (call_long ask.target ask.stated ask.long),
             omega (arith, cause.cause.0, cause.cause.1, cause.cause.2),
             did (Some (cut.BodyCut read long)),
           );
@@ -221,8 +222,8 @@ fill_on ask work later claim log old new x s =
     let more = x.filled.taken (body_of log) s.shards s.taken in
     let event = Fed x.bytes None in
     record {
-      looked = subst (λ (m : Mode). HasLookedAt ask.at.bucket m (log ++ event ∷ [])) (sym x.mode_is) (fed_looked ask.at.bucket work.mode log x.bytes s.looked);
-      held = subst (λ (f : Flight). HoldsPut ask.at f claim) (sym x.flight_is) s.held;
+      looked = subst (λ (m : Mode). HasLookedAt (key_of ask.target).bucket m (log ++ event ∷ [])) (sym x.mode_is) (fed_looked (key_of ask.target).bucket work.mode log x.bytes s.looked);
+      held = subst (λ (f : Flight). HoldsPut (key_of ask.target) f claim) (sym x.flight_is) s.held;
       stage_of = record {
         set_is = task.set ∙ s.stage_of.set_is;
         id_is = task.id ∙ (s.stage_of.id_is ∙ sym (ap (λ (f : Flight). f.id) x.flight_is));
@@ -259,17 +260,7 @@ fill_on ask work later claim log old new x s =
 
 -- ---- the stage is over
 
--- the act puts the body of the log
-pub puts_body : (ask : PutAsk) (work : Work) (claim : Claim) (log : Log) (staged : Staged) → Stages ask work claim log → Answers work.stage (Ok staged)
-    → PutsBody ask.set ask.kind (body_of log) work.flight.id (act.Put work.flight.id staged.print staged.length staged.etag ask.kind)
-puts_body ask work claim log staged s x =
-    let b = x.body (body_of log) s.shards s.taken in
-    record {
-      print = staged.print;
-      is = ap₂ (λ (n : ℕ) (tag : List ℕ). act.Put work.flight.id staged.print n tag ask.kind) b.long b.etag;
-      printed = subst (λ (p : SetPlan). HasPrint p.drives p.parity (body_of log) staged.print) s.stage_of.set_is b.print;
-    }
-
+-- the MD5 that was stated, if any, is that of the body
 pub put_agrees : (ask : PutAsk) (work : Work) (claim : Claim) (log : Log) (staged : Staged) → Stages ask work claim log → Answers work.stage (Ok staged)
     → IsAgreed ask.stated (body_of log)
 put_agrees ask work claim log staged s x given is = (x.body (body_of log) s.shards s.taken).agrees given (s.stage_of.stated_is ∙ is)
@@ -277,7 +268,7 @@ put_agrees ask work claim log staged s x given is = (x.body (body_of log) s.shar
 -- what it refuses, where no section has a note since the look
 pub stage_owes : (ask : PutAsk) (work : Work) (claim : Claim) (log : Log) (why : Refusal) (refused : StageFault) → Stages ask work claim log
     → work.stage.load.left ≡ 0 → refusal_of_stage refused ≡ Some why → Answers work.stage (Err refused)
-    → PutOwes ask.set ask.at ask.kind ask.stated ask.now (Refused why) log
+    → OwesPut ask.target ask.set ask.stated ask.now (Refused why) log
 stage_owes ask work claim log why (fault.WriteQuorum whys) s whole is x =
     let says = x.concludes in
     let made = s.taken.made whole in
@@ -287,11 +278,11 @@ stage_owes ask work claim log why (fault.WriteQuorum whys) s whole is x =
       agreed = λ given stated. says.2 given (s.stage_of.stated_is ∙ stated) ∙ made.etag;
       whys = whys;
       few = record {
+        id = work.flight.id;
         few = record {
           counted = ap length says.0 ∙ (work.stage.letters ∙ ap (λ (p : SetPlan). p.drives) set_is);
           few = subst₂ (λ (l : List Why) (p : SetPlan). good_count l < write_drives p.drives p.parity) (sym says.0) set_is says.1;
         };
-        id = work.flight.id;
         of_slot = s.held.of_slot;
         each = λ k below. subst (λ (l : List Why). StageLetter ask.set work.flight.id log k (slice_index_or l k Good)) (sym says.0) (s.letters k below);
       };

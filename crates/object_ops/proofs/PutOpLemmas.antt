@@ -4,12 +4,9 @@ use Rattle.std.specs.Int.{IsBitSet}
 use Rattle.std.proofs.lemmas.List.{get_or-replicate}
 use Rattle.std.proofs.lemmas.List.Elements.{Contains-append_left}
 use Rattle.call_types.specs.declared.feed.Cut.{Cut}
-use Rattle.call_types.specs.declared.names.Key.{Key}
 use Rattle.call_types.specs.declared.names.Mode.{Mode}
 use Rattle.fault_base.specs.declared.memory.NoMemory.{NoMemory}
 use Rattle.call_types.specs.declared.reply.Reply.{Reply}
-use Rattle.call_types.specs.declared.reply.Reply.TheVariants.{Found}
-use Rattle.desk_base.specs.Answering.{bytes_after}
 use Rattle.desk_base.specs.Telling.{Effect}
 use Rattle.desk_base.specs.Telling.Telling.{Head as TheHead}
 use Rattle.drive_base.specs.View.{DriveView, views}
@@ -29,7 +26,6 @@ use Rattle.receipts.specs.Events.Event.{BarredFrom, Called, Fed, Told as ToldEve
 use Rattle.receipts.specs.Events.Shown.{NoneShown}
 use Rattle.receipts.specs.Letters.{StageLetter}
 use Rattle.receipts.specs.Paying.{Pays}
-use Rattle.receipts.specs.Spans.{GivesBytes}
 use Rattle.receipts.specs.Registers.{bucket_register, bucket_slot, key_slot}
 use Rattle.receipts.proofs.JoinLemmas.{bodies_join, calls_join}
 use Rattle.receipts.proofs.RegisterLemmas.{key_slot_below}
@@ -48,6 +44,8 @@ use Rattle.object_ops.specs.Reading.{HasFound}
 use Rattle.object_ops.specs.Put.{PutAsk, left_at, task_of}
 use Rattle.object_ops.specs.PutBegin.{IsNewPut}
 use Rattle.object_ops.specs.PutStands.{ClaimsSo, HasLookedAt, HoldsPut, HoldsRest, IsSamePut, PutStands, PutStandsAt, Stages, ask_of, no_cells}
+use Rattle.object_ops.specs.PutTarget.{key_of, register_of}
+use Rattle.object_ops.specs.declared.put_target.PutTarget.{PutTarget}
 use Rattle.object_ops.specs.declared.put_op.PutOp.{PutOp}
 use Rattle.object_ops.specs.PutWork.{BeginsStage, BeginsWork, StepsWork}
 use Rattle.object_ops.specs.Putting.{AfterLook}
@@ -57,6 +55,7 @@ use Rattle.object_ops.specs.declared.put_state.PutState.{PutState}
 use Rattle.object_ops.specs.declared.put_state.PutState.TheVariants as state
 use Rattle.object_ops.specs.declared.put_work.Work.{Work}
 use Rattle.object_ops.specs.declared.removal.Removal.{Removal}
+use Rattle.object_ops.proofs.PutTargets.{gives_none, none_after}
 use Rattle.object_ops.proofs.PutBegins.{BeginSays, begin_turn, first_claim, first_staging}
 use Rattle.object_ops.specs.PutFeeding.{FillsTo, feed_cut}
 use Rattle.object_ops.specs.declared.put_feeding.PutFed.{PutFed}
@@ -77,13 +76,13 @@ module _ (ask : PutAsk) (read : ℕ) where
   stands_at clearing one is claim log same x = subst (λ (s : PutState). Stands clearing s claim log) same x
 
   -- nothing is left to remove
-  pub rest_none : (clearing : Clearing) (claim : Claim) (log : Log) → HasNone clearing → claim ≡ no_claim (key_slot ask.at) → HoldsRest (key_slot ask.at) clearing claim log
+  pub rest_none : (clearing : Clearing) (claim : Claim) (log : Log) → HasNone clearing → claim ≡ no_claim (key_slot (key_of ask.target)) → HoldsRest (key_slot (key_of ask.target)) clearing claim log
   rest_none clearing claim log none is =
-      inl (is ∙ ap (λ (q : List Removal). with_taken (no_claim (key_slot ask.at)) (ids_of (files_of q))) (sym none.queue))
+      inl (is ∙ ap (λ (q : List Removal). with_taken (no_claim (key_slot (key_of ask.target))) (ids_of (files_of q))) (sym none.queue))
 
   -- the look at the bucket
   pub look_so : {D : Type 0} (ghosts : Ghosts D) (clearing : Clearing) (one later : PutState) (name : List ℕ) (was after : SlotSeen D) (look : Look)
-      (old new : List DriveView) → one ≡ state.Looking → read ≡ 0 → name ≡ bucket_register ask.at.bucket → was.numbers.index ≡ bucket_slot ask.at.bucket
+      (old new : List DriveView) → one ≡ state.Looking → read ≡ 0 → name ≡ bucket_register (key_of ask.target).bucket → was.numbers.index ≡ bucket_slot (key_of ask.target).bucket
       → LooksSo ghosts name was after look old new → AfterLook look.looked ask.long later
       → TurnsSo ghosts (Stands clearing one) (Stands clearing later) look.stub was after old new
   look_so ghosts clearing one later name was after look old new is zero named index looks next claim log x =
@@ -92,7 +91,7 @@ module _ (ask : PutAsk) (read : ℕ) where
         claim,
         looks.shown,
         subst₂ (λ (n : ℕ) (l : Log). PutStandsAt ask n clearing later claim (l ++ event ∷ [])) (sym zero) (sym here.2)
-            (look_stands ask clearing was.numbers.index look.stub looks.shown look.looked later claim next (looks.says ask.at.bucket named index)
+            (look_stands ask clearing was.numbers.index look.stub looks.shown look.looked later claim next (looks.says (key_of ask.target).bucket named index)
             (here.0, here.1, refl) (rest_none clearing claim (event ∷ []) here.0 here.1)),
         looks.turns claim,
       )
@@ -100,18 +99,18 @@ module _ (ask : PutAsk) (read : ℕ) where
   -- ---- the begin of the put
 
   -- the stage has done nothing yet
-  first_stages : (mode : Mode) (flight : Flight) (work : Work) (k : ℕ) (log : Log) → BeginsStage ask.set (key_name ask.at) ask.long ask.stated mode flight work
-      → HasFound ask.at.bucket mode log → HoldsPut ask.at flight (first_claim (key_slot ask.at) (record { id = flight.id; name = key_name ask.at }))
-      → Stages ask work (first_claim (key_slot ask.at) (record { id = flight.id; name = key_name ask.at })) (log ++ Turned k None NoneShown ∷ [])
+  first_stages : (mode : Mode) (flight : Flight) (work : Work) (k : ℕ) (log : Log) → BeginsStage ask.set (register_of ask.target) ask.long ask.stated mode flight work
+      → HasFound (key_of ask.target).bucket mode log → HoldsPut (key_of ask.target) flight (first_claim (key_slot (key_of ask.target)) (record { id = flight.id; name = key_name (key_of ask.target) }))
+      → Stages ask work (first_claim (key_slot (key_of ask.target)) (record { id = flight.id; name = key_name (key_of ask.target) })) (log ++ Turned k None NoneShown ∷ [])
   first_stages mode flight work k log begins found held =
-      let claim = first_claim (key_slot ask.at) (record { id = flight.id; name = key_name ask.at }) in
+      let claim = first_claim (key_slot (key_of ask.target)) (record { id = flight.id; name = key_name (key_of ask.target) }) in
       let event = Turned k None NoneShown in
       let load = begins.stage.load in
       let body : body_of (log ++ event ∷ []) ≡ [] = bodies_join log (event ∷ []) ∙ (append-nil (body_of log) ∙ found.fresh.untaken) in
       let shards : List (List (List ℕ)) = replicate ask.set.drives [] in
       let one : (j : ℕ) → j < ask.set.drives → slice_index_or shards j [] ≡ [] = λ j low. get_or-replicate ask.set.drives j [] [] low in
       record {
-        looked = looked_on ask.at.bucket work.mode log event tt (subst (λ (m : Mode). HasLookedAt ask.at.bucket m log) (sym begins.mode_is) (record {
+        looked = looked_on (key_of ask.target).bucket work.mode log event tt (subst (λ (m : Mode). HasLookedAt (key_of ask.target).bucket m log) (sym begins.mode_is) (record {
           untold = found.fresh.untold;
           uncut = found.fresh.uncut;
           idle = found.fresh.idle;
@@ -119,7 +118,7 @@ module _ (ask : PutAsk) (read : ℕ) where
           sections = found.sections;
           finds = found.finds;
         }));
-        held = subst (λ (f : Flight). HoldsPut ask.at f claim) (sym begins.flight_is) held;
+        held = subst (λ (f : Flight). HoldsPut (key_of ask.target) f claim) (sym begins.flight_is) held;
         stage_of = record {
           set_is = load.set_is;
           id_is = load.id_is ∙ sym (ap (λ (f : Flight). f.id) begins.flight_is);
@@ -162,14 +161,14 @@ module _ (ask : PutAsk) (read : ℕ) where
 
   -- it began
   pub begun_so : {D : Type 0} (ghosts : Ghosts D) (clearing : Clearing) (one later : PutState) (mode : Mode) (flight : Flight) (was after : SlotSeen D)
-      (disks : List DriveView) → one ≡ state.Beginning mode → was.numbers.index ≡ key_slot ask.at → BeginSays ghosts was after ask.at (Ok flight) None
-      → BeginsWork ask.set (key_name ask.at) ask.long ask.stated mode flight later
+      (disks : List DriveView) → one ≡ state.Beginning mode → was.numbers.index ≡ key_slot (key_of ask.target) → BeginSays ghosts was after (key_of ask.target) (Ok flight) None
+      → BeginsWork ask.set (register_of ask.target) ask.long ask.stated mode flight later
       → TurnsSo ghosts (Stands clearing one) (Stands clearing later) None was after disks disks
   begun_so ghosts clearing one later mode flight was after disks is own says next claim log x =
       let here = stands_at clearing one (state.Beginning mode) claim log is x in
-      let f : Flying = record { id = flight.id; name = key_name ask.at } in
-      let turn = begin_turn ghosts was after ask.at flight disks own says in
-      let held = subst (λ i. HoldsPut ask.at flight (first_claim i f)) own turn.0 in (
+      let f : Flying = record { id = flight.id; name = key_name (key_of ask.target) } in
+      let turn = begin_turn ghosts was after (key_of ask.target) flight disks own says in
+      let held = subst (λ i. HoldsPut (key_of ask.target) flight (first_claim i f)) own turn.0 in (
         first_claim was.numbers.index f,
         NoneShown,
         subst (λ i. Stands clearing later (first_claim i f) (log ++ Turned was.numbers.index None NoneShown ∷ [])) (sym own) (by later next here.0 here.2 held),
@@ -177,15 +176,15 @@ module _ (ask : PutAsk) (read : ℕ) where
             (sym (here.1 ∙ ap no_claim (sym own))) turn.1,
       )
     where
-      by : (s : PutState) → BeginsWork ask.set (key_name ask.at) ask.long ask.stated mode flight s → HasNone clearing → HasFound ask.at.bucket mode log
-          → HoldsPut ask.at flight (first_claim (key_slot ask.at) (record { id = flight.id; name = key_name ask.at }))
-          → Stands clearing s (first_claim (key_slot ask.at) (record { id = flight.id; name = key_name ask.at })) (log ++ Turned was.numbers.index None NoneShown ∷ [])
+      by : (s : PutState) → BeginsWork ask.set (register_of ask.target) ask.long ask.stated mode flight s → HasNone clearing → HasFound (key_of ask.target).bucket mode log
+          → HoldsPut (key_of ask.target) flight (first_claim (key_slot (key_of ask.target)) (record { id = flight.id; name = key_name (key_of ask.target) }))
+          → Stands clearing s (first_claim (key_slot (key_of ask.target)) (record { id = flight.id; name = key_name (key_of ask.target) })) (log ++ Turned was.numbers.index None NoneShown ∷ [])
       by state.Looking b none found held = absurd b
       by (state.Beginning other) b none found held = absurd b
       by (state.Staging work) b none found held = (none, first_stages mode flight work was.numbers.index log b found held)
       by (state.Dropping other why) (same, memory) none found held = (
         none,
-        subst (λ (f : Flight). HoldsPut ask.at f (first_claim (key_slot ask.at) (record { id = flight.id; name = key_name ask.at }))) (sym same) held,
+        subst (λ (f : Flight). HoldsPut (key_of ask.target) f (first_claim (key_slot (key_of ask.target)) (record { id = flight.id; name = key_name (key_of ask.target) }))) (sym same) held,
         subst (λ (w : Cut). Pays ask.set (task_of ask) (Some w) (log ++ Turned was.numbers.index None NoneShown ∷ [])) (sym memory)
             (fresh_pays ask.set (task_of ask) (log ++ Turned was.numbers.index None NoneShown ∷ [])
             (quiet_fresh log (Turned was.numbers.index None NoneShown ∷ []) (one_all IsQuiet (Turned was.numbers.index None NoneShown) tt) found.fresh)),
@@ -221,7 +220,7 @@ module _ (ask : PutAsk) (read : ℕ) where
         feed_cut why,
         (
           none,
-          subst (λ (g : Flight). HoldsPut ask.at g claim) (sym flight_is) s.held,
+          subst (λ (g : Flight). HoldsPut (key_of ask.target) g claim) (sym flight_is) s.held,
           cut_pays ask log bytes why old new s.looked.untold s.looked.uncut s.looked.idle (body_long s) stated moves kind,
         ),
         moves,
@@ -241,14 +240,6 @@ module _ (ask : PutAsk) (read : ℕ) where
       inl (got.0, got.1, got.2, (here.0, got.3), got.4)
 
   -- ---- the telling
-
-  no_bytes : (reply : Reply) (log : Log) → GivesBytes ask.set (task_of ask).call reply [] log
-  no_bytes (Found version span id) log = refl
-  no_bytes other log = refl
-
-  none_after : (reply : Reply) → 0 ≡ bytes_after reply (task_of ask).call
-  none_after (Found version span id) = refl
-  none_after other = refl
 
   pub left_on : (slot : ℕ) (clearing : Clearing) (claim : Claim) (log : Log) (event : Event) → HoldsRest slot clearing claim log → HoldsRest slot clearing claim (log ++ event ∷ [])
   left_on slot clearing claim log event (inl is) = inl is
@@ -270,8 +261,8 @@ module _ (ask : PutAsk) (read : ℕ) where
         TheHead reply,
         why,
         (
-          left_on (key_slot ask.at) clearing claim log (ToldEvent (TheHead reply) why) here.0,
-          told_pays takes breaks ask.set (task_of ask) reply log why old new (none_after reply) (no_bytes reply) here.1 moves,
+          left_on (key_slot (key_of ask.target)) clearing claim log (ToldEvent (TheHead reply) why) here.0,
+          told_pays takes breaks ask.set (task_of ask) reply log why old new (none_after ask.target ask.stated ask.long reply) (gives_none ask.target ask.set ask.stated ask.long reply) here.1 moves,
         ),
         moves,
       )
@@ -279,14 +270,14 @@ module _ (ask : PutAsk) (read : ℕ) where
   -- ---- the trash
 
   pub clear_so : {D : Type 0} (ghosts : Ghosts D) (clearing cleared : Clearing) (one : PutState) (why : Option Cut) (was after : SlotSeen D)
-      (disks : List DriveView) → one ≡ state.Told why → clearing.takes ≡ true → was.numbers.index ≡ key_slot ask.at → TakesTrash ghosts was after (files_left cleared)
+      (disks : List DriveView) → one ≡ state.Told why → clearing.takes ≡ true → was.numbers.index ≡ key_slot (key_of ask.target) → TakesTrash ghosts was after (files_left cleared)
       → TurnsSo ghosts (Stands clearing one) (Stands cleared one) None was after disks disks
   clear_so ghosts clearing cleared one why was after disks is takes own taking claim log x =
       let here = stands_at clearing one (state.Told why) claim log is x in
       let event = Turned was.numbers.index None NoneShown in
       by here.0 here.1
     where
-      by : HoldsRest (key_slot ask.at) clearing claim log → Pays ask.set (task_of ask) why log
+      by : HoldsRest (key_slot (key_of ask.target)) clearing claim log → Pays ask.set (task_of ask) why log
           → (later : Claim) × (shown : Shown) × Stands cleared one later (log ++ Turned was.numbers.index None shown ∷ [])
           × TurnMoves ghosts was after None shown claim later disks disks
       by (inl holds) pays = (
@@ -301,16 +292,16 @@ module _ (ask : PutAsk) (read : ℕ) where
       by (inr (none, left)) pays = let no : clearing.takes ≡ false = none.takes in absurd cc
 
   pub remove_so : (clearing cleared : Clearing) (one : PutState) (why : Option Cut) (old new : List DriveView) → one ≡ state.Told why
-      → AreDue ask.set (key_slot ask.at) (files_left clearing) → (step : RemovesOne (files_left clearing) (files_left cleared) old new)
+      → AreDue ask.set (key_slot (key_of ask.target)) (files_left clearing) → (step : RemovesOne (files_left clearing) (files_left cleared) old new)
       → CallsSo (Stands clearing one) (Stands cleared one) ask.set old new
   remove_so clearing cleared one why old new is due step claim log x =
       let here = stands_at clearing one (state.Told why) claim log is x in
       by here.0 here.1
     where
-      by : HoldsRest (key_slot ask.at) clearing claim log → Pays ask.set (task_of ask) why log
+      by : HoldsRest (key_slot (key_of ask.target)) clearing claim log → Pays ask.set (task_of ask) why log
           → CallsOne (Stands cleared one) ask.set claim log old new ⊎ (Stands cleared one claim log × (new ≡ old))
       by (inl holds) pays =
-          let own : claim.slot ≡ key_slot ask.at = ap (λ (c : Claim). c.slot) holds in
+          let own : claim.slot ≡ key_slot (key_of ask.target) = ap (λ (c : Claim). c.slot) holds in
           let taken : claim.taken ≡ ids_of (files_left clearing) = ap (λ (c : Claim). c.taken) holds in inl (
             with_taken claim (ids_of (files_left cleared)),
             step.file.drive,
@@ -319,7 +310,7 @@ module _ (ask : PutAsk) (read : ℕ) where
               inl (ap (λ (c : Claim). with_taken c (ids_of (files_left cleared))) holds),
               pays_on ask.set (task_of ask) why log (Called step.file.drive step.made) tt pays,
             ),
-            removal_is_call ask.set (key_slot ask.at) (files_left clearing) (files_left cleared) old new claim due own taken step,
+            removal_is_call ask.set (key_slot (key_of ask.target)) (files_left clearing) (files_left cleared) old new claim due own taken step,
           )
       by (inr (none, left)) pays =
           let nothing : files_left clearing ≡ [] = ap files_of none.queue in
@@ -328,7 +319,7 @@ module _ (ask : PutAsk) (read : ℕ) where
 
 -- an op of the same call stands for the same
 pub same_ask : (old new : PutOp) → IsSamePut old new → ask_of new ≡ ask_of old
-same_ask old new x = λ i. record { set = x.set i; at = x.at i; kind = x.kind i; stated = x.stated i; long = x.long i; now = x.now i }
+same_ask old new x = λ i. record { set = x.set i; target = x.target i; stated = x.stated i; long = x.long i; now = x.now i }
 
 pub stands_on : (old new : PutOp) (clearing : Clearing) (s : PutState) → IsSamePut old new → new.read ≡ old.read
     → PutStandsAt (ask_of old) old.read clearing s ≡ PutStandsAt (ask_of new) new.read clearing s
@@ -343,11 +334,11 @@ pub no_stub : (numbers : SlotNumbers) (answer : Result (Unit {0}) SlotFault) (st
 no_stub numbers answer stub done is = subst (λ (a : Result (Unit {0}) SlotFault). StubOfNone numbers a stub) done is
 
 -- an op that has done nothing yet stands for the empty log
-pub begins : (set : SetPlan) (at : Key) (kind : List ℕ) (stated : Option (List ℕ)) (long now : ℕ) (result : Result PutOp NoMemory)
-    → IfOk result (IsNewPut set at kind stated long now) → IfOk result (λ op. (slot : ℕ) × (slot < 64) × PutStands op (no_claim slot) [])
-begins set at kind stated long now (Ok op) is = (
-  key_slot op.at,
-  key_slot_below op.at,
-  subst (λ (s : PutState). PutStandsAt (ask_of op) op.read op.clearing s (no_claim (key_slot op.at)) []) (sym is.state_is) (is.none, refl, refl),
+pub begins : (set : SetPlan) (target : PutTarget) (stated : Option (List ℕ)) (long now : ℕ) (result : Result PutOp NoMemory)
+    → IfOk result (IsNewPut set target stated long now) → IfOk result (λ op. (slot : ℕ) × (slot < 64) × PutStands op (no_claim slot) [])
+begins set target stated long now (Ok op) is = (
+  key_slot (key_of op.target),
+  key_slot_below (key_of op.target),
+  subst (λ (s : PutState). PutStandsAt (ask_of op) op.read op.clearing s (no_claim (key_slot (key_of op.target))) []) (sym is.state_is) (is.none, refl, refl),
 )
-begins set at kind stated long now (Err fault) is = tt
+begins set target stated long now (Err fault) is = tt

@@ -71,7 +71,7 @@ work_manifest stage blocks k cells at = by stage.load.left refl
 
 -- the one that is made is the put's
 pub is_made : (ask : PutAsk) (flight : Flight) (stage : Stage) (body : List ℕ) (shards : List (List (List ℕ))) → IsStageOf ask flight stage
-    → HasTaken stage.load body shards → stage.load.left ≡ 0 → IsMade ask.at flight.id (manifest_in stage.load body shards)
+    → HasTaken stage.load body shards → stage.load.left ≡ 0 → IsMade ask.target flight.id (manifest_in stage.load body shards)
 is_made ask flight stage body shards of taken whole = record {
   canonical = whole_manifest stage.load body shards taken whole;
   name_is = of.name_is;

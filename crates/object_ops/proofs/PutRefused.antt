@@ -9,7 +9,6 @@ use Rattle.drive_base.specs.declared.drive.Drive.{Ghosts}
 use Rattle.drive_base.specs.View.{DriveView}
 use Rattle.drive_base.proofs.ViewLemmas.{untouched_are_only_read}
 use Rattle.audit_trail.specs.Entries.{with_entry}
-use Rattle.slot_history.specs.Names.{key_name}
 use Rattle.slot_data.specs.Holding.{Holding}
 use Rattle.slot_core.specs.Sections.{ShowsNoMore}
 use Rattle.slot_core.specs.Stubs.{AuditCounts, StubOfEntry, StubOfNone, entry_of}
@@ -41,6 +40,7 @@ use Rattle.object_ops.specs.Put.{PutAsk, task_of}
 use Rattle.object_ops.specs.PutStands.{PutStandsAt}
 use Rattle.object_ops.specs.PutWork.{BeginsTo}
 use Rattle.object_ops.specs.Putting.{OwesNext, RefusedBegin}
+use Rattle.object_ops.specs.PutTarget.{key_of, register_of}
 use Rattle.object_ops.specs.declared.clearing.Clearing.{Clearing}
 use Rattle.object_ops.specs.declared.put_state.PutState.{PutState}
 use Rattle.object_ops.specs.declared.put_state.PutState.TheVariants as state
@@ -134,7 +134,7 @@ module _ {D : Type 0} (ghosts : Ghosts D) where
 module _ (ask : PutAsk) (read : ℕ) where
   -- it is told that the slot's numbers are spent, and nothing for want of memory
   refused_stands : (clearing : Clearing) (later : PutState) (mode : Mode) (numbers : SlotNumbers) (fault : SlotFault) (stub : Option Stub) (claim : Claim) (log : Log)
-      → read ≡ 0 → numbers.index ≡ key_slot ask.at → HasNone clearing → claim ≡ no_claim (key_slot ask.at) → HasFound ask.at.bucket mode log
+      → read ≡ 0 → numbers.index ≡ key_slot (key_of ask.target) → HasNone clearing → claim ≡ no_claim (key_slot (key_of ask.target)) → HasFound (key_of ask.target).bucket mode log
       → StubOfNone {T = Flight} numbers (Err fault) stub → RefusedBegin fault ask.long later
       → PutStandsAt ask read clearing later claim (log ++ Turned numbers.index (noted stub) NoneShown ∷ [])
   refused_stands clearing later mode numbers (slot.Quorum quorum) stub claim log zero own none is found x after = absurd x
@@ -177,18 +177,18 @@ module _ (ask : PutAsk) (read : ℕ) where
 
   -- the begin, by its answer
   pub begin_so : {D : Type 0} (ghosts : Ghosts D) (clearing : Clearing) (one later : PutState) (mode : Mode) (answer : Result Flight SlotFault)
-      (stub : Option Stub) (was after : SlotSeen D) (disks : List DriveView) → one ≡ state.Beginning mode → read ≡ 0 → was.numbers.index ≡ key_slot ask.at
-      → BeginSays ghosts was after ask.at answer stub → BeginsTo ask.set (key_name ask.at) ask.long ask.stated mode answer later
+      (stub : Option Stub) (was after : SlotSeen D) (disks : List DriveView) → one ≡ state.Beginning mode → read ≡ 0 → was.numbers.index ≡ key_slot (key_of ask.target)
+      → BeginSays ghosts was after (key_of ask.target) answer stub → BeginsTo ask.set (register_of ask.target) ask.long ask.stated mode answer later
       → TurnsSo ghosts (PutStandsAt ask read clearing one) (PutStandsAt ask read clearing later) stub was after disks disks
   begin_so ghosts clearing one later mode (Ok flight) stub was after disks is zero own says begins =
       subst (λ (s : Option Stub). TurnsSo ghosts (PutStandsAt ask read clearing one) (PutStandsAt ask read clearing later) s was after disks disks)
       (sym says.turns.stub_is)
       (begun_so ask read ghosts clearing one later mode flight was after disks is own
-      (subst (λ (s : Option Stub). BeginSays ghosts was after ask.at (Ok flight) s) says.turns.stub_is says) begins)
+      (subst (λ (s : Option Stub). BeginSays ghosts was after (key_of ask.target) (Ok flight) s) says.turns.stub_is says) begins)
   begin_so ghosts clearing one later mode (Err fault) stub was after disks is zero own says begins = λ claim log x.
       let here = subst (λ (s : PutState). PutStandsAt ask read clearing s claim log) is x in (
         claim,
         NoneShown,
         refused_stands clearing later mode was.numbers fault stub claim log zero own here.0 here.1 here.2 says.turns.stub_is begins,
-        refused_turn ghosts was after ask.at fault stub disks claim says,
+        refused_turn ghosts was after (key_of ask.target) fault stub disks claim says,
       )

@@ -9,8 +9,8 @@ use Rattle.call_types.specs.declared.names.Mode.{Mode}
 use Rattle.call_types.specs.declared.why.Why.{Why}
 use Rattle.call_types.specs.declared.why.Why.TheVariants.{Good, Lacks}
 use Rattle.call_types.specs.declared.why.FileKind.TheVariants.{Manifest as ManifestKind, Shard as ShardKind}
-use Rattle.drive_base.specs.Calls.{MadeCall}
-use Rattle.drive_base.specs.View.{DriveView, GoesOn, view_at, views}
+use Rattle.drive_base.specs.Calls.{MadeCall, WasMade}
+use Rattle.drive_base.specs.View.{DriveView, view_at, views}
 use Rattle.drive_base.specs.declared.drive.Drive.{Ghosts}
 use Rattle.drive_base.specs.declared.plan.SetPlan.{SetPlan}
 use Rattle.drive_base.proofs.ViewLemmas.{length-views}
@@ -44,6 +44,7 @@ use Rattle.op_steps.specs.Moves.{CallMoves, KeepsData, SaysUnwritten, SlotKept}
 use Rattle.object_ops.specs.Put.{PutAsk}
 use Rattle.object_ops.specs.PutStands.{ClaimsSo, ClaimsStage, HasLookedAt, HasWorked, HoldsPut, IsStageOf, Stages, no_cells}
 use Rattle.object_ops.specs.PutWork.{StepsWork}
+use Rattle.object_ops.specs.PutTarget.{key_of}
 use Rattle.object_ops.specs.declared.put_work.Work.{Work}
 use Rattle.object_ops.proofs.PutCalls.{due_may, letter_grows, made_by, new_letter, step_was_made, unwritten_lacks}
 use Rattle.object_ops.proofs.PutCells.{same_cells}
@@ -64,8 +65,7 @@ drive_blocks load body shards k low taken = (
 
 module _ {D : Type 0} (ghosts : Ghosts D) (ask : PutAsk) (work later : Work) (o : D) (old new : List D) (counted : length old ≡ ask.set.drives)
     (long : length new ≡ length old) (steps : StepsWork ghosts work later old new) (k : ℕ)
-    (one : Stepped ghosts k work.stage later.stage old new)
-    (goes : GoesOn (view_at (views ghosts old) k) (view_at (views ghosts new) k)) (claim : Claim) (log : Log) (x : Stages ask work claim log) where
+    (one : Stepped ghosts k work.stage later.stage old new) (claim : Claim) (log : Log) (x : Stages ask work claim log) where
   abbrev id : VersionId
   id = work.flight.id
 
@@ -98,6 +98,9 @@ module _ {D : Type 0} (ghosts : Ghosts D) (ask : PutAsk) (work later : Work) (o 
   abbrev made : MadeCall
   made = made_by work.stage.load k (due_at work.stage k) one.answer before after called
 
+  made_so : WasMade made before after
+  made_so = step_was_made work.stage.load k (due_at work.stage k) one.answer before after called
+
   spares : IsTrue before.tells → Spares id before.files after.files
   spares =
       subst (λ (y : VersionId). IsTrue before.tells → Spares y before.files after.files) x.stage_of.id_is
@@ -111,7 +114,8 @@ module _ {D : Type 0} (ghosts : Ghosts D) (ask : PutAsk) (work later : Work) (o 
   writes = record {
     inside = inside;
     in_use = in_use;
-    goes_on = goes;
+    made = made;
+    was_made = made_so;
     spares = spares;
     long = length-views ghosts new ∙ (long ∙ sym (length-views ghosts old));
     others = others;
@@ -178,11 +182,11 @@ module _ {D : Type 0} (ghosts : Ghosts D) (ask : PutAsk) (work later : Work) (o 
       none i is = ap (λ b. cond b (made.call ∷ []) [] ++ []) is
 
   -- all but its claim
-  pub stages_on : (next : Claim) → HoldsPut ask.at work.flight next → ClaimsSo later.stage x.shards id next → Stages ask later next (log ++ Called k made ∷ [])
+  pub stages_on : (next : Claim) → HoldsPut (key_of ask.target) work.flight next → ClaimsSo later.stage x.shards id next → Stages ask later next (log ++ Called k made ∷ [])
   stages_on next held claims = record {
-    looked = subst (λ (m : Mode). HasLookedAt ask.at.bucket m (log ++ Called k made ∷ [])) (sym steps.mode_is)
-        (looked_on ask.at.bucket work.mode log (Called k made) tt x.looked);
-    held = subst (λ (f : Flight). HoldsPut ask.at f next) (sym steps.flight_is) held;
+    looked = subst (λ (m : Mode). HasLookedAt (key_of ask.target).bucket m (log ++ Called k made ∷ [])) (sym steps.mode_is)
+        (looked_on (key_of ask.target).bucket work.mode log (Called k made) tt x.looked);
+    held = subst (λ (f : Flight). HoldsPut (key_of ask.target) f next) (sym steps.flight_is) held;
     stage_of = stage_on;
     shards = x.shards;
     taken = taken_on;
@@ -202,8 +206,8 @@ module _ {D : Type 0} (ghosts : Ghosts D) (ask : PutAsk) (work later : Work) (o 
   calls_on next same written holds = record {
     within = (let viewed = length-views ghosts old in omega (arith, viewed, low));
     in_use = in_use;
-    was_made = step_was_made work.stage.load k (due_at work.stage k) one.answer before after called;
-    may = due_may work.stage.load k (due_at work.stage k) called.answer called.call claim (record { id = id; name = key_name ask.at }) x.held.flight_is
+    was_made = made_so;
+    may = due_may work.stage.load k (due_at work.stage k) called.answer called.call claim (record { id = id; name = key_name (key_of ask.target) }) x.held.flight_is
         x.stage_of.id_is called.is_due;
     long = writes.long;
     others = others;
@@ -220,9 +224,9 @@ module _ {D : Type 0} (ghosts : Ghosts D) (ask : PutAsk) (work later : Work) (o 
       × ((j : ℕ) → j < ask.set.drives → (IsBitSet ask.set.out j → ⊥) → IsExpected (staging.expected j) (data_of staging.id (view_at (views ghosts old) j).files))
   unmet unseen front rest own staging staged mine kept =
       let met = met_mine own.numbers.set own.numbers.index (last_of own.numbers) own.holding unseen (views ghosts old) front rest claim
-      (record { id = id; name = key_name ask.at }) own.records own.state (sym mine) x.held.flight_is x.held.none_known kept.holds in
+      (record { id = id; name = key_name (key_of ask.target) }) own.records own.state (sym mine) x.held.flight_is x.held.none_known kept.holds in
       let put = met.staged staging staged in (
-        put.2 ∙ ap (λ (f : Flying). f.id) (some_flying put.0 (record { id = id; name = key_name ask.at }) (sym put.1 ∙ x.held.flight_is)),
+        put.2 ∙ ap (λ (f : Flying). f.id) (some_flying put.0 (record { id = id; name = key_name (key_of ask.target) }) (sym put.1 ∙ x.held.flight_is)),
         subst (λ (s : SetPlan). DisksTell s (views ghosts old)) kept.set_is kept.holds.tell,
         subst (λ (s : SetPlan). (j : ℕ) → j < s.drives → (IsBitSet s.out j → ⊥)
             → IsExpected (staging.expected j) (data_of staging.id (view_at (views ghosts old) j).files)) kept.set_is (met.works staging staged),
@@ -248,7 +252,7 @@ module _ {D : Type 0} (ghosts : Ghosts D) (ask : PutAsk) (work later : Work) (o 
       let void : Staging = record { id = other_id id; expected = staging.expected } in (
         with_stage claim void,
         made,
-        stages_on (with_stage claim void) (held_with ask.at work.flight claim void x.held) (void, refl, inl (other_apart id)),
+        stages_on (with_stage claim void) (held_with (key_of ask.target) work.flight claim void x.held) (void, refl, inl (other_apart id)),
         calls_on (with_stage claim void) refl (λ unseen front rest own says mine kept_own.
             let u = unmet unseen front rest own staging staged mine kept_own in
             lost (u.1.tell k inside in_use)
@@ -317,7 +321,7 @@ module _ {D : Type 0} (ghosts : Ghosts D) (ask : PutAsk) (work later : Work) (o 
 
     -- what the call leaves of the manifest
     moves : (s : SetPlan) (unseen : Disks) → DisksTell s (views ghosts old) → WritesUnder s id k (views ghosts old) (views ghosts new)
-        → ManifestMoves ask.at id (kept_on (disks_of unseen s.out (views ghosts old)) k (manifest_name id))
+        → ManifestMoves ask.target id (kept_on (disks_of unseen s.out (views ghosts old)) k (manifest_name id))
         (kept_on (disks_of unseen s.out (views ghosts new)) k (manifest_name id))
     moves s unseen tell wrote =
         let kept = ap (λ n. n (manifest_name id)) (kept_then s unseen id k (views ghosts old) (views ghosts new) tell wrote) in
@@ -327,7 +331,7 @@ module _ {D : Type 0} (ghosts : Ghosts D) (ask : PutAsk) (work later : Work) (o 
               let body = body_of (log ++ Called k made ∷ []) in
               let m = manifest_in later.stage.load body x.shards in
               IsPut m
-              (subst (λ (f : Flight). IsMade ask.at f.id m) steps.flight_is (is_made ask later.flight later.stage body x.shards stage_on taken_on placed.0))
+              (subst (λ (f : Flight). IsMade ask.target f.id m) steps.flight_is (is_made ask later.flight later.stage body x.shards stage_on taken_on placed.0))
               (kept ∙ (placed.1 ∙ ap (λ (b : List ℕ). Some b) (taken_on.made placed.0).manifest))
         ]
 
@@ -358,23 +362,23 @@ module _ {D : Type 0} (ghosts : Ghosts D) (ask : PutAsk) (work later : Work) (o 
         → KeepsData ask.set unseen (views ghosts old) (among front claim rest) own → KeepsData ask.set unseen (views ghosts old) (among front claim rest) slot
         → DataHolds slot.numbers slot.holding unseen (views ghosts new) (among front next rest) slot.records slot.state
     holds_on unseen front rest own slot of_own kept_own kept =
-        let f : Flying = record { id = id; name = key_name ask.at } in
+        let f : Flying = record { id = id; name = key_name (key_of ask.target) } in
         let wrote_own = subst (λ (s : SetPlan). WritesUnder s id k (views ghosts old) (views ghosts new)) (sym kept_own.set_is) writes in
         let wrote = subst (λ (s : SetPlan). WritesUnder s id k (views ghosts old) (views ghosts new)) (sym kept.set_is) writes in
         elim (eqb_tells claim.slot slot.numbers.index) [
           | inl same ↦
-              here slot.numbers slot.holding slot.records slot.state unseen front rest claim next ask.at f k (views ghosts old) (views ghosts new) same.1
+              here slot.numbers slot.holding slot.records slot.state unseen front rest claim next ask.target f k (views ghosts old) (views ghosts new) same.1
               x.held.flight_is refl x.held.none_known (goes_with claim anew) wrote (moves slot.numbers.set unseen kept.holds.tell wrote) kept.stands kept.holds
               (met_next slot.numbers.set slot.holding unseen
               (met_mine slot.numbers.set slot.numbers.index (last_of slot.numbers) slot.holding unseen (views ghosts old) front rest claim f slot.records slot.state
               same.1 x.held.flight_is x.held.none_known kept.holds))
           | inr other ↦
-              elsewhere slot.numbers slot.holding slot.records slot.state unseen front rest claim next ask.at f k (views ghosts old) (views ghosts new) other.1
+              elsewhere slot.numbers slot.holding slot.records slot.state unseen front rest claim next ask.target f k (views ghosts old) (views ghosts new) other.1
               (goes_with claim anew) (x.held.of_slot ∙ sym x.held.slot_is) wrote
               (λ m other_part keeps has.
               let set_same : slot.numbers.set ≡ own.numbers.set = kept.set_is ∙ sym kept_own.set_is in
               let keeps_own = subst (λ (s : SetPlan). Keeps s (disks_of unseen s.out (views ghosts new)) id m) set_same keeps in
-              elim (kept_so own.numbers.set unseen ask.at id k (views ghosts old) (views ghosts new) kept_own.holds.tell wrote_own
+              elim (kept_so own.numbers.set unseen ask.target id k (views ghosts old) (views ghosts new) kept_own.holds.tell wrote_own
               (moves own.numbers.set unseen kept_own.holds.tell wrote_own) m keeps_own) [
                 | inl was ↦ kept_own.holds.stands.files.of_slot id other_part (x.held.of_slot ∙ (sym x.held.slot_is ∙ sym of_own))
                     (record { manifest = m; kept = was; part = has }) ∙ of_own
@@ -403,7 +407,7 @@ module _ {D : Type 0} (ghosts : Ghosts D) (ask : PutAsk) (work later : Work) (o 
     met_step = (
       next,
       made,
-      stages_on next (held_with ask.at work.flight claim anew x.held) (anew, refl, inr claims_on),
+      stages_on next (held_with (key_of ask.target) work.flight claim anew x.held) (anew, refl, inr claims_on),
       calls_on next refl (λ unseen front rest own says of_own kept_own. never says) holds_on,
     )
 

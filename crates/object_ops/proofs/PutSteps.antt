@@ -1,7 +1,7 @@
 -- A call of a stage, over a list of drives.
-use Rattle.std.proofs.Common.{◌≡◌, ◌<◌, ℕ, List, [], ◌∷◌, ◌++◌, length, inl, inr, sym, subst, subst₂, arith}
+use Rattle.std.proofs.Common.{◌≡◌, ◌<◌, ℕ, List, [], ◌∷◌, ◌++◌, length, inl, inr, subst, arith}
 use Rattle.drive_base.specs.Calls.{MadeCall}
-use Rattle.drive_base.specs.View.{GoesOn, view_at, views}
+use Rattle.drive_base.specs.View.{views}
 use Rattle.drive_base.specs.declared.drive.Drive.{Ghosts}
 use Rattle.drive_base.specs.declared.plan.SetPlan.{SetPlan}
 use Rattle.put_stage.specs.Left.{calls_left}
@@ -13,7 +13,6 @@ use Rattle.object_ops.specs.Put.{PutAsk}
 use Rattle.object_ops.specs.PutStands.{Stages}
 use Rattle.object_ops.specs.PutWork.{StepsWork}
 use Rattle.object_ops.specs.declared.put_work.Work.{Work}
-use Rattle.object_ops.proofs.PutStepClaims.{seen_old, seen_new}
 use Rattle.object_ops.proofs.PutStep.{step_on}
 
 pub steps_so : {D : Type 0} (ghosts : Ghosts D) (ask : PutAsk) (work later : Work) (old new : List D) → length old ≡ ask.set.drives → length new ≡ length old
@@ -25,13 +24,7 @@ steps_so ghosts ask work later [] new counted long steps claim log x = elim step
 ]
 steps_so ghosts ask work later (o ∷ rest) new counted long steps claim log x = elim steps.once [
   | inl one ↦
-      let k = one.0 in
-      let below = subst (λ (p : SetPlan). k < p.drives) x.stage_of.set_is one.1.due.within in
-      let low : k < length (o ∷ rest) = omega (arith, counted, below) in
-      let goes : GoesOn (view_at (views ghosts (o ∷ rest)) k) (view_at (views ghosts new) k) =
-      subst₂ GoesOn (sym (seen_old ghosts o (o ∷ rest) new long k low)) (sym (seen_new ghosts o (o ∷ rest) new long k low))
-      (record { tells = steps.tells k o low; count = steps.counts k o low }) in
-      let got = step_on ghosts ask work later o (o ∷ rest) new counted long steps k one.1 goes claim log x in
-      (got.0, k, got.1, got.2, got.3)
+      let got = step_on ghosts ask work later o (o ∷ rest) new counted long steps one.0 one.1 claim log x in
+      (got.0, one.0, got.1, got.2, got.3)
   | inr none ↦ let fewer = subst (λ s. calls_left s < calls_left work.stage) none.1 steps.fewer in absurd (omega (arith, fewer))
 ]

@@ -1,11 +1,10 @@
 -- The data of the slots while a put writes under its own id.
-use Rattle.std.proofs.Common.{◌≡◌, ◌≢◌, ◌⊎◌, ◌∙◌, ◌<◌, ◌≤◌, ℕ, List, [], ◌∷◌, ◌++◌, Contains, Option, Some, None, option_to_list, option_map, inl, inr, refl, sym, ap, ap₂, subst, arith}
+use Rattle.std.proofs.Common.{◌≡◌, ◌≢◌, ◌⊎◌, ◌∙◌, ◌<◌, ◌≤◌, ℕ, List, [], ◌∷◌, ◌++◌, Contains, Option, Some, None, option_to_list, option_map, inl, inr, refl, sym, ap, ap₂, subst, subst₂, arith}
 use Rattle.std.specs.Int.{IsBitSet}
 use Rattle.std.specs.List.{flat_map}
 use Rattle.std.proofs.lemmas.Bool.Decides.{eqb_tells}
 use Rattle.std.proofs.lemmas.Grind.{flat_map-append}
 use Rattle.stamp_id.specs.declared.version.VersionId.{VersionId}
-use Rattle.call_types.specs.declared.names.Key.{Key}
 use Rattle.drive_base.specs.View.{DriveView, view_at}
 use Rattle.drive_base.specs.declared.plan.SetPlan.{SetPlan}
 use Rattle.manifest_file.specs.Canonical.{IsCanonical}
@@ -20,7 +19,7 @@ use Rattle.slot_history.specs.Names.{key_name}
 use Rattle.slot_history.specs.Standing.{Flying, Records}
 use Rattle.slot_history.specs.State.{State}
 use Rattle.slot_data.specs.DiskLaws.{MayBeKept}
-use Rattle.slot_data.specs.Disks.{Disks, HasPart, IsSingle, Keeps, kept_on}
+use Rattle.slot_data.specs.Disks.{Disks, HasPart, IsForKeyOf, IsSingle, Keeps, kept_on}
 use Rattle.slot_data.specs.Holding.{Hands, Holding, Pinned}
 use Rattle.slot_data.specs.Standing.{DataStands}
 use Rattle.slot_data.proofs.ElsewhereLemmas.{elsewhere_is_written}
@@ -32,13 +31,16 @@ use Rattle.op_steps.specs.Claims.{AllApart, Claim, DataHolds, DisksTell, IsExpec
 use Rattle.op_steps.specs.Moves.{RecordsStand}
 use Rattle.op_steps.proofs.DataLemmas.{claims_elsewhere}
 use Rattle.op_steps.proofs.LiveFileLemmas.{at_own}
+use Rattle.object_ops.specs.PutTarget.{key_of, register_of}
+use Rattle.object_ops.specs.declared.put_target.PutTarget.{PutTarget}
+use Rattle.object_ops.proofs.PutTargets.{register_for}
 use Rattle.object_ops.proofs.PutDisks.{WritesUnder, cells_same, kept_beside, only_under, tell_after}
 use Rattle.object_ops.proofs.PutMine.{Other, Own, listed, met_other, mine, other_flight, still_claimed, unknown, whose}
 
--- the one manifest that a put of a key may write: of this id alone
-pub record IsMade (at : Key) (id : VersionId) (m : Manifest) : Type 0 where
+-- the one manifest that a put may write: for its register, and of this id alone
+pub record IsMade (target : PutTarget) (id : VersionId) (m : Manifest) : Type 0 where
   pub canonical : IsCanonical m
-  pub name_is : m.name ≡ key_name at
+  pub name_is : m.name ≡ register_of target
   pub single : IsSingle m id
 
 some_is : (a b : List ℕ) → Some a ≡ Some b → a ≡ b
@@ -51,12 +53,12 @@ own_part m id other single has =
     sym has.id_is ∙ (ap (λ p. p.id) (sym same) ∙ single.2)
 
 -- what a call leaves of the manifest on its drive: as it was, or none, or the put's
-pub data ManifestMoves (at : Key) (id : VersionId) (old new : Option (List ℕ)) : Type 0 where
-  Stays : new ≡ old → ManifestMoves at id old new
-  IsNone : new ≡ None → ManifestMoves at id old new
-  IsPut : (m : Manifest) → IsMade at id m → new ≡ Some (file_of m) → ManifestMoves at id old new
+pub data ManifestMoves (target : PutTarget) (id : VersionId) (old new : Option (List ℕ)) : Type 0 where
+  Stays : new ≡ old → ManifestMoves target id old new
+  IsNone : new ≡ None → ManifestMoves target id old new
+  IsPut : (m : Manifest) → IsMade target id m → new ≡ Some (file_of m) → ManifestMoves target id old new
 
-module _ (set : SetPlan) (unseen : Disks) (at : Key) (id : VersionId) (drive : ℕ) (old new : List DriveView) where
+module _ (set : SetPlan) (unseen : Disks) (target : PutTarget) (id : VersionId) (drive : ℕ) (old new : List DriveView) where
   abbrev before : Disks
   before = disks_of unseen set.out old
 
@@ -64,10 +66,10 @@ module _ (set : SetPlan) (unseen : Disks) (at : Key) (id : VersionId) (drive : �
   after = disks_of unseen set.out new
 
   abbrev Moves : Type 0
-  Moves = ManifestMoves at id (kept_on before drive (manifest_name id)) (kept_on after drive (manifest_name id))
+  Moves = ManifestMoves target id (kept_on before drive (manifest_name id)) (kept_on after drive (manifest_name id))
 
   -- what is kept under the id was so before, or is the put's
-  pub kept_so : DisksTell set old → WritesUnder set id drive old new → Moves → (m : Manifest) → Keeps set after id m → Keeps set before id m ⊎ IsMade at id m
+  pub kept_so : DisksTell set old → WritesUnder set id drive old new → Moves → (m : Manifest) → Keeps set after id m → Keeps set before id m ⊎ IsMade target id m
   kept_so tell writes moves m kept = elim (eqb_tells kept.drive drive) [
     | inl here ↦
         let is : kept_on after drive (manifest_name id) ≡ Some (file_of m) = subst (λ i. kept_on after i (manifest_name id) ≡ Some (file_of m)) here.1 kept.is in
@@ -80,12 +82,12 @@ module _ (set : SetPlan) (unseen : Disks) (at : Key) (id : VersionId) (drive : �
     })
   ]
     where
-      by : Moves → kept_on after drive (manifest_name id) ≡ Some (file_of m) → Keeps set before id m ⊎ IsMade at id m
+      by : Moves → kept_on after drive (manifest_name id) ≡ Some (file_of m) → Keeps set before id m ⊎ IsMade target id m
       by (Stays same) is = inl (record { drive = drive; within = writes.inside; canonical = kept.canonical; is = sym same ∙ is })
       by (IsNone none) is = (let wrong : None ≡ Some (file_of m) = sym none ∙ is in absurd cc)
       by (IsPut made made_so placed) is =
           let same : made ≡ m = files_injective made m made_so.canonical kept.canonical (some_is (file_of made) (file_of m) (sym placed ∙ is)) in
-          inr (subst (IsMade at id) same made_so)
+          inr (subst (IsMade target id) same made_so)
 
 -- ---- the claims
 
@@ -119,10 +121,10 @@ pub record GoesOnWith (claim later : Claim) : Type 0 where
   pub taken : later.taken ≡ claim.taken
   pub known : later.known ≡ claim.known
 
-module _ (numbers : SlotNumbers) (held : Holding) (records : Records) (state : State) (unseen : Disks) (front rest : List Claim) (claim later : Claim) (at : Key)
-    (f : Flying) (drive : ℕ) (old new : List DriveView) (own : claim.slot ≡ numbers.index) (flies : claim.flight ≡ Some f) (name_is : f.name ≡ key_name at)
+module _ (numbers : SlotNumbers) (held : Holding) (records : Records) (state : State) (unseen : Disks) (front rest : List Claim) (claim later : Claim) (target : PutTarget)
+    (f : Flying) (drive : ℕ) (old new : List DriveView) (own : claim.slot ≡ numbers.index) (flies : claim.flight ≡ Some f) (name_is : f.name ≡ key_name (key_of target))
     (none_known : claim.known ≡ []) (goes : GoesOnWith claim later) (writes : WritesUnder numbers.set f.id drive old new)
-    (moves : ManifestMoves at f.id (kept_on (disks_of unseen numbers.set.out old) drive (manifest_name f.id))
+    (moves : ManifestMoves target f.id (kept_on (disks_of unseen numbers.set.out old) drive (manifest_name f.id))
     (kept_on (disks_of unseen numbers.set.out new) drive (manifest_name f.id)))
     (stands : RecordsStand numbers held records state) (d : DataHolds numbers held unseen old (among front claim rest) records state) where
   abbrev set : SetPlan
@@ -157,10 +159,10 @@ module _ (numbers : SlotNumbers) (held : Holding) (records : Records) (state : S
       ∙ sym (ap hands_of was))
 
   may_keep : (m : Manifest) → Keeps set (disks_of unseen set.out new) f.id m → Keeps set (disks_of unseen set.out old) f.id m ⊎ MayBeKept held hands f m
-  may_keep m kept = elim (kept_so set unseen at f.id drive old new d.tell writes moves m kept) [
+  may_keep m kept = elim (kept_so set unseen target f.id drive old new d.tell writes moves m kept) [
     | inl before ↦ inl before
     | inr made ↦ inr (record {
-      key = record { at = at; name_is = name_is; given_is = inl made.name_is };
+      key = subst₂ IsForKeyOf (sym name_is) (sym made.name_is) (register_for target);
       pieces = λ id has. inl (own_part m f.id id made.single has);
       single = λ part. made.single;
     })
@@ -208,7 +210,7 @@ module _ (numbers : SlotNumbers) (held : Holding) (records : Records) (state : S
 
 -- ---- another slot
 
-module _ (numbers : SlotNumbers) (held : Holding) (records : Records) (state : State) (unseen : Disks) (front rest : List Claim) (claim later : Claim) (at : Key)
+module _ (numbers : SlotNumbers) (held : Holding) (records : Records) (state : State) (unseen : Disks) (front rest : List Claim) (claim later : Claim) (target : PutTarget)
     (f : Flying) (drive : ℕ) (old new : List DriveView) (other : claim.slot ≢ numbers.index) (goes : GoesOnWith claim later) (of_slot : f.id.slot ≡ claim.slot)
     (writes : WritesUnder numbers.set f.id drive old new)
     (parts : (m : Manifest) (id : VersionId) → Keeps numbers.set (disks_of unseen numbers.set.out new) f.id m → HasPart m id → id.slot ≡ claim.slot)

@@ -1,5 +1,6 @@
 -- What a version, a condition and a range come to, by what the span's plan and the reader say.
 use Rattle.std.proofs.Common.{◌≡◌, ◌+◌, ℕ, List, Option, Ok, false, true, inr, refl, subst, sym, arith}
+use Rattle.body_print.specs.Plans.{data_plan}
 use Rattle.call_types.specs.declared.names.RangeAsk.{RangeAsk}
 use Rattle.call_types.specs.declared.names.Span.{Span}
 use Rattle.call_types.specs.declared.names.VersionName.{VersionName}
@@ -40,7 +41,7 @@ module _ (set : SetPlan) (version : Version) (id : Option VersionName) (ask : Ra
 
   -- it has bytes, which a reader is to give
   pub reads_so : (data_id : VersionId) (print : List ℕ) (span : Span) (reader : Reader) → Plans (body_length what) ask (Ok span) → (span.length ≡ 0 → ⊥)
-      → Begins set print data_id span reader → IsWanted what span (wanted_by reader.asked)
+      → Begins (data_plan set data_id) print data_id span reader → IsWanted what span (wanted_by reader.asked)
       → PlansSo set version id ask matches
       (Reads (record { reader = reader; reply = Found version span id; span = span; left = span.length; told = false; calls = 18446744073709551615 }))
   reads_so data_id print span reader plans some begins is_wanted = (

@@ -1,5 +1,5 @@
 -- The call that removes a file of an id which an op took, as a step.
-use Rattle.std.proofs.Common.{◌≡◌, ◌≢◌, ◌⊎◌, ◌∙◌, ◌<◌, ◌^◌, ◌==◌, ℕ, Bool, true, false, IsTrue, bit_and, List, [], Contains, Some, None, append-nil, cond, length, inl, inr, refl, sym, ap, subst, subst₂, arith}
+use Rattle.std.proofs.Common.{◌≡◌, ◌≢◌, ◌⊎◌, ◌∙◌, ◌<◌, ◌^◌, ◌==◌, ℕ, Bool, true, false, bit_and, List, [], Contains, Some, None, append-nil, cond, length, inl, inr, refl, sym, ap, subst, subst₂, arith}
 use Rattle.std.specs.Int.{IsBitSet}
 use Rattle.std.specs.Str.{bytes_eq}
 use Rattle.std.proofs.lemmas.Bool.Decides.{eqb_tells}
@@ -9,7 +9,7 @@ use Rattle.std.proofs.lemmas.Map.{update_other, update_same}
 use Rattle.stamp_id.specs.declared.version.VersionId.{VersionId}
 use Rattle.drive_base.specs.Calls.{MadeCall}
 use Rattle.drive_base.specs.Files.{Files, LooseFile, Named, with_name, with_placed}
-use Rattle.drive_base.specs.View.{DriveView, GoesOn, view_at}
+use Rattle.drive_base.specs.View.{DriveView, view_at}
 use Rattle.drive_base.specs.declared.plan.SetPlan.{SetPlan}
 use Rattle.body_print.specs.Names.{loose_manifest_name, loose_shard_name, manifest_name, shard_name}
 use Rattle.put_stage.specs.Cells.{data_of}
@@ -33,8 +33,9 @@ use Rattle.object_ops.specs.DataNames.{name_by}
 use Rattle.object_ops.specs.Removing.{AreDue, FileOn, IsDue, RemoveCall, ids_of}
 use Rattle.object_ops.specs.declared.removal.DataFile.{DataFile}
 use Rattle.object_ops.specs.declared.removal.DataFile.TheVariants.{Manifest, Shard}
+use Rattle.op_steps.proofs.DataLemmas.{tell_called}
 use Rattle.op_steps.proofs.LiveFileLemmas.{at_own, own_in_hand}
-use Rattle.object_ops.proofs.CallLemmas.{removal_goes_on, removal_leaves, removal_written}
+use Rattle.object_ops.proofs.CallLemmas.{removal_leaves, removal_written}
 use Rattle.object_ops.proofs.ClaimLemmas.{apart_on, at_other, each_on, flight_stays, hands_on, pin_stays}
 use Rattle.object_ops.proofs.ElsewhereLemmas.{removed_elsewhere}
 use Rattle.object_ops.proofs.TrashLemmas.{met_taken}
@@ -136,18 +137,9 @@ module _ (set : SetPlan) (unseen : Disks) (left less : List FileOn) (old new : L
     shards = λ k inside. any_stays k (shard_name file.id) inside;
   }
 
-  goes_on : GoesOn (view_at old file.drive) (view_at new file.drive)
-  goes_on = removal_goes_on (name_by file.kind file.id) one.made (view_at old file.drive) (view_at new file.drive) one.call
-
   -- the drives go on to tell
   pub tell_after : DisksTell set new
-  tell_after = record {
-    count = one.long ∙ tell.count;
-    tell = λ k inside in_use. elim (eqb_tells k file.drive) [
-      | inl here ↦ subst (λ i. IsTrue (view_at new i).tells) (sym here.1) (subst IsTrue (sym goes_on.tells) (tell.tell file.drive due.0 due.1))
-      | inr apart ↦ subst (λ (v : DriveView). IsTrue v.tells) (sym (others k apart.1)) (tell.tell k inside in_use)
-    ];
-  }
+  tell_after = tell_called set file.drive one.made old new tell due.0 due.1 one.call.was_made one.long one.others
 
   -- under the names of another id a drive in use has what it had
   loose_same : (k : ℕ) → (view_at new k).files.loose ≡ (view_at old k).files.loose

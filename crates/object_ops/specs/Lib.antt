@@ -1,7 +1,6 @@
 pub mod Clearing
 pub mod DataNames
-pub mod Deletes
-pub mod Deletions
+pub mod Deeds
 pub mod Get
 pub mod GetBegin
 pub mod GetStands
@@ -9,10 +8,12 @@ pub mod GetSteps
 pub mod Head
 pub mod HeadBegin
 pub mod HeadStands
+pub mod KeyDeeds
 pub mod Put
 pub mod PutBegin
 pub mod PutFeeding
 pub mod PutStands
+pub mod PutTarget
 pub mod PutWork
 pub mod Putting
 pub mod Reading

@@ -3,7 +3,6 @@ use Rattle.std.specs.Prelude.{ℕ, ◌+◌, ◌-◌, ◌*◌, List, Option, None
 use Rattle.call_types.specs.declared.feed.Cut.{Cut}
 use Rattle.call_types.specs.declared.names.Key.{Key}
 use Rattle.desk_base.specs.Answering.{Task}
-use Rattle.desk_base.specs.declared.call.Call.TheVariants as call
 use Rattle.drive_base.specs.declared.plan.SetPlan.{SetPlan}
 use Rattle.put_stage.specs.Left.{calls_left}
 use Rattle.put_stage.specs.declared.stage.StageNext.{StageNext}
@@ -12,21 +11,22 @@ use Rattle.receipts.specs.Registers.{bucket_slot, key_slot}
 use Rattle.op_steps.specs.declared.next.OpNext.{OpNext}
 use Rattle.op_steps.specs.declared.next.OpNext.TheVariants as next
 use Rattle.object_ops.specs.Clearing.{left_of as left_to_clear, next_of}
+use Rattle.object_ops.specs.PutTarget.{call_of}
 use Rattle.object_ops.specs.declared.clearing.Clearing.{Clearing}
 use Rattle.object_ops.specs.declared.put_state.PutState.{PutState}
 use Rattle.object_ops.specs.declared.put_state.PutState.TheVariants.{Beginning, Draining, Dropping, Looking, Staging, Telling, Told}
+use Rattle.object_ops.specs.declared.put_target.PutTarget.{PutTarget}
 
--- what a PutObject was asked, on a store over this set, in this second
+-- what a put was asked, on a store over this set, in this second
 pub record PutAsk : Type 0 where
   pub set : SetPlan
-  pub at : Key
-  pub kind : List ℕ
+  pub target : PutTarget
   pub stated : Option (List ℕ)
   pub long : ℕ
   pub now : ℕ
 
 abbrev pub task_of : PutAsk → Task
-task_of ask = record { call = call.Put ask.at ask.kind ask.stated ask.long; now = ask.now }
+task_of ask = record { call = call_of ask.target ask.stated ask.long; now = ask.now }
 
 -- the length of the body, by how many bytes were taken of it: none before its stage begins, and then those that its stage has
 abbrev pub long_by : ℕ → ℕ → PutState → ℕ

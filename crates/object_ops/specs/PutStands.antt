@@ -1,13 +1,16 @@
 -- What a PutObject stands for: its claim and its log, by how far it is.
 use Rattle.std.specs.Prelude.{◌≡◌, ◌≢◌, ◌⊎◌, ℕ, ◌<◌, List, [], ◌∷◌, All, Contains, length, Some, None, slice_index_or, string_bytes}
+use Rattle.body_print.specs.Plans.{data_plan}
 use Rattle.call_types.specs.declared.names.Key.{Key}
 use Rattle.call_types.specs.declared.names.Mode.{Mode}
 use Rattle.call_types.specs.declared.reply.Reply.{Reply}
 use Rattle.put_stage.specs.Called.{CalledSo}
 use Rattle.put_stage.specs.Cells.{DataCells}
+use Rattle.put_stage.specs.Finishing.{Succeeds}
 use Rattle.put_stage.specs.Taking.{HasTaken}
 use Rattle.put_stage.specs.Working.{AtWork, why_at}
 use Rattle.put_stage.specs.declared.stage.Stage.{Stage}
+use Rattle.put_stage.specs.declared.stage.StageNext.TheVariants.{Finish}
 use Rattle.slot_core.specs.declared.handles.Flight.{Flight}
 use Rattle.slot_history.specs.Names.{key_name}
 use Rattle.stamp_id.specs.declared.version.VersionId.{VersionId}
@@ -27,6 +30,7 @@ use Rattle.op_steps.specs.declared.next.OpNext.{OpNext}
 use Rattle.object_ops.specs.Clearing.{HasNone, files_left, with_taken}
 use Rattle.object_ops.specs.Reading.{HasFound}
 use Rattle.object_ops.specs.Put.{PutAsk, left_at, step_at, task_of}
+use Rattle.object_ops.specs.PutTarget.{key_of, register_of}
 use Rattle.object_ops.specs.Removing.{ids_of}
 use Rattle.object_ops.specs.declared.clearing.Clearing.{Clearing}
 use Rattle.object_ops.specs.declared.put_op.PutOp.{PutOp}
@@ -62,11 +66,11 @@ abbrev pub ClaimsSo : Stage → List (List (List ℕ)) → VersionId → Claim �
 ClaimsSo stage shards id claim = (staging : Staging) × (claim.stage ≡ Some staging)
     × ((staging.id ≢ id) ⊎ ClaimsStage stage shards id staging)
 
--- a stage is of a put: of its set, its flight's id, its key's register, and of what is stated of its body
+-- a stage is of a put: of the plan of its data, its flight's id, its target's register, and of what is stated of its body
 pub record IsStageOf (ask : PutAsk) (flight : Flight) (stage : Stage) : Type 0 where
-  pub set_is : stage.load.set ≡ ask.set
+  pub set_is : stage.load.set ≡ data_plan ask.set flight.id
   pub id_is : stage.load.names.id ≡ flight.id
-  pub name_is : string_bytes stage.load.name ≡ key_name ask.at
+  pub name_is : string_bytes stage.load.name ≡ register_of ask.target
   pub stated_is : stage.load.stated ≡ ask.stated
   pub long_is : stage.load.long ≡ ask.long
 
@@ -81,8 +85,8 @@ pub record HasLookedAt (bucket : List ℕ) (mode : Mode) (log : Log) : Type 0 wh
 
 -- the body so far is staged: its bytes are those of the log, and so are the letters of the drives and the calls that were made of them
 pub record Stages (ask : PutAsk) (work : Work) (claim : Claim) (log : Log) : Type 0 where
-  pub looked : HasLookedAt ask.at.bucket work.mode log
-  pub held : HoldsPut ask.at work.flight claim
+  pub looked : HasLookedAt (key_of ask.target).bucket work.mode log
+  pub held : HoldsPut (key_of ask.target) work.flight claim
   pub stage_of : IsStageOf ask work.flight work.stage
   pub shards : List (List (List ℕ))
   pub taken : HasTaken work.stage.load (body_of log) shards
@@ -99,7 +103,7 @@ pub record Drains (ask : PutAsk) (read : ℕ) (reply : Reply) (log : Log) : Type
   pub untold : All IsUntold log
   pub uncut : cuts_of log ≡ []
   pub read_is : length (body_of log) ≡ read
-  pub decided : IsDecided ask.at reply log
+  pub decided : IsDecided (key_of ask.target) reply log
 
 -- what is held once no stage is at work: the ids whose files are to be removed; or a put of which a section could not be done
 pub record IsLeft (slot : ℕ) (claim : Claim) (log : Log) : Type 0 where
@@ -114,32 +118,35 @@ HoldsRest slot clearing claim log = (claim ≡ with_taken (no_claim slot) (ids_o
 
 -- which claim and log it may have
 abbrev pub PutStandsAt : PutAsk → ℕ → Clearing → PutState → Claim → Log → Type 0
-PutStandsAt ask read clearing state.Looking claim log = HasNone clearing × (claim ≡ no_claim (key_slot ask.at)) × (log ≡ [])
-PutStandsAt ask read clearing (state.Beginning mode) claim log = HasNone clearing × (claim ≡ no_claim (key_slot ask.at)) × HasFound ask.at.bucket mode log
+PutStandsAt ask read clearing state.Looking claim log = HasNone clearing × (claim ≡ no_claim (key_slot (key_of ask.target))) × (log ≡ [])
+PutStandsAt ask read clearing (state.Beginning mode) claim log = HasNone clearing × (claim ≡ no_claim (key_slot (key_of ask.target))) × HasFound (key_of ask.target).bucket mode log
 PutStandsAt ask read clearing (state.Staging work) claim log = HasNone clearing × Stages ask work claim log
-PutStandsAt ask read clearing (state.Dropping flight cut) claim log = HasNone clearing × HoldsPut ask.at flight claim × Pays ask.set (task_of ask) (Some cut) log
-PutStandsAt ask read clearing (state.Draining reply) claim log = HoldsRest (key_slot ask.at) clearing claim log × Drains ask read reply log
-PutStandsAt ask read clearing (state.Telling reply) claim log = HoldsRest (key_slot ask.at) clearing claim log × IsReady ask.set (task_of ask) reply log
-PutStandsAt ask read clearing (state.Told cut) claim log = HoldsRest (key_slot ask.at) clearing claim log × Pays ask.set (task_of ask) cut log
+PutStandsAt ask read clearing (state.Dropping flight cut) claim log = HasNone clearing × HoldsPut (key_of ask.target) flight claim × Pays ask.set (task_of ask) (Some cut) log
+PutStandsAt ask read clearing (state.Draining reply) claim log = HoldsRest (key_slot (key_of ask.target)) clearing claim log × Drains ask read reply log
+PutStandsAt ask read clearing (state.Telling reply) claim log = HoldsRest (key_slot (key_of ask.target)) clearing claim log × IsReady ask.set (task_of ask) reply log
+PutStandsAt ask read clearing (state.Told cut) claim log = HoldsRest (key_slot (key_of ask.target)) clearing claim log × Pays ask.set (task_of ask) cut log
 
 -- what an op was asked
 abbrev pub ask_of : PutOp → PutAsk
-ask_of op = record { set = op.set; at = op.at; kind = op.kind; stated = op.md5; long = op.long; now = op.now }
+ask_of op = record { set = op.set; target = op.target; stated = op.md5; long = op.long; now = op.now }
 
 abbrev pub PutStands : PutOp → Claim → Log → Type 0
 PutStands op claim log = PutStandsAt (ask_of op) op.read op.clearing op.state claim log
 
 abbrev pub step_of : PutOp → OpNext
-step_of op = step_at op.at op.clearing op.state
+step_of op = step_at (key_of op.target) op.clearing op.state
 
 abbrev pub left_of : PutOp → ℕ
 left_of op = left_at op.set op.long op.read op.clearing op.state
 
+-- the section that commits comes next: the stage of the body is over, and all is staged
+abbrev pub IsAtCommit : PutOp → Type 0
+IsAtCommit op = (work : Work) × (op.state ≡ state.Staging work) × (work.next ≡ Finish) × Succeeds work.stage
+
 -- a step leaves what it was asked, and where
 pub record IsSamePut (old new : PutOp) : Type 0 where
   pub set : new.set ≡ old.set
-  pub at : new.at ≡ old.at
-  pub kind : new.kind ≡ old.kind
+  pub target : new.target ≡ old.target
   pub stated : new.md5 ≡ old.md5
   pub long : new.long ≡ old.long
   pub now : new.now ≡ old.now

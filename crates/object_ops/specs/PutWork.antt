@@ -1,5 +1,6 @@
 -- A put under way: how its stage begins, and does the calls of drives.
 use Rattle.std.specs.Prelude.{◌≡◌, ℕ, ◌<◌, ◌≤◌, List, length, slice_index_or, Option, Result, Ok, Err}
+use Rattle.body_print.specs.Plans.{data_plan}
 use Rattle.call_types.specs.declared.feed.Cut.TheVariants.{NoMemory}
 use Rattle.call_types.specs.declared.names.Mode.{Mode}
 use Rattle.drive_base.specs.declared.drive.Drive.{Ghosts}
@@ -25,7 +26,7 @@ pub record IsWorkOf (mode : Mode) (flight : Flight) (stage : Stage) (work : Work
 pub record BeginsStage (set : SetPlan) (register : List ℕ) (long : ℕ) (stated : Option (List ℕ)) (mode : Mode) (flight : Flight) (work : Work) : Type 0 where
   pub mode_is : work.mode ≡ mode
   pub flight_is : work.flight ≡ flight
-  pub stage : BeginsBody set flight.id register long stated work.stage
+  pub stage : BeginsBody (data_plan set flight.id) flight.id register long stated work.stage
 
 abbrev pub BeginsWork : SetPlan → List ℕ → ℕ → Option (List ℕ) → Mode → Flight → PutState → Type 0
 BeginsWork set register long stated mode flight Looking = ⊥

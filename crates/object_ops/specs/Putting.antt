@@ -1,8 +1,6 @@
 -- What a PutObject does after each of its sections.
-use Rattle.std.specs.Prelude.{◌≡◌, ◌⊎◌, ℕ, ◌<◌, ◌≤◌, List, Option, Some, None, MatchOption, Result, Ok, Err}
-use Rattle.call_types.specs.declared.act.Act.TheVariants as act
+use Rattle.std.specs.Prelude.{◌≡◌, ◌⊎◌, ℕ, ◌<◌, ◌≤◌, Option, Some, None, MatchOption, Result, Ok, Err}
 use Rattle.call_types.specs.declared.feed.Cut.TheVariants.{NoMemory}
-use Rattle.call_types.specs.declared.names.Key.{Key}
 use Rattle.call_types.specs.declared.names.Mode.{Mode}
 use Rattle.call_types.specs.declared.refusal.Refusal.{Refusal}
 use Rattle.call_types.specs.declared.refusal.Refusal.TheVariants as refusal
@@ -14,8 +12,6 @@ use Rattle.put_stage.specs.declared.stage.Stage.{Stage}
 use Rattle.put_stage.specs.declared.staged.Staged.{Staged}
 use Rattle.put_stage.specs.declared.staged.StageFault.{StageFault}
 use Rattle.put_stage.specs.declared.staged.StageFault.TheVariants as fault
-use Rattle.slot_rules.specs.declared.commit.Commit.TheVariants.{Key as KeyCommit}
-use Rattle.slot_rules.specs.declared.commit.Commit.{Commit}
 use Rattle.slot_rules.specs.declared.commit.Committed.{Committed}
 use Rattle.slot_core.specs.declared.fault.SlotFault.{SlotFault}
 use Rattle.slot_core.specs.declared.fault.SlotFault.TheVariants as slot
@@ -25,11 +21,13 @@ use Rattle.receipts.specs.declared.barred.Barred.TheVariants as barred
 use Rattle.op_steps.specs.Notes.{refusal_by}
 use Rattle.op_steps.specs.declared.looking.Looked.{Looked}
 use Rattle.op_steps.specs.declared.looking.Looked.TheVariants as looked
+use Rattle.object_ops.specs.PutTarget.{deed_of}
 use Rattle.object_ops.specs.declared.put_state.PutState.{PutState}
 use Rattle.object_ops.specs.declared.put_state.PutState.TheVariants.{Beginning, Draining, Dropping, Staging, Telling, Told}
 use Rattle.object_ops.specs.declared.put_work.Work.{Work}
 use Rattle.object_ops.specs.declared.putting.PutEnd.{PutEnd}
 use Rattle.object_ops.specs.declared.putting.PutEnd.TheVariants as end
+use Rattle.object_ops.specs.declared.put_target.PutTarget.{PutTarget}
 
 -- how far it is once it has a reply: where bytes of the body are left these are taken first
 abbrev pub OwesNext : Reply → ℕ → ℕ → PutState → Type 0
@@ -62,10 +60,6 @@ BarredAfter (Staging work) why read long state = BarredEnd work why read long st
 BarredAfter (Dropping flight cut) why read long state = state ≡ Told (Some cut)
 BarredAfter other why read long state = BarredAt why read long state
 
--- the deed that puts a body which is staged under this id
-abbrev pub put_deed : Key → List ℕ → Mode → VersionId → Staged → Commit
-put_deed at kind mode id staged = KeyCommit at mode (act.Put id staged.print staged.length staged.etag kind)
-
 -- the refusal of the call that a stage's is
 abbrev pub refusal_of_stage : StageFault → Option Refusal
 refusal_of_stage (fault.WriteQuorum whys) = Some (refusal.WriteQuorum whys)
@@ -81,10 +75,10 @@ pub record Answers (stage : Stage) (result : Result Staged StageFault) : Type 0 
   pub body : StagesBody stage result
 
 -- how a put ends whose stage is over: the body is committed, or the put is given up for the stage's refusal. Want of memory says nothing
-abbrev pub Ends : Key → List ℕ → Mode → VersionId → Stage → PutEnd → Type 0
-Ends at kind mode id stage (end.Commits deed) = (staged : Staged) × (deed ≡ put_deed at kind mode id staged) × Answers stage (Ok staged)
-Ends at kind mode id stage (end.GivesUp why) = (fault : StageFault) × (refusal_of_stage fault ≡ Some why) × Answers stage (Err fault)
-Ends at kind mode id stage end.LacksMemory = Unit {0}
+abbrev pub Ends : PutTarget → Mode → VersionId → Stage → PutEnd → Type 0
+Ends target mode id stage (end.Commits deed) = (staged : Staged) × (deed ≡ deed_of target mode id staged) × Answers stage (Ok staged)
+Ends target mode id stage (end.GivesUp why) = (fault : StageFault) × (refusal_of_stage fault ≡ Some why) × Answers stage (Err fault)
+Ends target mode id stage end.LacksMemory = Unit {0}
 
 -- after its commit: the reply is told, or the refusal, or nothing, for want of memory
 abbrev pub AfterCommit : Result Committed SlotFault → PutState → Type 0

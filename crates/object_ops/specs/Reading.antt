@@ -1,8 +1,6 @@
 -- What a call that reads a key holds between two steps, and what the log of any call on an object has before its reply.
-use Rattle.std.specs.Prelude.{◌≡◌, ◌⊎◌, ℕ, List, [], ◌∷◌, All, Option, Some, None, Result, Ok, Err}
-use Rattle.call_types.specs.declared.names.Key.{Key}
+use Rattle.std.specs.Prelude.{◌≡◌, ℕ, List, [], ◌∷◌, All, Option, Some, None, Result, Ok, Err}
 use Rattle.call_types.specs.declared.names.Mode.{Mode}
-use Rattle.call_types.specs.declared.names.Pick.{Pick}
 use Rattle.desk_base.specs.declared.call.Call.{Call}
 use Rattle.desk_base.specs.declared.call.Call.TheVariants.{Get, Head}
 use Rattle.slot_data.specs.Holding.{Pinned}

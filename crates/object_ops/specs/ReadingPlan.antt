@@ -1,5 +1,6 @@
 -- What a version, a condition and a range come to.
 use Rattle.std.specs.Prelude.{◌≡◌, ◌⊎◌, ◌<◌, ◌^◌, ℕ, List, true, false, [], Option, Some, None, Ok, Err}
+use Rattle.body_print.specs.Plans.{data_plan}
 use Rattle.call_types.specs.declared.names.RangeAsk.{RangeAsk}
 use Rattle.call_types.specs.declared.names.Span.{Span}
 use Rattle.call_types.specs.declared.names.VersionName.{VersionName}
@@ -43,12 +44,12 @@ pub record IsEmpty (version : Version) (id : Option VersionName) (ask : RangeAsk
   pub is_wanted : IsWanted version.what span wanted
   pub told : reply ≡ Found version span id
 
--- a reading is of a span that the range gives of a version
+-- a reading is of a span that the range gives of a version, by the plan of its data
 pub record IsOfSpan (set : SetPlan) (ask : RangeAsk) (version : Version) (id : Option VersionName) (reading : Reading) : Type 0 where
   pub plans : Plans (body_length version.what) ask (Ok reading.span)
   pub reply_is : reading.reply ≡ Found version reading.span id
   pub wanted : IsWanted version.what reading.span (wanted_by reading.reader.asked)
-  pub set_is : reading.reader.asked.wanted.set ≡ set
+  pub set_is : reading.reader.asked.wanted.set ≡ data_plan set reading.reader.asked.id
   pub span_is : reading.reader.asked.span ≡ reading.span
 
 -- nothing of it was read or told

@@ -1,6 +1,9 @@
 //! GetObject.
 
 ghost use Rattle.std.specs.Prelude.{◌≡◌};
+ghost use Rattle.desk_base.specs.Answering.{Task};
+ghost use Rattle.desk_base.specs.Calls.{stated_length};
+ghost use Rattle.receipts.specs.Paying.{Pays};
 ghost use Rattle.object_ops.specs.Get.{barred_after, barred_state, cut_of, left_of, step_of};
 ghost use Rattle.object_ops.specs.GetStands.{StandsFor, get_task};
 
@@ -41,7 +44,13 @@ fn barred_after(state: &GetState, why: Barred) -> GetState
 impl Op for GetOp {
     ghost set = { λ op. op.set };
 
-    ghost task = { λ op. get_task op };
+    ghost Asked = { Task };
+
+    ghost asked = { λ op. get_task op };
+
+    ghost owed = { λ set task cut log. Pays set task cut log };
+
+    ghost stated = { λ task. stated_length task.call };
 
     ghost step = { λ op. step_of op.state op.at };
 

@@ -1,6 +1,9 @@
 //! HeadObject.
 
 ghost use Rattle.std.specs.Prelude.{◌≡◌, ◌+◌, ◌<◌, ◌^◌, List, length};
+ghost use Rattle.desk_base.specs.Answering.{Task};
+ghost use Rattle.desk_base.specs.Calls.{stated_length};
+ghost use Rattle.receipts.specs.Paying.{Pays};
 ghost use Rattle.drive_base.specs.View.{DriveView, views};
 ghost use Rattle.call_types.specs.declared.reply.Reply.TheVariants.{Found};
 ghost use Rattle.receipts.specs.Reading.{TellsHead};
@@ -175,7 +178,13 @@ impl HeadOp {
 impl Op for HeadOp {
     ghost set = { λ op. op.set };
 
-    ghost task = { λ op. head_task op };
+    ghost Asked = { Task };
+
+    ghost asked = { λ op. head_task op };
+
+    ghost owed = { λ set task cut log. Pays set task cut log };
+
+    ghost stated = { λ task. stated_length task.call };
 
     ghost step = { λ op. step_of op.state op.at };
 

@@ -22,7 +22,7 @@ impl HeadOp {
     pub fn new(alloc: Global, set: SetPlan, call: &Call, now: u64) -> Result<HeadOp, NoMemory>
         requires { IsHead call.now }
         ensures set { IfOk result (λ op. ⟦<HeadOp as Op>⟧.set op ≡ set) }
-        ensures task { IfOk result (λ op. ⟦<HeadOp as Op>⟧.task op ≡ record { call = call.now; now = now }) }
+        ensures task { IfOk result (λ op. ⟦<HeadOp as Op>⟧.asked op ≡ record { call = call.now; now = now }) }
         ensures taken { IfOk result (λ op. ⟦<HeadOp as Op>⟧.taken op ≡ 0) }
         ensures begins { IfOk result (λ op. (slot : ℕ) × (slot < 64) × ⟦<HeadOp as Op>⟧.stands op (no_claim slot) []) }
     {

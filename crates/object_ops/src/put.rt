@@ -1,6 +1,6 @@
 //! The sections of a PutObject.
 
-ghost use Rattle.std.specs.Prelude.{◌≡◌, ◌+◌, ◌<◌, ◌^◌, List, None, Option, length, true};
+ghost use Rattle.std.specs.Prelude.{◌≡◌, ◌+◌, ◌<◌, ◌^◌, List, None, Option, IsTrue, length, false, true};
 ghost use Rattle.call_types.specs.declared.feed.Cut.{Cut as CutSpec};
 ghost use Rattle.drive_base.specs.View.{DriveView, views};
 ghost use Rattle.put_stage.specs.declared.stage.StageNext.TheVariants.{Finish};
@@ -10,7 +10,8 @@ ghost use Rattle.slot_core.specs.Views.{numbers_of};
 ghost use Rattle.slot_core.specs.declared.handles.Flight.{Flight as FlightSpec};
 ghost use Rattle.op_steps.specs.Store.{slot_seen};
 ghost use Rattle.op_steps.specs.Words.{TurnsSo};
-ghost use Rattle.object_ops.specs.PutStands.{IsSamePut, PutStands, left_of};
+ghost use Rattle.object_ops.specs.PutStands.{IsAtCommit, IsSamePut, PutStands, left_of};
+ghost use Rattle.object_ops.specs.PutTarget.{key_of};
 ghost use Rattle.object_ops.specs.declared.put_state.PutState.TheVariants as state;
 ghost use Rattle.object_ops.specs.declared.put_work.Work.{Work as WorkSpec};
 
@@ -22,12 +23,32 @@ use audit_trail::Audit;
 use call_types::{Cut, Mode, Reply};
 use drive_base::Drive;
 use op_steps::look_at_bucket;
+use put_stage::StageNext;
 use slot_core::{Slot, Stub, Turn};
 use slot_history::key_slot;
 use std::alloc::Global;
 use std::mem;
 
 impl PutOp {
+    /// Whether the section that commits comes next: the stage of the body is over, and all is staged. It takes no memory.
+    pub fn at_commit(&self) -> bool
+        ensures yes { IsTrue result → IsAtCommit self.entry.now }
+        ensures no { result ≡ false → IsAtCommit self.entry.now → ⊥ }
+    {
+        match &self.state {
+            PutState::Staging(work) => match work.next {
+                StageNext::Finish => work.stage.succeeds(),
+                StageNext::Fill | StageNext::Step => false,
+            },
+            PutState::Looking
+            | PutState::Beginning(_)
+            | PutState::Dropping(_, _)
+            | PutState::Draining(_)
+            | PutState::Telling(_)
+            | PutState::Told(_) => false,
+        }
+    }
+
     /// How far it is. What is left behind is that nothing is to be told.
     pub(crate) fn moved_out(&mut self) -> PutState
         ensures out { result ≡ self.old.state }
@@ -47,7 +68,7 @@ impl PutOp {
         disks: &mut [D],
     ) -> Option<Stub>
         requires state { self.old.state ≡ state.Looking }
-        requires next { (numbers_of slot.old).index ≡ bucket_slot self.old.at.bucket }
+        requires next { (numbers_of slot.old).index ≡ bucket_slot (key_of self.old.target).bucket }
         requires turns { (numbers_of slot.old).turns + 1 < 2 ^ 64 }
         requires slot_set { (numbers_of slot.old).set ≡ self.old.set }
         requires disks { length disks.old ≡ self.old.set.drives }
@@ -72,7 +93,7 @@ impl PutOp {
         mode: Mode,
     ) -> Option<Stub>
         requires state { self.old.state ≡ state.Beginning mode }
-        requires next { (numbers_of slot.old).index ≡ key_slot self.old.at }
+        requires next { (numbers_of slot.old).index ≡ key_slot (key_of self.old.target) }
         requires turns { (numbers_of slot.old).turns + 1 < 2 ^ 64 }
         requires slot_set { (numbers_of slot.old).set ≡ self.old.set }
         ensures same { IsSamePut self.old self.new }
@@ -82,7 +103,7 @@ impl PutOp {
         ensures turns { (disks : List DriveView) → length disks ≡ self.old.set.drives → TurnsSo D.Drive (PutStands self.old) (PutStands self.new) result
             (slot_seen A.entries A.count slot.old) (slot_seen A.entries A.count slot.new) disks disks }
     {
-        let Turn { answer, stub } = slot.begin_put(alloc, &self.at);
+        let Turn { answer, stub } = slot.begin_put(alloc, self.target.key());
         let state = begun(
             alloc,
             self.set,
@@ -104,7 +125,7 @@ impl PutOp {
         disks: &mut [D],
     ) -> Option<Stub>
         requires state { (work : WorkSpec) × (self.old.state ≡ state.Staging work) × (work.next ≡ Finish) }
-        requires next { (numbers_of slot.old).index ≡ key_slot self.old.at }
+        requires next { (numbers_of slot.old).index ≡ key_slot (key_of self.old.target) }
         requires turns { (numbers_of slot.old).turns + 1 < 2 ^ 64 }
         requires slot_set { (numbers_of slot.old).set ≡ self.old.set }
         requires disks { length disks.old ≡ self.old.set.drives }
@@ -122,7 +143,7 @@ impl PutOp {
         self.clearing.begin();
         let mode = work.mode;
         let flight = work.flight;
-        match end_of(alloc, &self.at, &self.kind, mode, flight.id(), work.stage) {
+        match end_of(alloc, &self.target, mode, flight.id(), work.stage) {
             PutEnd::Commits(deed) => {
                 let turn = slot.commit(alloc, disks, &deed, Some(flight), self.now);
                 drop(deed);
@@ -143,7 +164,7 @@ impl PutOp {
     /// Gives the put up, and the call is cut.
     pub(crate) fn give_up<D: Drive, A: Audit>(&mut self, slot: &mut Slot<D, A>) -> Option<Stub>
         requires state { (flight : FlightSpec) × (cut : CutSpec) × (self.old.state ≡ state.Dropping flight cut) }
-        requires next { (numbers_of slot.old).index ≡ key_slot self.old.at }
+        requires next { (numbers_of slot.old).index ≡ key_slot (key_of self.old.target) }
         requires turns { (numbers_of slot.old).turns + 1 < 2 ^ 64 }
         requires slot_set { (numbers_of slot.old).set ≡ self.old.set }
         ensures same { IsSamePut self.old self.new }
@@ -165,7 +186,7 @@ impl PutOp {
     pub(crate) fn clear<D: Drive, A: Audit>(&mut self, alloc: Global, slot: &mut Slot<D, A>)
         requires state { (cut : Option CutSpec) × (self.old.state ≡ state.Told cut) }
         requires takes { self.old.clearing.takes ≡ true }
-        requires next { (numbers_of slot.old).index ≡ key_slot self.old.at }
+        requires next { (numbers_of slot.old).index ≡ key_slot (key_of self.old.target) }
         requires turns { (numbers_of slot.old).turns + 1 < 2 ^ 64 }
         ensures same { IsSamePut self.old self.new }
         ensures left { left_of self.new < left_of self.old }
@@ -175,6 +196,6 @@ impl PutOp {
             (slot_seen A.entries A.count slot.old) (slot_seen A.entries A.count slot.new) disks disks }
     {
         self.clearing
-            .take(alloc, &self.set, key_slot(&self.at), slot);
+            .take(alloc, &self.set, key_slot(self.target.key()), slot);
     }
 }

@@ -1,6 +1,9 @@
 //! PutObject.
 
 ghost use Rattle.std.specs.Prelude.{◌≡◌, ◌<◌};
+ghost use Rattle.desk_base.specs.Answering.{Task};
+ghost use Rattle.desk_base.specs.Calls.{stated_length};
+ghost use Rattle.receipts.specs.Paying.{Pays};
 ghost use Rattle.slot_history.specs.Names.{bucket_slot, key_slot};
 ghost use Rattle.object_ops.specs.Put.{cut_of, task_of, work_step};
 ghost use Rattle.object_ops.specs.PutStands.{PutStands, ask_of, left_of, step_of};
@@ -35,7 +38,13 @@ fn work_next(next: StageNext, slot: u8) -> OpNext
 impl Op for PutOp {
     ghost set = { λ op. op.set };
 
-    ghost task = { λ op. task_of (ask_of op) };
+    ghost Asked = { Task };
+
+    ghost asked = { λ op. task_of (ask_of op) };
+
+    ghost owed = { λ set task cut log. Pays set task cut log };
+
+    ghost stated = { λ task. stated_length task.call };
 
     ghost step = { λ op. step_of op };
 
@@ -49,14 +58,14 @@ impl Op for PutOp {
 
     fn next(&self) -> OpNext {
         match &self.state {
-            PutState::Looking => OpNext::Section(bucket_slot(&self.at.bucket)),
+            PutState::Looking => OpNext::Section(bucket_slot(&self.target.key().bucket)),
             PutState::Beginning(_) | PutState::Dropping(_, _) => {
-                OpNext::Section(key_slot(&self.at))
+                OpNext::Section(key_slot(self.target.key()))
             }
-            PutState::Staging(work) => work_next(work.next, key_slot(&self.at)),
+            PutState::Staging(work) => work_next(work.next, key_slot(self.target.key())),
             PutState::Draining(_) => OpNext::Feed,
             PutState::Telling(_) => OpNext::Tell,
-            PutState::Told(_) => self.clearing.next(key_slot(&self.at)),
+            PutState::Told(_) => self.clearing.next(key_slot(self.target.key())),
         }
     }
 

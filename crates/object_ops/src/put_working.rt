@@ -10,6 +10,7 @@ ghost use Rattle.object_ops.specs.declared.put_state.PutState.TheVariants as sta
 ghost use Rattle.object_ops.specs.declared.put_work.Work.{Work as WorkSpec};
 ghost use Rattle.desk_base.specs.Calls.{most_body};
 
+use crate::data_plan::data_plan;
 use crate::put_op::PutOp;
 use crate::put_state::{PutState, go_to};
 use crate::put_work::Work;
@@ -63,7 +64,8 @@ fn staged(
     requires short { length register.now < 2 ^ 16 }
     ensures { BeginsWork set register.now long md5 mode flight result }
 {
-    match Stage::new(alloc, set, flight.id(), register, long, md5) {
+    let id = flight.id();
+    match Stage::new(alloc, data_plan(set, id), id, register, long, md5) {
         Ok(stage) => PutState::Staging(Work::new(mode, flight, stage)),
         Err(_) => PutState::Dropping(flight, Cut::NoMemory),
     }

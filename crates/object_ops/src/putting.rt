@@ -1,17 +1,16 @@
 //! What a PutObject does after each of its sections.
 
-ghost use Rattle.std.specs.Prelude.{◌≡◌, IfOk};
+ghost use Rattle.std.specs.Prelude.{◌≡◌};
 ghost use Rattle.put_stage.specs.Stepping.{MayFinish};
-ghost use Rattle.object_ops.specs.Putting.{AfterCommit, AfterLook, BarredAfter, BarredAt, BarredEnd, Ends, OwesNext, RefusedBegin, put_deed, refusal_of_stage};
+ghost use Rattle.object_ops.specs.Putting.{AfterCommit, AfterLook, BarredAfter, BarredAt, BarredEnd, Ends, OwesNext, RefusedBegin, refusal_of_stage};
 
 use crate::put_state::PutState;
+use crate::put_target::PutTarget;
 use crate::put_work::Work;
-use call_types::{Act, Cut, Key, Mode, Refusal, Reply};
-use fault_base::NoMemory;
+use call_types::{Cut, Mode, Refusal, Reply};
 use op_steps::{Looked, call_refusal};
-use put_stage::{Stage, StageFault, Staged};
+use put_stage::{Stage, StageFault};
 use receipts::Barred;
-use seal_file::Text;
 use slot_core::{Commit, Committed, SlotFault};
 use stamp_id::VersionId;
 use std::alloc::Global;
@@ -95,32 +94,6 @@ pub(crate) enum PutEnd {
     LacksMemory,
 }
 
-/// The deed that puts a body which is staged.
-fn deed_of(
-    alloc: Global,
-    at: &Key,
-    kind: &Text,
-    mode: Mode,
-    id: VersionId,
-    staged: &Staged,
-) -> Result<Commit, NoMemory>
-    ensures { IfOk result (λ deed. deed ≡ put_deed at.now kind.now mode id staged.now) }
-{
-    let key = at.clone()?;
-    let own_kind = kind.clone()?;
-    Ok(Commit::Key {
-        at: key,
-        mode,
-        act: Act::Put {
-            data_id: id,
-            print: staged.print,
-            length: staged.length,
-            md5: staged.etag,
-            kind: own_kind,
-        },
-    })
-}
-
 /// The refusal of the call that a stage's is, if it is one.
 fn stage_refusal(fault: &StageFault) -> Option<Refusal>
     ensures { result ≡ refusal_of_stage fault.now }
@@ -138,17 +111,16 @@ fn stage_refusal(fault: &StageFault) -> Option<Refusal>
 /// How a put of this flight's id ends, whose stage is over.
 pub(crate) fn end_of(
     alloc: Global,
-    at: &Key,
-    kind: &Text,
+    target: &PutTarget,
     mode: Mode,
     id: VersionId,
     stage: Stage,
 ) -> PutEnd
     requires { MayFinish stage }
-    ensures { Ends at.now kind.now mode id stage result }
+    ensures { Ends target.now mode id stage result }
 {
     match stage.finish() {
-        Ok(staged) => match deed_of(alloc, at, kind, mode, id, &staged) {
+        Ok(staged) => match target.deed(alloc, mode, id, &staged) {
             Ok(deed) => PutEnd::Commits(deed),
             Err(_) => PutEnd::LacksMemory,
         },

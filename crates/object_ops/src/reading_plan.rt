@@ -3,6 +3,7 @@
 ghost use Rattle.object_ops.specs.ReadingPlan.{PlansSo};
 
 use crate::condition::meets;
+use crate::data_plan::data_plan;
 use crate::reading::Reading;
 use call_types::{RangeAsk, Refusal, Reply, Version, VersionName, What};
 use drive_base::SetPlan;
@@ -55,7 +56,8 @@ pub(crate) fn planned_of(
     if span.length == 0 {
         return Planned::Tells(Reply::Found { version, span, id });
     }
-    match Reader::new(alloc, set, print, data_id, span) {
+    let body_plan = data_plan(*set, data_id);
+    match Reader::new(alloc, &body_plan, print, data_id, span) {
         Ok(reader) => Planned::Reads(Reading {
             reader,
             reply: Reply::Found { version, span, id },

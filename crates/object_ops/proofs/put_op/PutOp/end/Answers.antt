@@ -10,9 +10,10 @@ use Rattle.object_ops.specs.PutStands.{PutStands, PutStandsAt, ask_of}
 use Rattle.receipts.specs.Registers.{key_slot}
 use Rattle.object_ops.specs.Putting.{Ends}
 use Rattle.object_ops.specs.Removing.{AreDue, files_of}
+use Rattle.object_ops.specs.PutTarget.{key_of}
 use Rattle.object_ops.specs.declared.removal.Removal.{Removal}
 use Rattle.object_ops.specs.declared.put_state.PutState.TheVariants.{Telling, Told}
-use Rattle.object_ops.proofs.PutAnswers.{drop_says, end_commits, end_gives_up, end_lacks, finishing, named_end}
+use Rattle.object_ops.proofs.PutAnswers.{drop_says, end_commits, end_gives_up, end_lacks, finishing, lawful_end, named_end, short_end}
 use Rattle.object_ops.proofs.PutLefts.{all_read, committed_left, over_left, staging_over}
 use Rattle.object_ops.proofs.PutOpLemmas.{lefts_on, no_stub}
 use Rattle.object_ops.proofs.PutSound.{commit_sound}
@@ -24,9 +25,21 @@ end_of-requires g c = finishing c.args.self.now.state c.in-Staging.work c.requir
 pub commit-turn-requires-clause-named : goal.commit-turn-requires-clause-named
 commit-turn-requires-clause-named g c =
     let out = c.moved_out.new.self in
-    named_end out.at out.kind c.in-Staging.work c.id.result c.in-Commits.deed
-    (subst (Ends out.at out.kind c.in-Staging.work.mode c.id.result c.in-Staging.work.stage) c.in-Commits.is c.end_of.ensures)
-    (IsUtf8-had out.at.bucket out.bucket_text) (IsUtf8-had out.at.key out.key_text)
+    named_end out.target c.in-Staging.work c.id.result c.in-Commits.deed
+    (subst (Ends out.target c.in-Staging.work.mode c.id.result c.in-Staging.work.stage) c.in-Commits.is c.end_of.ensures)
+    (IsUtf8-had (key_of out.target).bucket out.bucket_text) (IsUtf8-had (key_of out.target).key out.key_text)
+
+pub commit-turn-requires-clause-lawful : goal.commit-turn-requires-clause-lawful
+commit-turn-requires-clause-lawful g c =
+    let out = c.moved_out.new.self in
+    lawful_end out.target c.in-Staging.work c.id.result c.in-Commits.deed
+    (subst (Ends out.target c.in-Staging.work.mode c.id.result c.in-Staging.work.stage) c.in-Commits.is c.end_of.ensures) out.kind_short
+
+pub commit-turn-requires-clause-short : goal.commit-turn-requires-clause-short
+commit-turn-requires-clause-short g c =
+    let out = c.moved_out.new.self in
+    short_end out.target c.in-Staging.work c.id.result c.in-Commits.deed
+    (subst (Ends out.target c.in-Staging.work.mode c.id.result c.in-Staging.work.stage) c.in-Commits.is c.end_of.ensures) out.register_short
 
 pub returns-in-Commits-clause-turns : goal.returns-in-Commits-clause-turns
 returns-in-Commits-clause-turns g c =
@@ -40,7 +53,7 @@ returns-in-Commits-clause-turns g c =
     (c.begin.ensures.queue ∙ ap (λ k. k.queue.items) c.moved_out.ensures.clearing) c.moved_out.ensures.same c.moved_out.ensures.read g.D.Drive c.id.result
     c.in-Commits.deed turn.result.answer turn.result.stub c.put_committed.result (slot_seen g.A.Audit.entries g.A.Audit.count c.args.slot.now)
     (slot_seen g.A.Audit.entries g.A.Audit.count turn.new.self) c.args.disks.now turn.new.disks c.id.ensures c.requires.slot_set c.requires.next
-    (subst (Ends out.at out.kind work.mode c.id.result work.stage) c.in-Commits.is c.end_of.ensures)
+    (subst (Ends out.target work.mode c.id.result work.stage) c.in-Commits.is c.end_of.ensures)
     (record {
       turns = commit.turns;
       says = commit.says;
@@ -80,7 +93,7 @@ returns-in-GivesUp-clause-turns g c =
     (views D c.args.disks.now) (views D c.args.disks.now)) (sym none)
     (end_gives_up op out c.begin.new.self work is may (c.begin.ensures.queue ∙ ap (λ k. k.queue.items) c.moved_out.ensures.clearing) c.moved_out.ensures.same c.moved_out.ensures.read D c.id.result c.in-GivesUp.why c.drop_put.result.answer was after (views D c.args.disks.now)
     (all_read op.long op.read op.state work is op.counted may.whole) c.requires.next
-    (subst (Ends out.at out.kind work.mode c.id.result work.stage) c.in-GivesUp.is c.end_of.ensures) (drop_says D was after work.flight.id c.drop_put.result.answer c.drop_put.result.stub none (record { turns = drop.turns; holds = drop.holds; leaves = drop.leaves }))))
+    (subst (Ends out.target work.mode c.id.result work.stage) c.in-GivesUp.is c.end_of.ensures) (drop_says D was after work.flight.id c.drop_put.result.answer c.drop_put.result.stub none (record { turns = drop.turns; holds = drop.holds; leaves = drop.leaves }))))
 
 pub returns-in-LacksMemory-clause-turns : goal.returns-in-LacksMemory-clause-turns
 returns-in-LacksMemory-clause-turns g c =
@@ -116,14 +129,14 @@ invariant_of-self-clause-over g c =
 pub invariant_of-self-clause-due : goal.invariant_of-self-clause-due
 invariant_of-self-clause-due g c =
     let out = c.moved_out.new.self in
-    subst (λ (q : List Removal). AreDue out.set (key_slot out.at) (files_of q)) (sym c.begin.ensures.queue) out.due
+    subst (λ (q : List Removal). AreDue out.set (key_slot (key_of out.target)) (files_of q)) (sym c.begin.ensures.queue) out.due
 
 pub invariant_of-self-in-GivesUp-clause-due : goal.invariant_of-self-in-GivesUp-clause-due
 invariant_of-self-in-GivesUp-clause-due g c =
     let out = c.moved_out.new.self in
-    subst (λ (q : List Removal). AreDue out.set (key_slot out.at) (files_of q)) (sym c.begin.ensures.queue) out.due
+    subst (λ (q : List Removal). AreDue out.set (key_slot (key_of out.target)) (files_of q)) (sym c.begin.ensures.queue) out.due
 
 pub invariant_of-self-in-LacksMemory-clause-due : goal.invariant_of-self-in-LacksMemory-clause-due
 invariant_of-self-in-LacksMemory-clause-due g c =
     let out = c.moved_out.new.self in
-    subst (λ (q : List Removal). AreDue out.set (key_slot out.at) (files_of q)) (sym c.begin.ensures.queue) out.due
+    subst (λ (q : List Removal). AreDue out.set (key_slot (key_of out.target)) (files_of q)) (sym c.begin.ensures.queue) out.due

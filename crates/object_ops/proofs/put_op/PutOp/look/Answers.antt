@@ -2,6 +2,7 @@ use Rattle.std.proofs.Common.{◌∙◌}
 use Rattle.drive_base.specs.View.{views}
 use Rattle.op_steps.specs.Store.{slot_seen}
 use Rattle.object_ops.specs.PutStands.{ask_of}
+use Rattle.object_ops.specs.PutTarget.{key_of}
 use Rattle.object_ops.proofs.PutOpLemmas.{look_so}
 use Rattle.object_ops.proofs.PutLefts.{look_left, none_read}
 use Rattle.object_ops.proofs.PutSound.{look_sound}
@@ -23,7 +24,7 @@ returns-clause-left g c =
     (none_read op.long op.read op.state c.requires.state op.counted) c.after_look.ensures)
 
 pub look_at_bucket-look-requires-clause-named : goal.look_at_bucket-look-requires-clause-named
-look_at_bucket-look-requires-clause-named g c = (c.args.self.now.at.bucket, c.as_str.ensures.value ∙ c.args.self.now.named)
+look_at_bucket-look-requires-clause-named g c = ((key_of c.args.self.now.target).bucket, c.as_str.ensures.value ∙ c.args.self.now.named)
 
 pub invariant_of-self-clause-counted : goal.invariant_of-self-clause-counted
 invariant_of-self-clause-counted g c =

@@ -1,30 +1,29 @@
-use Rattle.std.proofs.Common.{◌≡◌, ◌≤◌, List, ℕ, length, subst, sym}
+use Rattle.std.proofs.Common.{◌≤◌, List, ℕ, length, subst, sym}
 use Rattle.std.proofs.lemmas.Grind.{merely}
-use Rattle.std.specs.Str.{IsUtf8}
-use Rattle.std.specs.String.{string_bytes}
+use Rattle.std.specs.Prelude.{IsUtf8}
 use Rattle.call_types.specs.declared.names.Key.{Key}
-use Rattle.slot_history.specs.Names.{key_name}
-use Rattle.object_ops.proofs.ReadingKey.{bucket_is_utf8, bucket_short, key_short}
+use Rattle.slot_history.specs.Names.{bucket_name}
+use Rattle.object_ops.specs.PutTarget.{key_of}
+use Rattle.object_ops.proofs.PutTargets.{register_short}
+use Rattle.object_ops.proofs.ReadingKey.{bucket_is_utf8, bucket_short}
 use Rattle.object_ops.proofs.put_op.PutOp.of.Goals as goal
 
 pub bucket_name-requires : goal.bucket_name-requires
-bucket_name-requires c = bucket_is_utf8 c.args.at.now c.requires.key
+bucket_name-requires c = subst (λ (k : Key). IsUtf8 k.bucket) (sym c.key.ensures) (bucket_is_utf8 (key_of c.args.target) c.requires.key)
 
 pub invariant_of-result-clause-short : goal.invariant_of-result-clause-short
-invariant_of-result-clause-short c = subst (λ (l : List ℕ). length l ≤ 1129) (sym c.in_ok-name.ensures) (bucket_short c.args.at.now c.requires.key)
+invariant_of-result-clause-short c =
+    subst (λ (l : List ℕ). length l ≤ 1129) (sym c.in_ok-name.ensures)
+    (subst (λ (k : Key). length (bucket_name k.bucket) ≤ 1129) (sym c.key.ensures) (bucket_short (key_of c.args.target) c.requires.key))
 
 pub invariant_of-result-clause-bucket_text : goal.invariant_of-result-clause-bucket_text
-invariant_of-result-clause-bucket_text c = subst (λ (k : Key). ∥ IsUtf8 k.bucket ∥₁) (sym c.in_ok-key.ensures.cases)
-    (merely (bucket_is_utf8 c.args.at.now c.requires.key))
+invariant_of-result-clause-bucket_text c = merely (bucket_is_utf8 (key_of c.args.target) c.requires.key)
 
 pub invariant_of-result-clause-key_text : goal.invariant_of-result-clause-key_text
-invariant_of-result-clause-key_text c = subst (λ (k : Key). ∥ IsUtf8 k.key ∥₁) (sym c.in_ok-key.ensures.cases) (merely c.requires.key.utf8)
+invariant_of-result-clause-key_text c = merely c.requires.key.utf8
 
-pub invariant_of-result-clause-key_short : goal.invariant_of-result-clause-key_short
-invariant_of-result-clause-key_short c = subst (λ (k : Key). length (key_name k) ≤ 1129) (sym c.in_ok-key.ensures.cases) (key_short c.args.at.now c.requires.key)
+pub invariant_of-result-clause-register_short : goal.invariant_of-result-clause-register_short
+invariant_of-result-clause-register_short c = register_short c.args.target c.requires.key
 
-pub key_name-requires-clause-bucket : goal.key_name-requires-clause-bucket
-key_name-requires-clause-bucket c = bucket_is_utf8 c.args.at.now c.requires.key
-
-pub invariant_of-result-clause-registered : goal.invariant_of-result-clause-registered
-invariant_of-result-clause-registered c = subst (λ (k : Key). string_bytes c.in_ok-register.register ≡ key_name k) (sym c.in_ok-key.ensures.cases) c.in_ok-register.ensures
+pub register-requires-clause-bucket : goal.register-requires-clause-bucket
+register-requires-clause-bucket c = bucket_is_utf8 (key_of c.args.target) c.requires.key

@@ -3,6 +3,7 @@ use Rattle.op_steps.specs.Words.{BarredSo, IsSection}
 use Rattle.receipts.specs.Registers.{key_slot}
 use Rattle.object_ops.specs.Put.{left_at, step_at, task_of}
 use Rattle.object_ops.specs.PutStands.{PutStands, ask_of, step_of}
+use Rattle.object_ops.specs.PutTarget.{key_of}
 use Rattle.object_ops.proofs.PutBarred.{bars_left, bars_so, pass_left, takes_of}
 use Rattle.object_ops.proofs.PutBars.{pass_so}
 use Rattle.object_ops.proofs.PutSound.{barred_sound}
@@ -14,13 +15,13 @@ pub returns-in-Told-clause-barred : goal.returns-in-Told-clause-barred
 returns-in-Told-clause-barred c =
     let op = c.args.self.now in
     pass_so (ask_of op) op.read op.clearing c.pass_over.new.self op.state c.in-Told.field-0 c.args.why c.in-Told.is
-    (takes_of (key_slot op.at) op.clearing (subst (λ s. IsSection (step_at op.at op.clearing s)) c.in-Told.is c.requires.next)) c.pass_over.ensures.queue
+    (takes_of (key_slot (key_of op.target)) op.clearing (subst (λ s. IsSection (step_at (key_of op.target) op.clearing s)) c.in-Told.is c.requires.next)) c.pass_over.ensures.queue
 
 pub returns-in-Told-clause-left : goal.returns-in-Told-clause-left
 returns-in-Told-clause-left c =
     let op = c.args.self.now in
     pass_left op.set op.long op.read op.clearing c.pass_over.new.self op.state c.in-Told.field-0 c.in-Told.is
-    (takes_of (key_slot op.at) op.clearing (subst (λ s. IsSection (step_at op.at op.clearing s)) c.in-Told.is c.requires.next)) c.pass_over.ensures.takes
+    (takes_of (key_slot (key_of op.target)) op.clearing (subst (λ s. IsSection (step_at (key_of op.target) op.clearing s)) c.in-Told.is c.requires.next)) c.pass_over.ensures.takes
     c.pass_over.ensures.queue
 
 pub returns-in_default : goal.returns-in_default
@@ -32,7 +33,7 @@ returns-in_default c =
     let after = bars_on op out c.moved_out-state.result later c.args.why m.out m.same m.read c.barred_after.ensures in
     record {
       set = m.same.set;
-      task = ap task_of (same_ask op out m.same);
+      asked = ap task_of (same_ask op out m.same);
       left = subst (λ n. n < left_at op.set op.long op.read op.clearing op.state) (sym (left_same op out later m.same m.read m.clearing))
           (bars_left op later c.args.why c.in_default.not-Told after c.requires.next);
       taken = m.read;

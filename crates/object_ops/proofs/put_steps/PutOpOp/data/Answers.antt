@@ -5,7 +5,8 @@ use Rattle.op_steps.specs.declared.next.OpNext.TheVariants as next
 use Rattle.object_ops.specs.Clearing.{files_left}
 use Rattle.object_ops.specs.Put.{step_at}
 use Rattle.object_ops.specs.PutStands.{ask_of}
-use Rattle.object_ops.specs.declared.delete_state.DeleteState.TheVariants as delete
+use Rattle.object_ops.specs.PutTarget.{key_of}
+use Rattle.object_ops.specs.declared.deed_state.DeedState.TheVariants as deed
 use Rattle.object_ops.proofs.LeftLemmas.{all_within, some_left}
 use Rattle.object_ops.proofs.PutLefts.{remove_left}
 use Rattle.object_ops.proofs.PutOpLemmas.{remove_so}
@@ -15,18 +16,18 @@ use Rattle.object_ops.proofs.put_steps.PutOpOp.data.Goals as goal
 pub remove-requires-clause-some : goal.remove-requires-clause-some
 remove-requires-clause-some g c =
     let op = c.args.self.now in
-    some_left op.at op.clearing (delete.Told c.in-Told.field-0)
-    (subst (λ s. step_at op.at op.clearing s ≡ next.Data) c.in-Told.is (sym c.next.ensures.step ∙ c.in-Data.is))
+    some_left (key_of op.target) op.clearing (deed.Told c.in-Told.field-0)
+    (subst (λ s. step_at (key_of op.target) op.clearing s ≡ next.Data) c.in-Told.is (sym c.next.ensures.step ∙ c.in-Data.is))
 
 pub remove-requires-clause-within : goal.remove-requires-clause-within
 remove-requires-clause-within g c =
     let op = c.args.self.now in
-    all_within op.set (key_slot op.at) (files_left op.clearing) _ c.requires.disks op.due
+    all_within op.set (key_slot (key_of op.target)) (files_left op.clearing) _ c.requires.disks op.due
 
 pub work_on-requires-clause-state : goal.work_on-requires-clause-state
 work_on-requires-clause-state g c =
     let op = c.args.self.now in
-    data_work op.at op.clearing op.state (sym c.next.ensures.step ∙ c.in-Data.is) c.in_default-state.not-Told
+    data_work (key_of op.target) op.clearing op.state (sym c.next.ensures.step ∙ c.in-Data.is) c.in_default-state.not-Told
 
 pub returns-in-Told-clause-left : goal.returns-in-Told-clause-left
 returns-in-Told-clause-left g c next =

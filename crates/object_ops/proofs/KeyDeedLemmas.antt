@@ -1,0 +1,25 @@
+-- A deed that needs no body is lawful, its register has a lawful name, and it comes with no put.
+use Rattle.std.proofs.Common.{◌≡◌, None, true, IsUtf8, refl}
+use Rattle.std.proofs.lemmas.Str.{IsUtf8-had}
+use Rattle.call_types.specs.declared.act.Act.TheVariants as act
+use Rattle.version_list.specs.State.{IsKind}
+use Rattle.slot_rules.specs.Deeds.{IsLawfulDeed, IsNamedDeed}
+use Rattle.slot_rules.specs.declared.commit.Commit.TheVariants.{Key, MakeBucket, SetMode}
+use Rattle.slot_rules.specs.declared.commit.Commit.{Commit}
+use Rattle.slot_core.specs.Committing.{FitsFlight}
+use Rattle.object_ops.specs.KeyDeeds.{bucket_in, deed_needs_none, key_in, kind_in}
+use Rattle.object_ops.specs.declared.key_deed.KeyDeed.{KeyDeed}
+
+pub by_act : (deed : Commit) → deed_needs_none deed ≡ true → IsKind (kind_in deed) → IsUtf8 (bucket_in deed) → IsUtf8 (key_in deed)
+    → IsLawfulDeed deed × IsNamedDeed deed × FitsFlight deed None
+by_act (Key at mode (act.Put data_id print size md5 kind)) none short bucket key = absurd cc
+by_act (Key at mode (act.Delete pick)) none short bucket key = (tt, (bucket, key), refl)
+by_act (Key at mode (act.Create kind)) none short bucket key = (short, (bucket, key), refl)
+by_act (Key at mode (act.Complete upload parts data_id print size md5)) none short bucket key = absurd cc
+by_act (Key at mode (act.Abort upload)) none short bucket key = (tt, (bucket, key), refl)
+by_act (MakeBucket name) none short bucket key = absurd cc
+by_act (SetMode name mode) none short bucket key = absurd cc
+
+abbrev pub can_commit : (deed : KeyDeed) → IsLawfulDeed deed.commit × IsNamedDeed deed.commit × FitsFlight deed.commit None
+can_commit deed = by_act deed.commit deed.bodyless deed.kind_short (IsUtf8-had (bucket_in deed.commit) deed.bucket_text)
+    (IsUtf8-had (key_in deed.commit) deed.key_text)

@@ -1,0 +1,44 @@
+//! The op of a deed.
+
+ghost use Rattle.std.specs.Prelude.{◌≡◌, ◌≤◌, IsUtf8, length, string_bytes, true};
+ghost use Rattle.slot_history.specs.Names.{bucket_name, key_name, key_slot};
+ghost use Rattle.version_list.specs.State.{IsKind, IsMoment};
+ghost use Rattle.object_ops.specs.Clearing.{files_left};
+ghost use Rattle.object_ops.specs.KeyDeeds.{IsServed, kind_of, needs_no_body};
+ghost use Rattle.object_ops.specs.Removing.{AreDue};
+ghost use Rattle.drive_base.specs.declared.drive.TheConstants.{LONGEST_NAME};
+
+use crate::clearing::Clearing;
+use crate::deed_state::DeedState;
+use call_types::{Act, Key};
+use drive_base::SetPlan;
+
+/// A change of a key by a call without a body, step by step: a look at the bucket, the commit of the act at the key's register, and the reply. Then trash of
+/// the slot is taken, and its files are removed.
+#[derive(Drop)]
+pub struct DeedOp {
+    /// The set of the store.
+    pub(crate) set: SetPlan,
+    /// The key.
+    pub(crate) at: Key,
+    /// What is done.
+    pub(crate) act: Act,
+    /// The name of the bucket's register.
+    pub(crate) name: String,
+    /// The Unix second of the call.
+    pub(crate) now: u64,
+    /// How far it is.
+    pub(crate) state: DeedState,
+    /// What is left of the trash.
+    pub(crate) clearing: Clearing,
+    pub ghost served: { IsServed act },
+    pub ghost bodyless: { needs_no_body act ≡ true },
+    pub ghost kind_short: { IsKind (kind_of act) },
+    pub ghost named: { string_bytes name ≡ bucket_name at.bucket },
+    pub ghost short: { length (string_bytes name) ≤ LONGEST_NAME },
+    pub ghost bucket_text: { ∥ IsUtf8 at.bucket ∥₁ },
+    pub ghost key_text: { ∥ IsUtf8 at.key ∥₁ },
+    pub ghost key_short: { length (key_name at) ≤ LONGEST_NAME },
+    pub ghost moment: { IsMoment now },
+    pub ghost due: { AreDue set (key_slot at) (files_left clearing) },
+}
