@@ -44,6 +44,7 @@ module _ {D A : Type 0} (ghosts : Ghosts D) (entries : A → Option (List Entry)
       last = last_of_set set out used (views ghosts parts.disks.items) x.disks.last;
     };
     lost_are = record { within = x.lost_are.within; lived = x.lost_are.lived; lack = x.lost_are.lack };
+    manifests = x.manifests;
     slots = x.slots;
   }
 

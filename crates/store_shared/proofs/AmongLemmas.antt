@@ -1,6 +1,6 @@
 -- One step of a call among others.
-use Rattle.std.proofs.Common.{◌≡◌, ◌<◌, ◌∙◌, ℕ, false, List, [], ◌∷◌, ◌++◌, Option, Some, None, get_or, inl, inr, length, option_to_list, set, append-nil, ap, refl, subst, sym, arith}
-use Rattle.std.proofs.lemmas.List.{get_or-map, get_or_default, length-map, map-append, map-set, set-get_or}
+use Rattle.std.proofs.Common.{◌≡◌, ◌<◌, ◌∙◌, ℕ, false, List, [], ◌∷◌, ◌++◌, Option, Some, None, get_or, length, option_to_list, set, append-nil, ap, refl, subst, sym, arith}
+use Rattle.std.proofs.lemmas.List.{get_or-map, get_or_default, length-map, map-set, set-get_or}
 use Rattle.std.specs.Prelude.{option_map}
 use Rattle.audit_trail.specs.declared.entry.Entry.{Entry}
 use Rattle.desk_base.specs.Telling.{Effect}
@@ -8,21 +8,22 @@ use Rattle.drive_base.specs.View.{DriveView}
 use Rattle.drive_base.specs.declared.drive.Drive.{Ghosts}
 use Rattle.drive_base.specs.declared.plan.SetPlan.{SetPlan}
 use Rattle.receipts.specs.Events.{Log, Shown}
-use Rattle.receipts.specs.Events.Event.{BarredFrom, Called, Fed, Told, Turned}
+use Rattle.receipts.specs.Events.Event.{BarredFrom, Turned}
 use Rattle.receipts.specs.declared.barred.Barred.{Barred}
 use Rattle.receipts.specs.declared.barred.Barred.TheVariants as barred
 use Rattle.slot_core.specs.declared.stub.Stub.{Stub}
 use Rattle.op_steps.specs.Claims.{Claim}
-use Rattle.op_steps.specs.Going.{AddsNotes}
-use Rattle.op_steps.specs.Notes.{note_of, noted, notes_by}
-use Rattle.op_steps.specs.Store.{FeedSeen, TellerSeen, slot_seen}
-use Rattle.op_steps.specs.Words.{BarredSo, CallsSo, FeedsSo, TellsSo, TurnsSo}
+use Rattle.op_steps.specs.Going.{AddsNotes, RanSoOver}
+use Rattle.op_steps.specs.Notes.{noted, notes_by}
+use Rattle.op_steps.specs.Store.{FeedSeen, TellerSeen, slot_seen, store_of}
+use Rattle.op_steps.specs.Words.{BarredSo, TurnsSo}
 use Rattle.op_steps.specs.declared.next.OpNext.{OpNext}
 use Rattle.op_steps.specs.declared.next.OpNext.TheVariants.{Section}
+use Rattle.op_steps.proofs.TurnLemmas.{notes_kept}
 use Rattle.turn_lock.specs.declared.pass.Pass.{Pass}
 use Rattle.turn_lock.specs.declared.view.Turn.{Turn}
-use Rattle.store_shared.specs.Among.{IsPassAt, PassSeen, pass_seen, passes_seen, reach_of, seen_in, with_turn}
-use Rattle.store_shared.specs.AmongSteps.{IsTurnOf, PassBarred, RanSoAmong}
+use Rattle.store_shared.specs.Among.{IsPassAt, PassSeen, pass_seen, passes_seen, seen_in, with_turn}
+use Rattle.store_shared.specs.AmongSteps.{IsTurnOf, PassBarred, RanAmong}
 use Rattle.store_shared.specs.SharedPasses.{pass_holds, passes_hold}
 use Rattle.store_shared.specs.Turned.{SlotName, slot_in}
 use Rattle.store_shared.specs.declared.turned.TurnedSlot.{TurnedSlot}
@@ -47,11 +48,6 @@ module _ {D A : Type 0} (passes : List (Option (Pass (TurnedSlot D A)))) (k : �
       ∙ (ap (λ h. set (passes_hold passes) k h) (sym (get_or-map (option_map pass_holds) passes k None None inside ∙ ap (option_map pass_holds) is))
       ∙ set-get_or (passes_hold passes) k None))
 
--- the stub of a section is kept behind the others
-notes_kept : (stubs : List Stub) (stub : Option Stub) (k : ℕ) (shown : Shown) → AddsNotes (Turned k (noted stub) shown ∷ []) stubs (stubs ++ option_to_list stub)
-notes_kept stubs None k shown = map-append note_of stubs []
-notes_kept stubs (Some stub) k shown = map-append note_of stubs (stub ∷ [])
-
 module _ {D A T : Type 0} (ghosts : Ghosts D) (entries : A → Option (List Entry)) (count : A → ℕ) (takes breaks : Effect T) (plan : SetPlan)
     (Old New : Claim → Log → Type 0) where
   -- a section in a turn is one step, with its note
@@ -60,15 +56,15 @@ module _ {D A T : Type 0} (ghosts : Ghosts D) (entries : A → Option (List Entr
       → TurnsSo ghosts Old New stub (slot_seen entries count (slot_in turn.from)) (slot_seen entries count (slot_in turn.to)) old_disks new_disks
       → later ≡ stubs ++ option_to_list stub
       → (passes : List (PassSeen D A)) (feed : FeedSeen) (teller : TellerSeen T) → IsPassAt passes k was
-      → RanSoAmong ghosts entries count takes breaks plan Old New (λ claim. reach_of passes old_disks claim feed teller)
-      (λ claim. reach_of (set passes k now) new_disks claim feed teller) stubs later
+      → RanSoOver (RanAmong ghosts entries count takes breaks plan) Old New (λ claim. store_of passes old_disks claim feed teller)
+      (λ claim. store_of (set passes k now) new_disks claim feed teller) stubs later
   turn_goes k stub turn was now old_disks new_disks stubs later comes is turns kept passes feed teller at claim log holds =
       let got = turns claim log holds in (
         got.0,
         Turned k (noted stub) got.1 ∷ [],
         subst (λ i. New got.0 (log ++ Turned i (noted stub) got.1 ∷ [])) (ap (λ (n : SlotName). n.index) comes.slot) got.2,
         (
-          reach_of (set passes k now) new_disks got.0 feed teller,
+          store_of (set passes k now) new_disks got.0 feed teller,
           record {
             was = was;
             is = at;
@@ -76,7 +72,7 @@ module _ {D A T : Type 0} (ghosts : Ghosts D) (entries : A → Option (List Entr
             comes = comes;
             disks = new_disks;
             moves = got.3;
-            leaves = ap (λ p. reach_of (set passes k p) new_disks got.0 feed teller) is;
+            leaves = ap (λ p. store_of (set passes k p) new_disks got.0 feed teller) is;
           },
           refl,
         ),
@@ -87,70 +83,24 @@ module _ {D A T : Type 0} (ghosts : Ghosts D) (entries : A → Option (List Entr
   pub bar_goes : (next : OpNext) (k : ℕ) (why : Barred) (was now : PassSeen D A) (disks : List DriveView) (stubs later : List Stub)
       → PassBarred why was now → next ≡ Section k → BarredSo Old New next why → later ≡ stubs
       → (passes : List (PassSeen D A)) (feed : FeedSeen) (teller : TellerSeen T) → IsPassAt passes k was
-      → RanSoAmong ghosts entries count takes breaks plan Old New (λ claim. reach_of passes disks claim feed teller)
-      (λ claim. reach_of (set passes k now) disks claim feed teller) stubs later
+      → RanSoOver (RanAmong ghosts entries count takes breaks plan) Old New (λ claim. store_of passes disks claim feed teller)
+      (λ claim. store_of (set passes k now) disks claim feed teller) stubs later
   bar_goes next k why was now disks stubs later bars at barred kept passes feed teller is claim log holds = (
     claim,
     BarredFrom k why ∷ [],
     barred claim log k at holds,
-    (reach_of (set passes k now) disks claim feed teller, record { was = was; now = now; is = is; bars = bars; leaves = refl }, refl),
+    (store_of (set passes k now) disks claim feed teller, record { was = was; now = now; is = is; bars = bars; leaves = refl }, refl),
     ap notes_by kept ∙ sym (append-nil (notes_by stubs)),
   )
 
   -- where that is for want of memory all stays
   pub bar_stays : (next : OpNext) (k : ℕ) (disks : List DriveView) (stubs later : List Stub) → next ≡ Section k → BarredSo Old New next barred.NoMemory
       → later ≡ stubs → (passes : List (PassSeen D A)) (feed : FeedSeen) (teller : TellerSeen T) → k < length passes
-      → RanSoAmong ghosts entries count takes breaks plan Old New (λ claim. reach_of passes disks claim feed teller)
-      (λ claim. reach_of passes disks claim feed teller) stubs later
+      → RanSoOver (RanAmong ghosts entries count takes breaks plan) Old New (λ claim. store_of passes disks claim feed teller)
+      (λ claim. store_of passes disks claim feed teller) stubs later
   bar_stays next k disks stubs later at bars kept passes feed teller inside =
       let none : PassSeen D A = record { turns = []; seen = 0; spent = false } in
       let was = get_or passes k none in
-      subst (λ p. RanSoAmong ghosts entries count takes breaks plan Old New (λ claim. reach_of passes disks claim feed teller)
-      (λ claim. reach_of p disks claim feed teller) stubs later) (set-get_or passes k none)
+      subst (λ p. RanSoOver (RanAmong ghosts entries count takes breaks plan) Old New (λ claim. store_of passes disks claim feed teller)
+      (λ claim. store_of p disks claim feed teller) stubs later) (set-get_or passes k none)
       (bar_goes next k barred.NoMemory was was disks stubs later refl at bars kept passes feed teller (inside, λ d. get_or_default passes k d none inside))
-
-  module _ (passes : List (PassSeen D A)) (stubs : List Stub) where
-    -- so are the other steps
-    pub call_goes : (old_disks new_disks : List DriveView) (feed : FeedSeen) (teller : TellerSeen T) → CallsSo Old New plan old_disks new_disks
-        → RanSoAmong ghosts entries count takes breaks plan Old New (λ claim. reach_of passes old_disks claim feed teller)
-        (λ claim. reach_of passes new_disks claim feed teller) stubs stubs
-    call_goes old_disks new_disks feed teller calls claim log holds = elim (calls claim log holds) [
-      | inl one ↦ (
-        one.0,
-        Called one.1 one.2 ∷ [],
-        one.3,
-        (reach_of passes new_disks one.0 feed teller, (refl, record { moves = one.4; leaves = refl }), refl),
-        sym (append-nil (notes_by stubs)),
-      )
-      | inr none ↦ (
-        claim,
-        [],
-        subst (λ l. New claim l) (sym (append-nil log)) none.0,
-        ap (λ (disks : List DriveView). reach_of passes disks claim feed teller) none.1,
-        sym (append-nil (notes_by stubs)),
-      )
-    ]
-
-    pub feed_goes : (disks : List DriveView) (old new : FeedSeen) (teller : TellerSeen T) → FeedsSo Old New old new
-        → RanSoAmong ghosts entries count takes breaks plan Old New (λ claim. reach_of passes disks claim old teller)
-        (λ claim. reach_of passes disks claim new teller) stubs stubs
-    feed_goes disks old new teller feeds claim log holds =
-        let got = feeds claim log holds in (
-          claim,
-          Fed got.0 got.1 ∷ [],
-          got.2,
-          (reach_of passes disks claim new teller, (refl, record { moves = got.3; leaves = refl }), refl),
-          sym (append-nil (notes_by stubs)),
-        )
-
-    pub tell_goes : (disks : List DriveView) (feed : FeedSeen) (old new : TellerSeen T) → TellsSo takes breaks Old New old new
-        → RanSoAmong ghosts entries count takes breaks plan Old New (λ claim. reach_of passes disks claim feed old)
-        (λ claim. reach_of passes disks claim feed new) stubs stubs
-    tell_goes disks feed old new tells claim log holds =
-        let got = tells claim log holds in (
-          claim,
-          Told got.0 got.1 ∷ [],
-          got.2,
-          (reach_of passes disks claim feed new, (refl, record { moves = got.3; leaves = refl }), refl),
-          sym (append-nil (notes_by stubs)),
-        )

@@ -1,7 +1,8 @@
 -- Lanes and data drives of a store that holds, hold when its life ends.
-use Rattle.std.proofs.Common.{◌≡◌, ◌<◌, ◌≤◌, ◌^◌, ◌∙◌, ℕ, Bool, List, [], sym, ap, subst, subst₂, arith}
+use Rattle.std.proofs.Common.{◌≡◌, ◌<◌, ◌≤◌, ◌^◌, ◌∙◌, ℕ, Bool, List, [], ◌∷◌, length, refl, sym, ap, subst, subst₂, arith}
+use Rattle.std.specs.Int.{IsBitSet}
 use Rattle.drive_base.specs.Files.{Files}
-use Rattle.drive_base.specs.View.{DriveView}
+use Rattle.drive_base.specs.View.{DriveView, view_at}
 use Rattle.drive_base.specs.declared.drive.Drive.{Ghosts}
 use Rattle.drive_base.specs.declared.plan.SetPlan.{SetPlan}
 use Rattle.slot_history.proofs.TakenLemmas.{none_there}
@@ -13,10 +14,11 @@ use Rattle.slot_data.specs.Holding.{no_hands, no_holding}
 use Rattle.slot_data.specs.Laws.{LifeEnds, NumbersAreDrawn}
 use Rattle.slot_core.specs.Standing.{SlotStands}
 use Rattle.slot_core.specs.Views.{SlotNumbers, last_of, quorum_of}
-use Rattle.op_steps.specs.Claims.{Claim, claims_at, disks_of as counted, hands_of}
-use Rattle.op_steps.specs.Holding.{SlotHolds}
+use Rattle.op_steps.specs.Claims.{Claim, DisksTell, HasHonestManifests, claims_at, disks_of as counted, hands_of}
 use Rattle.op_steps.specs.Leading.{Standing}
-use Rattle.op_steps.specs.Store.{SlotSeen}
+use Rattle.op_steps.specs.Holding.{SlotHolds, StoreHolds}
+use Rattle.op_steps.specs.Steps.{IsSlotAt}
+use Rattle.op_steps.specs.Store.{AreInOrder, SlotSeen}
 use Rattle.store_shared.specs.Holders.{AreLost, ClosedStoreHolds, DrivesRest, SlotRests, spent_numbers}
 
 module _ {D : Type 0} (tells : D → Bool) (files : D → Files) where
@@ -53,11 +55,34 @@ module _ {D : Type 0} (tells : D → Bool) (files : D → Files) where
         loose = λ k id within in_use of higher. x.holds.loose k id within in_use of (omega (arith, above, higher));
       }
 
+-- the first slot of some
+record HasFirst {D : Type 0} (slots : List (SlotSeen D)) : Type 0 where
+  was : SlotSeen D
+  at : IsSlotAt slots 0 was
+
+first_of : {D : Type 0} (slots : List (SlotSeen D)) → 0 < length slots → HasFirst slots
+first_of [] some = absurd (omega (arith, some))
+first_of (slot ∷ more) some = record { was = slot; at = (some, λ d. refl) }
+
+module _ {D : Type 0} (ghosts : Ghosts D) where
+  -- damage of the manifests of a store that holds is honest, as its first slot has it
+  honest_manifests : (set : SetPlan) (unseen : Disks) (slots : List (SlotSeen D)) (disks : List DriveView) (claims : List Claim) (at : ℕ → Standing)
+      → AreInOrder set slots disks → StoreHolds ghosts.tells ghosts.files unseen slots disks claims at
+      → (k : ℕ) → k < set.drives → (IsBitSet set.out k → ⊥) → HasHonestManifests (view_at disks k).files
+  honest_manifests set unseen slots disks claims at in_order holds =
+      let first = first_of slots (let count = in_order.count in omega (arith, count)) in
+      let was = first.was in
+      let set_is : was.numbers.set ≡ set = ap (λ (s : SlotSeen D). s.numbers.set) (sym (first.at.1 was)) ∙ in_order.set_is 0 was first.at.0 in
+      let tell : DisksTell set disks = subst (λ (s : SetPlan). DisksTell s disks) set_is (holds 0 was first.at).holds.tell in
+      tell.honest
+
 module _ {D : Type 0} (A : Type 0) (ghosts : Ghosts D) where
   pub closed_store_holds : DrawingStands → FlightsEnd → LifeEnds → NumbersAreDrawn → ClosedStoreHolds A ghosts
   closed_store_holds drawing ends life_ends drawn set used unseen slots disks claims at parts in_order rest lost holds apart = record {
     disks = subst (λ (l : List DriveView). DrivesRest set used l) (sym apart.disks_are) rest;
     lost_are = subst (λ (l : List DriveView). AreLost set used set.out l) (sym apart.disks_are) lost;
+    manifests = subst (λ (l : List DriveView). (k : ℕ) → k < set.drives → (IsBitSet set.out k → ⊥) → HasHonestManifests (view_at l k).files) (sym apart.disks_are)
+        (honest_manifests ghosts set unseen slots disks claims at in_order holds);
     slots = λ k of there.
         let found = apart.lanes_are k of there in
         let was = found.0 in

@@ -1,6 +1,7 @@
--- What an opening of a set leaves on its drives under all names but those of formats, and that damage of formats stays honest.
+-- What an opening of a set leaves on its drives under all names but those of formats, and that damage of formats and manifests stays honest.
 use Rattle.std.proofs.Common.{◌≡◌, ◌⊎◌, ◌+◌, ◌<◌, ◌∙◌, ℕ, false, List, Option, Some, length, refl, sym, ap, subst, inl, inr, arith}
 use Rattle.std.specs.Prelude.{IsTrue, Result, Ok, Err}
+use Rattle.std.specs.Int.{IsBitSet}
 use Rattle.std.specs.Str.{bytes_eq}
 use Rattle.std.proofs.lemmas.Map.{update_other, update_same}
 use Rattle.std.proofs.lemmas.Slice.Eq.{bytes_eq-Decides}
@@ -12,6 +13,9 @@ use Rattle.drive_base.specs.HonestDamage.{IsHonestAt, KeepsHonesty}
 use Rattle.drive_base.specs.View.{AllOnlyRead, AtEach, DriveView, OnlyRead, view_at}
 use Rattle.drive_base.specs.declared.plan.SetPlan.{SetPlan}
 use Rattle.file_access.specs.Writing.{IsInPlace, Touches, WriteLeaves}
+use Rattle.body_print.specs.Names.{manifest_name}
+use Rattle.stamp_id.specs.declared.version.VersionId.{VersionId}
+use Rattle.op_steps.specs.Claims.{HasHonestManifests, IsUnsealed as IsNoManifest}
 use Rattle.term_gate.specs.Formats.{IsUnsealed, format_name, loose_format_name}
 use Rattle.term_gate.specs.Opening.{Follows, IsMadeAndOpened, IsOpenedOrNot, Opens, TakesTerm}
 use Rattle.term_gate.specs.Reading.{why_at}
@@ -29,6 +33,7 @@ IsNoLooseFormat name = (term k : ℕ) → bytes_eq (loose_format_name term k) na
 pub record SparesOthers (old new : DriveView) : Type 0 where
   pub tells : new.tells ≡ old.tells
   pub kept : (name : List ℕ) → bytes_eq format_name name ≡ false → new.files.kept name ≡ old.files.kept name
+  pub shown : (name : List ℕ) → bytes_eq format_name name ≡ false → new.files.shown name ≡ old.files.shown name
   pub loose : (name : List ℕ) → IsNoLooseFormat name → new.files.loose name ≡ old.files.loose name
   pub honesty : KeepsHonesty format_name old.files new.files
 
@@ -36,6 +41,7 @@ others_same : (old new : DriveView) → new ≡ old → SparesOthers old new
 others_same old new same = record {
   tells = ap (λ (v : DriveView). v.tells) same;
   kept = λ name apart. ap (λ (v : DriveView). v.files.kept name) same;
+  shown = λ name apart. ap (λ (v : DriveView). v.files.shown name) same;
   loose = λ name apart. ap (λ (v : DriveView). v.files.loose name) same;
   honesty = inr (ap (λ (v : DriveView). v.files.kept format_name) same, ap (λ (v : DriveView). v.files.shown format_name) same);
 }
@@ -44,6 +50,7 @@ others_read : (old new : DriveView) → IsTrue old.tells → OnlyRead old new �
 others_read old new told only = record {
   tells = only.goes_on.tells;
   kept = λ name apart. ap (λ (files : Files). files.kept name) (only.files told);
+  shown = λ name apart. ap (λ (files : Files). files.shown name) (only.files told);
   loose = λ name apart. ap (λ (files : Files). files.loose name) (only.files told);
   honesty = inr (ap (λ (files : Files). files.kept format_name) (only.files told), ap (λ (files : Files). files.shown format_name) (only.files told));
 }
@@ -58,6 +65,7 @@ others_twice : (old mid new : DriveView) → SparesOthers old mid → SparesOthe
 others_twice old mid new one two = record {
   tells = two.tells ∙ one.tells;
   kept = λ name apart. two.kept name apart ∙ one.kept name apart;
+  shown = λ name apart. two.shown name apart ∙ one.shown name apart;
   loose = λ name apart. two.loose name apart ∙ one.loose name apart;
   honesty = honesty_twice old.files mid.files new.files one.honesty two.honesty;
 }
@@ -67,6 +75,7 @@ others_touched : (term k : ℕ) (old new : DriveView) → new.tells ≡ old.tell
 others_touched term k old new same touched = record {
   tells = same;
   kept = λ name apart. ap (λ (named : List ℕ → Option (List ℕ)). named name) touched.kept;
+  shown = λ name apart. ap (λ (named : List ℕ → Option (List ℕ)). named name) touched.shown;
   loose = λ name apart. touched.others name (apart term k);
   honesty = inr (
     ap (λ (named : List ℕ → Option (List ℕ)). named format_name) touched.kept,
@@ -89,6 +98,8 @@ others_placed term k bytes old new same placed = record {
   tells = same;
   kept = λ name apart. ap (λ (named : List ℕ → Option (List ℕ)). named name) placed.kept
       ∙ update_other bytes_eq old.files.kept format_name (Some bytes) name apart;
+  shown = λ name apart. ap (λ (named : List ℕ → Option (List ℕ)). named name) placed.shown
+      ∙ update_other bytes_eq old.files.shown format_name (Some bytes) name apart;
   loose = λ name apart. placed.others name (apart term k);
   honesty = inl (placed_honest (loose_format_name term k) bytes old.files new.files placed);
 }
@@ -139,6 +150,19 @@ pub each_honest : (old new : List DriveView) → EachHonest old → EachSparesOt
 each_honest old new honest keep k lt =
     let here : k < length old = (let same = keep.long in omega (arith, same, lt)) in
     honest_stays (view_at old k).files (view_at new k).files (keep.each k here).honesty (honest k here)
+
+-- damage of manifests stays honest
+manifest_stays : (old new : DriveView) (id : VersionId) → SparesOthers old new → IsHonestAt IsNoManifest (manifest_name id) old.files
+    → IsHonestAt IsNoManifest (manifest_name id) new.files
+manifest_stays old new id keep (inl same) = inl (keep.shown (manifest_name id) refl ∙ (same ∙ sym (keep.kept (manifest_name id) refl)))
+manifest_stays old new id keep (inr (bytes, is, unsealed)) = inr (bytes, keep.shown (manifest_name id) refl ∙ is, unsealed)
+
+-- on each drive of a set that isn't lost
+pub manifests_on : (set : SetPlan) (lost : ℕ) (old new : List DriveView) → length old ≡ set.drives → EachSparesOthers old new
+    → ((k : ℕ) → k < set.drives → (IsBitSet lost k → ⊥) → HasHonestManifests (view_at old k).files)
+    → (k : ℕ) → k < set.drives → (IsBitSet lost k → ⊥) → HasHonestManifests (view_at new k).files
+manifests_on set lost old new long keep honest k within in_use =
+    λ id. manifest_stays (view_at old k) (view_at new k) id (keep.each k (omega (arith, long, within))) (honest k within in_use id)
 
 each_written : (set : SetPlan) (term passed : ℕ) (other : Why) (whys : List Why) (old new : List DriveView) → EachTells old
     → AreWritten set term passed other whys old new → EachSparesOthers old new

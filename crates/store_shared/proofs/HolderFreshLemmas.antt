@@ -133,5 +133,8 @@ module _ {D : Type 0} (ghosts : Ghosts D) where
           lived = λ k bit. absurd (none_set k bit);
           lack = λ k bit. absurd (none_set k bit);
         };
+        manifests = λ k within in_use id.
+            let none = (bare_view set parts.disks.items bare.disks k within).none in
+            inl (none.shown (manifest_name id) ∙ sym (none.kept (manifest_name id)));
         slots = λ k of at. bare_rests fresh fresh_data set unseen k parts.disks.items of.lanes.items bare.disks (bare.lanes k of at);
       }

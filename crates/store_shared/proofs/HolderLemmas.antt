@@ -21,7 +21,7 @@ use Rattle.slot_core.specs.Opening.{IsOpened, OpenedSlotStands, opened_numbers}
 use Rattle.slot_core.specs.Views.{SlotNumbers, last_of}
 use Rattle.slot_core.specs.declared.slot.Slot.{Slot}
 use Rattle.slot_core.specs.declared.slot.SlotParts.{SlotParts}
-use Rattle.op_steps.specs.Claims.{HoldsAt, counted_on, disks_of as counted}
+use Rattle.op_steps.specs.Claims.{HasHonestManifests, HoldsAt, counted_on, disks_of as counted}
 use Rattle.op_steps.specs.Holding.{SlotHolds}
 use Rattle.op_steps.specs.Leading.{Standing}
 use Rattle.op_steps.specs.Steps.{IsSlotAt}
@@ -32,7 +32,7 @@ use Rattle.store_shared.specs.Holders.{AreLost, ArePartsAt, DrivesRest, IsLastUs
 use Rattle.store_shared.specs.Opening.{AreOpened, with_out}
 use Rattle.store_shared.specs.Passes.{disks_of, slots_of}
 use Rattle.store_shared.proofs.HolderDataLemmas.{KeepSameData, data_goes_on}
-use Rattle.store_shared.proofs.HolderFileLemmas.{EachSparesOthers, each_honest, each_tells, opened_spares_others}
+use Rattle.store_shared.proofs.HolderFileLemmas.{EachSparesOthers, each_honest, each_tells, manifests_on, opened_spares_others}
 use Rattle.store_shared.proofs.HolderOutLemmas.{lost_are_out, out_are_lost}
 use Rattle.store_shared.proofs.TermLemmas.{TermFits, term_fits}
 
@@ -167,7 +167,8 @@ module _ {D A : Type 0} (ghosts : Ghosts D) (entries : A → Option (List Entry)
   module _ (goes : LifeGoesOn ghosts.tells ghosts.files) (stand : OpenedSlotStands entries count ghosts.tells ghosts.files)
       (out_may : OutMayChange) (drawn : NumbersAreDrawn) where
     module _ (set : SetPlan) (unseen : Disks) (lost out used term : ℕ) (old new : List DriveView) (more : (k : ℕ) → IsBitSet lost k → IsBitSet out k)
-        (above : used < term) (small : term < 2 ^ 48) (long : length old ≡ set.drives) (tell : EachTells old) (keep : EachSparesOthers old new) where
+        (above : used < term) (small : term < 2 ^ 48) (long : length old ≡ set.drives) (tell : EachTells old)
+        (honest : (k : ℕ) → k < set.drives → (IsBitSet lost k → ⊥) → HasHonestManifests (view_at old k).files) (keep : EachSparesOthers old new) where
       -- its data holds with nothing in hand
       data_holds : (k : ℕ) (lanes : List D) (at : Standing) (rests : SlotRests ghosts.tells ghosts.files (with_out set lost) k used unseen old lanes at)
           → HoldsAt (with_out set out) k (last_of (opened_numbers (with_out set out) k term)) no_holding (counted unseen lost new) new [] at.records at.state
@@ -177,6 +178,7 @@ module _ {D A : Type 0} (ghosts : Ghosts D) (entries : A → Option (List Entry)
             tell = record {
               count = keep.long ∙ long;
               tell = λ j within in_use. each_tells old new tell keep j (let same = keep.long in omega (arith, same, long, within)) tt;
+              honest = λ j within in_use. manifests_on set lost old new long keep honest j within (λ bit. in_use (more j bit));
             };
             stands = data_goes_on out_may drawn (with_out set lost) (with_out set out) k (last_of (spent_numbers (with_out set lost) k used))
                 (last_of (opened_numbers (with_out set out) k term)) at.records at.state (counted unseen lost old)
@@ -228,7 +230,7 @@ module _ {D A : Type 0} (ghosts : Ghosts D) (entries : A → Option (List Entry)
               let same : 0 + k ≡ k = omega arith in
               let here = subst (λ (n : ℕ). IsOpened entries count (with_out set out) n x.opened.term found.parts found.slot) same found.opened in
               subst (λ (s : SlotSeen D). SlotHolds ghosts.tells ghosts.files (counted unseen lost new) new [] (at k) s) (sym found.is)
-              (slot_holds set unseen lost out used x.opened.term old new more above fits.most rig.disks.count rig.disks.tell keep k found.parts found.slot (at k)
+              (slot_holds set unseen lost out used x.opened.term old new more above fits.most rig.disks.count rig.disks.tell rig.manifests keep k found.parts found.slot (at k)
               here (rig.slots k found.parts found.there));
           disks = subst (λ (s : SetPlan). DrivesRest s x.opened.term new) (sym x.set_is) (drives_rest set used x.opened old new rig.disks keep x.taken.fresh);
           lost_are = subst (λ (s : SetPlan). AreLost s x.opened.term s.out new) (sym x.set_is)

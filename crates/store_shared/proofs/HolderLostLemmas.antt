@@ -17,7 +17,7 @@ use Rattle.slot_data.specs.Disks.{Disks, kept_on}
 use Rattle.slot_data.specs.Laws.{NumbersAreDrawn, OutMayChange}
 use Rattle.slot_core.specs.Standing.{LanesHave}
 use Rattle.slot_core.specs.Views.{last_of}
-use Rattle.op_steps.specs.Claims.{disks_of as counted}
+use Rattle.op_steps.specs.Claims.{HasHonestManifests, disks_of as counted}
 use Rattle.op_steps.specs.Leading.{Standing}
 use Rattle.store_shared.specs.Holders.{LanesStay, LostRigHolds, SlotRests, spent_numbers}
 use Rattle.store_shared.specs.Opening.{with_out}
@@ -101,6 +101,8 @@ module _ {D : Type 0} (ghosts : Ghosts D) where
   lost_rig_holds A out_may drawn set used lost more unseen at old new rig loses rest are = record {
     disks = rest;
     lost_are = are;
+    manifests = λ k within in_use. subst (λ (v : DriveView). HasHonestManifests v.files) (sym (loses.disks k in_use))
+        (rig.manifests k within (λ bit. in_use (loses.still k bit)));
     slots = λ k now there.
         let found = loses.lanes k now there in
         left_rests out_may drawn set unseen lost more k used (views ghosts old.disks.items) (views ghosts new.disks.items) found.0.lanes.items now.lanes.items (at k)

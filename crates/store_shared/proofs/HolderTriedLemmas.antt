@@ -29,7 +29,7 @@ use Rattle.term_gate.specs.declared.refusal.OpenRefusal.TheVariants.{AuditFailed
 use Rattle.store_shared.specs.Holders.{AreLost, IsLastUsed, LostServe, SlotRests, TriedRigHolds, spent_numbers}
 use Rattle.store_shared.specs.Opening.{with_out}
 use Rattle.store_shared.proofs.HolderDataLemmas.{KeepSameData, data_goes_on}
-use Rattle.store_shared.proofs.HolderFileLemmas.{EachSparesOthers, each_honest, each_tells, tried_spares_others}
+use Rattle.store_shared.proofs.HolderFileLemmas.{EachSparesOthers, each_honest, each_tells, manifests_on, tried_spares_others}
 use Rattle.store_shared.proofs.HolderLemmas.{none_loose, on_drive}
 use Rattle.store_shared.proofs.HolderOutLemmas.{calm_so_far, count_up, lacks_read, passed_over}
 
@@ -130,7 +130,7 @@ module _ (set : SetPlan) (used lost : ℕ) (old new : List DriveView) (tell : Ea
 -- ---- what counts of the drives stays
 
 -- of one drive, where it does
-counted_same : (unseen : Disks) (lost : ℕ) (old new : List DriveView) (k : ℕ) (name : List ℕ) → (view_at new k).files.kept name ≡ (view_at old k).files.kept name
+pub counted_same : (unseen : Disks) (lost : ℕ) (old new : List DriveView) (k : ℕ) (name : List ℕ) → (view_at new k).files.kept name ≡ (view_at old k).files.kept name
     → counted_on unseen lost new k name ≡ counted_on unseen lost old k name
 counted_same unseen lost old new k name stays = by_bit (bit_and lost (2 ^ k) == 0)
   where
@@ -176,6 +176,7 @@ module _ {D : Type 0} (A : Type 0) (ghosts : Ghosts D) where
           lived = x.lost_are.lived;
           lack = still_none set used lost was now x.disks.tell x.disks.honest x.disks.count x.disks.last x.lost_are serve tried.result tried.opens;
         };
+        manifests = manifests_on set lost was now x.disks.count keep x.manifests;
         slots = λ k of there.
             let found = tried.lanes k of there in
             let rests = x.slots k found.0 found.1 in

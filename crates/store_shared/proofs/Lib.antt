@@ -1,5 +1,4 @@
 pub mod AmongLemmas
-pub mod AmongRunLemmas
 pub mod ApartLemmas
 pub mod ClosingLemmas
 pub mod FitsLemmas
@@ -11,6 +10,7 @@ pub mod HolderKeptLemmas
 pub mod HolderLemmas
 pub mod HolderLostLemmas
 pub mod HolderOutLemmas
+pub mod HolderStruckLemmas
 pub mod HolderTriedLemmas
 pub mod LaterLemmas
 pub mod LawLemmas
@@ -24,6 +24,7 @@ pub mod RiseLemmas
 pub mod SectionLemmas
 pub mod ServeLemmas
 pub mod SharedLemmas
+pub mod StrikingLemmas
 pub mod TermLemmas
 pub mod TrailLemmas
 pub mod TurnedLemmas

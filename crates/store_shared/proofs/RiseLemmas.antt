@@ -32,23 +32,23 @@ module _ {D A : Type 0} (ghosts : Ghosts D) (entries : A → Option (List Entry)
   turns_stay barred.NoMemory log was mid now bars x = subst (λ p. HasTurns ghosts entries count plan k log p now) bars x
 
 module _ {D A T : Type 0} (ghosts : Ghosts D) (entries : A → Option (List Entry)) (count : A → ℕ) (takes breaks : Effect T) (plan : SetPlan) (k : ℕ) (d : PassSeen D A) where
-  pub turns_rise : (log : Log) (old new : Reach D A T) → RanAmong ghosts entries count takes breaks plan log old new → k < length old.passes
-      → HasTurns ghosts entries count plan k log (get_or old.passes k d) (get_or new.passes k d)
+  pub turns_rise : (log : Log) (old new : Reach D A T) → RanAmong ghosts entries count takes breaks plan log old new → k < length old.slots
+      → HasTurns ghosts entries count plan k log (get_or old.slots k d) (get_or new.slots k d)
   turns_rise [] old new ran inside =
-      subst (λ (r : Reach D A T). HasTurns ghosts entries count plan k [] (get_or old.passes k d) (get_or r.passes k d)) (sym ran)
-      (record { turns = []; has = sym (append-nil (get_or old.passes k d).turns); rise = refl; of_log = refl })
+      subst (λ (r : Reach D A T). HasTurns ghosts entries count plan k [] (get_or old.slots k d) (get_or r.slots k d)) (sym ran)
+      (record { turns = []; has = sym (append-nil (get_or old.slots k d).turns); rise = refl; of_log = refl })
   turns_rise (Turned slot made shown ∷ log) old new (mid, step, ran) inside =
-      let passes = ap (λ (r : Reach D A T). r.passes) step.leaves in
+      let passes = ap (λ (r : Reach D A T). r.slots) step.leaves in
       let now : PassSeen D A = record { turns = step.was.turns ++ step.turn ∷ []; seen = step.turn.ticket + 1; spent = false } in
-      let long = ap length passes ∙ length-set old.passes slot now in
+      let long = ap length passes ∙ length-set old.slots slot now in
       let rest = turns_rise log mid new ran (omega (arith, long, inside)) in
       dite (ℕ_discrete slot k)
       (λ same.
-      let was : get_or old.passes k d ≡ step.was = ap (λ n. get_or old.passes n d) (sym same) ∙ step.is.1 d in
-      let mid_is : get_or mid.passes k d ≡ now = ap (λ p. get_or p k d) passes
-      ∙ (ap (λ n. get_or (set old.passes n now) k d) same ∙ get_or-set_same old.passes k now d inside) in
-      let later = subst (λ p. HasTurns ghosts entries count plan k log p (get_or new.passes k d)) mid_is rest in
-      subst (λ p. HasTurns ghosts entries count plan k (Turned slot made shown ∷ log) p (get_or new.passes k d)) (sym was)
+      let was : get_or old.slots k d ≡ step.was = ap (λ n. get_or old.slots n d) (sym same) ∙ step.is.1 d in
+      let mid_is : get_or mid.slots k d ≡ now = ap (λ p. get_or p k d) passes
+      ∙ (ap (λ n. get_or (set old.slots n now) k d) same ∙ get_or-set_same old.slots k now d inside) in
+      let later = subst (λ p. HasTurns ghosts entries count plan k log p (get_or new.slots k d)) mid_is rest in
+      subst (λ p. HasTurns ghosts entries count plan k (Turned slot made shown ∷ log) p (get_or new.slots k d)) (sym was)
       (record {
         turns = step.turn ∷ later.turns;
         has = later.has ∙ append_assoc step.was.turns (step.turn ∷ []) later.turns;
@@ -68,38 +68,38 @@ module _ {D A T : Type 0} (ghosts : Ghosts D) (entries : A → Option (List Entr
         );
       }))
       (λ other.
-      let mid_is : get_or mid.passes k d ≡ get_or old.passes k d = ap (λ p. get_or p k d) passes
-      ∙ get_or-set_other old.passes slot k now d (λ e. other (sym e)) in
-      let later = subst (λ p. HasTurns ghosts entries count plan k log p (get_or new.passes k d)) mid_is rest in
+      let mid_is : get_or mid.slots k d ≡ get_or old.slots k d = ap (λ p. get_or p k d) passes
+      ∙ get_or-set_other old.slots slot k now d (λ e. other (sym e)) in
+      let later = subst (λ p. HasTurns ghosts entries count plan k log p (get_or new.slots k d)) mid_is rest in
       record { turns = later.turns; has = later.has; rise = later.rise; of_log = inl (other, later.of_log) })
   turns_rise (BarredFrom slot why ∷ log) old new (mid, step, ran) inside =
-      let passes = ap (λ (r : Reach D A T). r.passes) step.leaves in
-      let long = ap length passes ∙ length-set old.passes slot step.now in
+      let passes = ap (λ (r : Reach D A T). r.slots) step.leaves in
+      let long = ap length passes ∙ length-set old.slots slot step.now in
       let rest = turns_rise log mid new ran (omega (arith, long, inside)) in
       let on = dite (ℕ_discrete slot k)
       (λ same.
-      let was : get_or old.passes k d ≡ step.was = ap (λ n. get_or old.passes n d) (sym same) ∙ step.is.1 d in
-      let mid_is : get_or mid.passes k d ≡ step.now = ap (λ p. get_or p k d) passes
-      ∙ (ap (λ n. get_or (set old.passes n step.now) k d) same ∙ get_or-set_same old.passes k step.now d inside) in
-      subst (λ p. HasTurns ghosts entries count plan k log p (get_or new.passes k d)) (sym was)
-      (turns_stay ghosts entries count plan k why log step.was step.now (get_or new.passes k d) step.bars
-      (subst (λ p. HasTurns ghosts entries count plan k log p (get_or new.passes k d)) mid_is rest)))
+      let was : get_or old.slots k d ≡ step.was = ap (λ n. get_or old.slots n d) (sym same) ∙ step.is.1 d in
+      let mid_is : get_or mid.slots k d ≡ step.now = ap (λ p. get_or p k d) passes
+      ∙ (ap (λ n. get_or (set old.slots n step.now) k d) same ∙ get_or-set_same old.slots k step.now d inside) in
+      subst (λ p. HasTurns ghosts entries count plan k log p (get_or new.slots k d)) (sym was)
+      (turns_stay ghosts entries count plan k why log step.was step.now (get_or new.slots k d) step.bars
+      (subst (λ p. HasTurns ghosts entries count plan k log p (get_or new.slots k d)) mid_is rest)))
       (λ other.
-      let mid_is : get_or mid.passes k d ≡ get_or old.passes k d = ap (λ p. get_or p k d) passes
-      ∙ get_or-set_other old.passes slot k step.now d (λ e. other (sym e)) in
-      subst (λ p. HasTurns ghosts entries count plan k log p (get_or new.passes k d)) mid_is rest) in
+      let mid_is : get_or mid.slots k d ≡ get_or old.slots k d = ap (λ p. get_or p k d) passes
+      ∙ get_or-set_other old.slots slot k step.now d (λ e. other (sym e)) in
+      subst (λ p. HasTurns ghosts entries count plan k log p (get_or new.slots k d)) mid_is rest) in
       record { turns = on.turns; has = on.has; rise = on.rise; of_log = on.of_log }
   turns_rise (Called drive made ∷ log) old new (mid, step, ran) inside =
-      let on = subst (λ p. HasTurns ghosts entries count plan k log (get_or p k d) (get_or new.passes k d)) step.0
-      (turns_rise log mid new ran (subst (λ p. k < length p) (sym step.0) inside)) in
+      let on = subst (λ p. HasTurns ghosts entries count plan k log (get_or p k d) (get_or new.slots k d)) (ap (λ (r : Reach D A T). r.slots) step.leaves)
+      (turns_rise log mid new ran (subst (λ (r : Reach D A T). k < length r.slots) (sym step.leaves) inside)) in
       record { turns = on.turns; has = on.has; rise = on.rise; of_log = on.of_log }
   turns_rise (Fed bytes cut ∷ log) old new (mid, step, ran) inside =
-      let on = subst (λ p. HasTurns ghosts entries count plan k log (get_or p k d) (get_or new.passes k d)) step.0
-      (turns_rise log mid new ran (subst (λ p. k < length p) (sym step.0) inside)) in
+      let on = subst (λ p. HasTurns ghosts entries count plan k log (get_or p k d) (get_or new.slots k d)) (ap (λ (r : Reach D A T). r.slots) step.leaves)
+      (turns_rise log mid new ran (subst (λ (r : Reach D A T). k < length r.slots) (sym step.leaves) inside)) in
       record { turns = on.turns; has = on.has; rise = on.rise; of_log = on.of_log }
   turns_rise (Told telling cut ∷ log) old new (mid, step, ran) inside =
-      let on = subst (λ p. HasTurns ghosts entries count plan k log (get_or p k d) (get_or new.passes k d)) step.0
-      (turns_rise log mid new ran (subst (λ p. k < length p) (sym step.0) inside)) in
+      let on = subst (λ p. HasTurns ghosts entries count plan k log (get_or p k d) (get_or new.slots k d)) (ap (λ (r : Reach D A T). r.slots) step.leaves)
+      (turns_rise log mid new ran (subst (λ (r : Reach D A T). k < length r.slots) (sym step.leaves) inside)) in
       record { turns = on.turns; has = on.has; rise = on.rise; of_log = on.of_log }
 
 module _ {D A : Type 0} (ghosts : Ghosts D) (entries : A → Option (List Entry)) (count : A → ℕ) where

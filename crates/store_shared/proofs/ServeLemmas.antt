@@ -11,6 +11,7 @@ use Rattle.receipts.specs.Events.{Log, body_of, cuts_of, notes_of, tried_of}
 use Rattle.receipts.specs.Paying.{Pays}
 use Rattle.receipts.proofs.TriedLemmas.{NoneBroke, pay_is_told, pays_broken, pays_cut, pays_uncut, tried_is_told, unbroken}
 use Rattle.op_steps.specs.Claims.{Claim, no_claim}
+use Rattle.op_steps.specs.Going.{PaysFor}
 use Rattle.op_steps.specs.Notes.{notes_by}
 use Rattle.op_steps.specs.Store.{FeedSeen, TellerSeen}
 use Rattle.op_steps.specs.declared.run.Served.{Served}
@@ -21,10 +22,11 @@ use Rattle.store_shared.specs.declared.receipt.Receipt.{Receipt}
 use Rattle.store_shared.proofs.WireLemmas.{NoneFailed, OneFailed, OneEnded, Wires, WiresRan, ended_so, ends_there, gave_all, reads_rise, reads_stay, wires}
 use Rattle.store_shared.proofs.WireTellLemmas.{broke_so, told_all, writes_stay}
 
--- an op that has one task has any that is equal to it
-pub task_is : {O E : Type 0} (of_op : O → Task) (op : Result O E) (a b : Task) → a ≡ b → IfOk op (λ o. of_op o ≡ a) → IfOk op (λ o. of_op o ≡ b)
-task_is of_op (Ok o) a b same is = is ∙ same
-task_is of_op (Err why) a b same is = is
+-- an op that is asked one task pays for any that is equal to it
+pub asked_pays : {O E : Type 0} (set_of : O → SetPlan) (asked : O → Task) (op : Result O E) (a b : Task) → a ≡ b → IfOk op (λ o. asked o ≡ a)
+    → IfOk op (λ o. PaysFor (set_of o) b (λ cut log. Pays (set_of o) (asked o) cut log))
+asked_pays set_of asked (Ok o) a b same is = λ cut log pays. subst (λ task. Pays (set_of o) task cut log) (is ∙ same) pays
+asked_pays set_of asked (Err why) a b same is = is
 
 cut_is : (served : Served) (result : Result Receipt Cut) → IsReceiptOf served result → served.cut ≡ cut_by result
 cut_is served (Ok receipt) is = is.0
@@ -119,7 +121,7 @@ module _ (set : SetPlan) (task : Task) (result : Result Receipt Cut) (Leads : Lo
     left = x.left;
     log = x.log;
     lets_go = x.lets_go;
-    pays = subst (λ cut. Pays set task cut x.log) (cut_is served result is) x.pays;
+    pays = subst (λ cut. Pays set task cut x.log) (cut_is served result is) x.owed;
     ran = x.ran;
     notes = notes_are served result x.log is x.notes;
   }

@@ -1,5 +1,5 @@
 -- What a call among others, served by its op, comes to.
-use Rattle.std.proofs.Common.{◌≡◌, ◌<◌, ℕ, List, Option, inl, refl, subst, arith}
+use Rattle.std.proofs.Common.{◌≡◌, ◌<◌, ℕ, List, Option, ap, inl, refl, subst, arith}
 use Rattle.std.specs.Prelude.{Result}
 use Rattle.audit_trail.specs.declared.entry.Entry.{Entry}
 use Rattle.call_types.specs.declared.feed.Cut.{Cut}
@@ -11,30 +11,52 @@ use Rattle.drive_base.specs.declared.drive.Drive.{Ghosts}
 use Rattle.drive_base.specs.declared.plan.SetPlan.{SetPlan}
 use Rattle.receipts.specs.Events.{Log}
 use Rattle.op_steps.specs.Claims.{Claim, no_claim}
-use Rattle.op_steps.specs.Store.{FeedSeen, TellerSeen}
+use Rattle.op_steps.specs.Store.{FeedSeen, TellerSeen, any_effect, store_of}
 use Rattle.op_steps.specs.declared.run.Served.{Served}
-use Rattle.store_shared.specs.Among.{PassSeen, passes_seen, reach_of}
-use Rattle.store_shared.specs.AmongSteps.{RanAmong}
+use Rattle.store_shared.specs.Among.{PassSeen, Reach, passes_seen}
+use Rattle.store_shared.specs.AmongSteps.{IsBarredAmong, RanAmong, TurnsAmong}
 use Rattle.store_shared.specs.Serving.{AnswersAlone, IsDone, IsReceiptOf, WasServed}
 use Rattle.store_shared.specs.SharedAnswers.{SharedAnswers}
 use Rattle.store_shared.specs.SharedPasses.{drives_of, passes_in, reach_at, set_held, shared_holds}
 use Rattle.store_shared.specs.declared.receipt.Receipt.{Receipt}
 use Rattle.store_shared.specs.declared.shared.SharedPass.{SharedPass}
-use Rattle.store_shared.proofs.AmongRunLemmas.{among_any, among_wired, told_among}
 use Rattle.store_shared.proofs.ServeLemmas.{done_cause, done_serves, op_done}
-use Rattle.store_shared.proofs.WireLemmas.{WiresRan, wires}
+use Rattle.store_shared.proofs.UnitLemmas.{ran_any, told_ran, unseen}
+use Rattle.store_shared.proofs.WireLemmas.{WiresRan, wires, wires_of, wires_ran}
+
+-- a log with some teller is one with a teller of which only the count of faults is seen
+pub among_any : {D A T : Type 0} (ghosts : Ghosts D) (entries : A → Option (List Entry)) (count : A → ℕ) (takes breaks : Effect T) (set : SetPlan) (log : Log)
+    (old new : Reach D A T) → RanAmong ghosts entries count takes breaks set log old new
+    → RanAmong ghosts entries count any_effect any_effect set log (unseen old) (unseen new)
+among_any ghosts entries count takes breaks set =
+    ran_any takes breaks (λ U. TurnsAmong ghosts entries count set) (λ U. IsBarredAmong) set (λ k made shown old new x. record {
+      was = x.was;
+      is = x.is;
+      turn = x.turn;
+      comes = x.comes;
+      disks = x.disks;
+      moves = x.moves;
+      leaves = ap unseen x.leaves;
+    }) (λ k why old new x. record { was = x.was; now = x.now; is = x.is; bars = x.bars; leaves = ap unseen x.leaves })
+
+-- and so it is of the set that the op's is
+pub among_plan : {D A : Type 0} (ghosts : Ghosts D) (entries : A → Option (List Entry)) (count : A → ℕ) (plan set : SetPlan) → plan ≡ set
+    → (log : Log) (old new : Reach D A (Unit {0})) → RanAmong ghosts entries count any_effect any_effect plan log old new
+    → RanAmong ghosts entries count any_effect any_effect set log old new
+among_plan ghosts entries count plan set same log old new ran = subst (λ p. RanAmong ghosts entries count any_effect any_effect p log old new) same ran
 
 module _ {D A T : Type 0} (ghosts : Ghosts D) (entries : A → Option (List Entry)) (count : A → ℕ) (takes breaks : Effect T) (set : SetPlan)
     (feed feed_after : FeedSeen) (teller teller_after : TellerSeen T) (task : Task) (result : Result Receipt Cut) where
   module _ (passes : List (PassSeen D A)) (disks : List DriveView) (passes_after : List (PassSeen D A)) (disks_after : List DriveView) where
     -- a log leads from these passes and drives to those
     abbrev pub AmongLeads : SetPlan → Log → Claim → Claim → Type 0
-    AmongLeads plan log claim later = RanAmong ghosts entries count takes breaks plan log (reach_of passes disks claim feed teller)
-        (reach_of passes_after disks_after later feed_after teller_after)
+    AmongLeads plan log claim later = RanAmong ghosts entries count takes breaks plan log (store_of passes disks claim feed teller)
+        (store_of passes_after disks_after later feed_after teller_after)
 
     shared_wired : (log : Log) (claim later : Claim) → AmongLeads set log claim later → WiresRan takes breaks log (wires feed teller) (wires feed_after teller_after)
-    shared_wired log claim later ran = among_wired ghosts entries count takes breaks set log (reach_of passes disks claim feed teller)
-        (reach_of passes_after disks_after later feed_after teller_after) ran
+    shared_wired log claim later ran = wires_ran takes breaks (TurnsAmong ghosts entries count set) IsBarredAmong set
+        (λ k made shown old new x. ap wires_of x.leaves) (λ k why old new x. ap wires_of x.leaves) log (store_of passes disks claim feed teller)
+        (store_of passes_after disks_after later feed_after teller_after) ran
 
     -- a call that its op did is done so
     shared_done : (plan : SetPlan) (served : Served) (slot : ℕ) → plan ≡ set → slot < 64 → WasServed plan task served slot (AmongLeads plan)
@@ -101,7 +123,7 @@ module _ {D A : Type 0} (ghosts : Ghosts D) (entries : A → Option (List Entry)
     feed_after = x.feed;
     faults = x.faults;
     faults_after = x.faults_after;
-    ran = told_among ghosts entries count (set_held (shared_holds pass)) (passes_seen (passes_in pass)) (views ghosts (drives_of pass)) (no_claim 0) x.feed
+    ran = told_ran (TurnsAmong ghosts entries count (set_held (shared_holds pass))) IsBarredAmong (set_held (shared_holds pass)) (passes_seen (passes_in pass)) (views ghosts (drives_of pass)) (no_claim 0) x.feed
         log x.faults x.faults_after x.told;
     lets_go = inl refl;
     body_is = refl;

@@ -6,14 +6,14 @@ use Rattle.call_types.specs.Feeds.{FeedEnded, FeedView, Gave}
 use Rattle.call_types.specs.declared.feed.Cut.{Cut}
 use Rattle.call_types.specs.declared.feed.Cut.TheVariants as cut_of
 use Rattle.desk_base.specs.Telling.{Effect}
-use Rattle.drive_base.specs.declared.drive.Drive.{Ghosts}
 use Rattle.drive_base.specs.declared.plan.SetPlan.{SetPlan}
 use Rattle.fault_base.specs.Counts.{Rose}
-use Rattle.receipts.specs.Events.{Log, body_of, cuts_of}
+use Rattle.receipts.specs.Events.{Log, Note, Shown, body_of, cuts_of}
 use Rattle.receipts.specs.Events.Event.{BarredFrom, Called, Fed, Told, Turned}
+use Rattle.receipts.specs.declared.barred.Barred.{Barred}
 use Rattle.op_steps.specs.Moves.{FeedMoves, TellMoves}
-use Rattle.op_steps.specs.Steps.{Ran}
-use Rattle.op_steps.specs.Store.{FeedSeen, Store, TellerSeen}
+use Rattle.op_steps.specs.Steps.{RanOver}
+use Rattle.op_steps.specs.Store.{FeedSeen, StoreOver, TellerSeen}
 
 -- a feed and a teller
 pub record Wires (T : Type 0) : Type 0 where
@@ -24,7 +24,7 @@ abbrev pub wires : {T : Type 0} → FeedSeen → TellerSeen T → Wires T
 wires feed teller = record { feed = feed; teller = teller }
 
 -- those of a store
-abbrev pub wires_of : {D T : Type 0} → Store D T → Wires T
+abbrev pub wires_of : {S T : Type 0} → StoreOver S T → Wires T
 wires_of store = wires store.feed store.teller
 
 module _ {T : Type 0} (takes breaks : Effect T) where
@@ -37,14 +37,17 @@ module _ {T : Type 0} (takes breaks : Effect T) where
   WiresRan (Fed bytes cut ∷ log) old new = (mid : FeedSeen) × FeedMoves bytes cut old.feed mid × WiresRan log (wires mid old.teller) new
   WiresRan (Told telling cut ∷ log) old new = (mid : TellerSeen T) × TellMoves takes breaks telling cut old.teller mid × WiresRan log (wires old.feed mid) new
 
-  module _ {D : Type 0} (ghosts : Ghosts D) (set : SetPlan) where
-    -- the steps of a store are such
-    pub wires_ran : (log : Log) (old new : Store D T) → Ran ghosts takes breaks set log old new → WiresRan log (wires_of old) (wires_of new)
+  module _ {S : Type 0} (turns : ℕ → Option Note → Shown → StoreOver S T → StoreOver S T → Type 0)
+      (bars : ℕ → Barred → StoreOver S T → StoreOver S T → Type 0) (set : SetPlan)
+      (turn_stays : (k : ℕ) (made : Option Note) (shown : Shown) (old new : StoreOver S T) → turns k made shown old new → wires_of new ≡ wires_of old)
+      (bar_stays : (k : ℕ) (why : Barred) (old new : StoreOver S T) → bars k why old new → wires_of new ≡ wires_of old) where
+    -- the steps of a store are such, where sections leave both
+    pub wires_ran : (log : Log) (old new : StoreOver S T) → RanOver turns bars takes breaks set log old new → WiresRan log (wires_of old) (wires_of new)
     wires_ran [] old new ran = ap wires_of ran
     wires_ran (Turned k made shown ∷ log) old new (mid, step, ran) =
-        subst (λ w. WiresRan log w (wires_of new)) (ap wires_of step.leaves) (wires_ran log mid new ran)
+        subst (λ w. WiresRan log w (wires_of new)) (turn_stays k made shown old mid step) (wires_ran log mid new ran)
     wires_ran (BarredFrom k why ∷ log) old new (mid, step, ran) =
-        subst (λ w. WiresRan log w (wires_of new)) (ap wires_of step.leaves) (wires_ran log mid new ran)
+        subst (λ w. WiresRan log w (wires_of new)) (bar_stays k why old mid step) (wires_ran log mid new ran)
     wires_ran (Called k made ∷ log) old new (mid, step, ran) =
         subst (λ w. WiresRan log w (wires_of new)) (ap wires_of step.leaves) (wires_ran log mid new ran)
     wires_ran (Fed bytes cut ∷ log) old new (mid, step, ran) =

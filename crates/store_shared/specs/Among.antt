@@ -1,8 +1,6 @@
 -- What one call works on while others work on the same slots: its passes of their locks, and its own ways to the data drives.
 use Rattle.std.specs.Prelude.{◌≡◌, ℕ, ◌+◌, ◌<◌, Bool, true, false, List, [], ◌∷◌, ◌++◌, length, map, slice_index_or, Option, Some, None}
-use Rattle.drive_base.specs.View.{DriveView}
-use Rattle.op_steps.specs.Claims.{Claim}
-use Rattle.op_steps.specs.Store.{FeedSeen, Store, TellerSeen, store_of}
+use Rattle.op_steps.specs.Store.{StoreOver}
 use Rattle.turn_lock.specs.Passes.{is_spent, seen_by, turns_of}
 use Rattle.turn_lock.specs.declared.pass.Pass.{Pass}
 use Rattle.turn_lock.specs.declared.view.Turn.{Turn}
@@ -40,17 +38,5 @@ module _ {D A : Type 0} where
   IsPassAt passes k was = (k < length passes) × ((d : PassSeen D A) → slice_index_or passes k d ≡ was)
 
 -- what one call has: its passes of the locks of the slots, its ways to the data drives, what it holds of both, and its feed and its teller
-pub record Reach (D A T : Type 0) : Type 0 where
-  pub passes : List (PassSeen D A)
-  pub disks : List DriveView
-  pub claim : Claim
-  pub feed : FeedSeen
-  pub teller : TellerSeen T
-
-module _ {D A T : Type 0} where
-  abbrev pub reach_of : List (PassSeen D A) → List DriveView → Claim → FeedSeen → TellerSeen T → Reach D A T
-  reach_of passes disks claim feed teller = record { passes = passes; disks = disks; claim = claim; feed = feed; teller = teller }
-
-  -- all of it but the passes, as a store without slots
-  abbrev pub without_slots : Reach D A T → Store D T
-  without_slots reach = store_of [] reach.disks reach.claim reach.feed reach.teller
+abbrev pub Reach : Type 0 → Type 0 → Type 0 → Type 0
+Reach D A T = StoreOver (List (PassSeen D A)) T

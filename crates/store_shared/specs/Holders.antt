@@ -19,7 +19,7 @@ use Rattle.slot_data.specs.Standing.{DataStands}
 use Rattle.slot_core.specs.Standing.{SlotStands}
 use Rattle.slot_core.specs.Views.{SlotNumbers, last_of}
 use Rattle.slot_core.specs.declared.slot.SlotParts.{SlotParts}
-use Rattle.op_steps.specs.Claims.{Claim, disks_of as counted}
+use Rattle.op_steps.specs.Claims.{Claim, HasHonestManifests, disks_of as counted}
 use Rattle.op_steps.specs.Holding.{StoreHolds}
 use Rattle.op_steps.specs.Laws.{DrivesKeep}
 use Rattle.op_steps.specs.Leading.{Standing}
@@ -77,10 +77,11 @@ module _ {D : Type 0} (tells : D → Bool) (files : D → Files) where
 
 module _ {D A : Type 0} (ghosts : Ghosts D) where
   -- the lanes and data drives of a store hold before it is opened, where these drives are lost and these files stand in their place: each slot rests after
-  -- the last term that an earlier life used, and stands for this
+  -- the last term that an earlier life used, and stands for this; and on the other drives damage of manifests is honest
   pub record RigHolds (set : SetPlan) (used lost : ℕ) (unseen : Disks) (at : ℕ → Standing) (parts : StoreParts D A) : Type 0 where
     pub disks : DrivesRest set used (views ghosts parts.disks.items)
     pub lost_are : AreLost set used lost (views ghosts parts.disks.items)
+    pub manifests : (k : ℕ) → k < set.drives → (IsBitSet lost k → ⊥) → HasHonestManifests (view_at (views ghosts parts.disks.items) k).files
     pub slots : (k : ℕ) (of : SlotParts D A) → ArePartsAt parts.slots.items k of
         → SlotRests ghosts.tells ghosts.files (with_out set lost) k used unseen (views ghosts parts.disks.items) of.lanes.items (at k)
 

@@ -1,6 +1,7 @@
 pub mod Among
 pub mod AmongSteps
 pub mod Answers
+pub mod Finishing
 pub mod Holders
 pub mod Homes
 pub mod Later
@@ -17,5 +18,7 @@ pub mod SharedAnswers
 pub mod SharedLaws
 pub mod SharedPaging
 pub mod SharedPasses
+pub mod Strikes
+pub mod Striking
 pub mod Trails
 pub mod Turned

@@ -1,21 +1,16 @@
 -- How a call is served by its op.
 use Rattle.std.specs.Prelude.{◌≡◌, ◌<◌, ℕ, List, [], ◌∷◌, Option, Some, None, Result, Ok, Err}
-use Rattle.audit_trail.specs.declared.entry.Entry.{Entry}
 use Rattle.call_types.specs.declared.feed.Cut.{Cut}
 use Rattle.desk_base.specs.Answering.{Task}
-use Rattle.desk_base.specs.Telling.{Effect, Telling}
-use Rattle.drive_base.specs.View.{views}
-use Rattle.drive_base.specs.declared.drive.Drive.{Ghosts}
+use Rattle.desk_base.specs.Telling.{Telling}
 use Rattle.drive_base.specs.declared.plan.SetPlan.{SetPlan}
 use Rattle.receipts.specs.Events.{Log, body_of, notes_of, tried_of}
 use Rattle.receipts.specs.Events.Event.{Told}
 use Rattle.receipts.specs.Paying.{Pays}
-use Rattle.slot_core.specs.declared.slot.Slot.{Slot}
 use Rattle.op_steps.specs.Claims.{Claim, no_claim}
-use Rattle.op_steps.specs.Going.{CallDone}
+use Rattle.op_steps.specs.Going.{OpLed}
 use Rattle.op_steps.specs.Moves.{TellMoves}
-use Rattle.op_steps.specs.Notes.{notes_by}
-use Rattle.op_steps.specs.Store.{FeedSeen, TellerSeen, any_effect, slots_seen, store_of}
+use Rattle.op_steps.specs.Store.{FeedSeen, any_effect}
 use Rattle.op_steps.specs.Words.{LetsGo}
 use Rattle.op_steps.specs.declared.run.Served.{Served}
 use Rattle.store_shared.specs.Answers.{NotesAre, any_teller, cut_by}
@@ -26,23 +21,10 @@ abbrev pub IsReceiptOf : Served → Result Receipt Cut → Type 0
 IsReceiptOf served (Ok receipt) = (served.cut ≡ None) × (receipt.stubs.items ≡ served.stubs.items)
 IsReceiptOf served (Err why) = served.cut ≡ Some why
 
-module _ {D A T : Type 0} (ghosts : Ghosts D) (entries : A → Option (List Entry)) (count : A → ℕ) (takes breaks : Effect T) where
-  -- a call was done over slots and data drives, before and after
-  abbrev pub StoreDone : SetPlan → Task → Served → ℕ → FeedSeen → FeedSeen → TellerSeen T → TellerSeen T → List (Slot D A) → List D → List (Slot D A) → List D → Type 0
-  StoreDone set task served slot feed feed_after teller teller_after slots disks slots_after disks_after =
-      CallDone ghosts takes breaks set task served.cut slot
-      (λ claim. store_of (slots_seen entries count slots) (views ghosts disks) claim feed teller)
-      (λ claim. store_of (slots_seen entries count slots_after) (views ghosts disks_after) claim feed_after teller_after) served.stubs.items
-
--- the op of a call was done, of which nothing was held before: a log of its steps leads to what is held then, and pays what the call owes, and its notes are
--- those of the stubs. Where a log leads is said by those whose steps it has
-pub record WasServed (set : SetPlan) (task : Task) (served : Served) (slot : ℕ) (Leads : Log → Claim → Claim → Type 0) : Type 0 where
-  pub left : Claim
-  pub log : Log
-  pub lets_go : LetsGo left log
-  pub pays : Pays set task served.cut log
-  pub ran : Leads log (no_claim slot) left
-  pub notes : notes_by served.stubs.items ≡ notes_of log
+-- the op of a call was done, of which nothing was held before, and its stubs and why it was cut were given. Where its log leads is said by those whose steps
+-- it has
+abbrev pub WasServed : SetPlan → Task → Served → ℕ → (Log → Claim → Claim → Type 0) → Type 0
+WasServed set task served slot Leads = OpLed (Pays set task served.cut) served.stubs.items slot Leads
 
 -- a call was served so, and its notes are the receipt's
 pub record IsDone (set : SetPlan) (task : Task) (result : Result Receipt Cut) (Leads : Log → Claim → Claim → Type 0) : Type 0 where

@@ -1,15 +1,15 @@
 -- What is seen of a shared desk and of its passes, and which passes are the desk's own.
-use Rattle.std.specs.Prelude.{◌≡◌, ℕ, ◌<◌, List, map, option_map, slice_index_or, Option, Some, None}
+use Rattle.std.specs.Prelude.{◌≡◌, ℕ, ◌<◌, List, length, map, option_map, slice_index_or, Option, Some, None}
 use Rattle.atomic_table.specs.Seated.{TableId}
 use Rattle.drive_base.specs.View.{views}
 use Rattle.drive_base.specs.declared.drive.Drive.{Ghosts}
 use Rattle.drive_base.specs.declared.plan.SetPlan.{SetPlan}
 use Rattle.op_steps.specs.Claims.{Claim}
-use Rattle.op_steps.specs.Store.{FeedSeen, TellerSeen}
+use Rattle.op_steps.specs.Store.{FeedSeen, TellerSeen, store_of}
 use Rattle.turn_lock.specs.Passes.{lock_id, lock_of, made_of, made_with, parts_of}
 use Rattle.turn_lock.specs.declared.lock.TurnLock.{TurnLock}
 use Rattle.turn_lock.specs.declared.pass.Pass.{Pass}
-use Rattle.store_shared.specs.Among.{Reach, passes_seen, reach_of}
+use Rattle.store_shared.specs.Among.{Reach, passes_seen}
 use Rattle.store_shared.specs.declared.shared.SharedDesk.{SharedDesk}
 use Rattle.store_shared.specs.declared.shared.SharedPass.{SharedPass}
 use Rattle.store_shared.specs.declared.turned.TurnedSlot.{TurnedSlot}
@@ -70,7 +70,13 @@ module _ {R D A G : Type 0} where
     pub set : set_held held ≡ set_of_desk desk
     pub locks : AreOfLocks (locks_of desk) held.passes
 
+  -- by these passes a call on a store over this set reaches all slots of the desk
+  pub record ReachesAll (desk : SharedDesk R D A G) (set : SetPlan) (passes : List (Option (Pass (TurnedSlot D A)))) : Type 0 where
+    pub set_is : set ≡ set_of_desk desk
+    pub count : length passes ≡ 64
+    pub locks : AreOfLocks (locks_of desk) (passes_hold passes)
+
 module _ {D A T : Type 0} (ghosts : Ghosts D) where
   -- what a call has that is served over a pass and holds this
   abbrev pub reach_at : SharedPass D A → FeedSeen → TellerSeen T → Claim → Reach D A T
-  reach_at pass feed teller claim = reach_of (passes_seen (passes_in pass)) (views ghosts (drives_of pass)) claim feed teller
+  reach_at pass feed teller claim = store_of (passes_seen (passes_in pass)) (views ghosts (drives_of pass)) claim feed teller

@@ -1,9 +1,10 @@
 //! The serving of each call by its op.
 
 ghost use Rattle.std.specs.Prelude.{◌≡◌, ◌<◌, ℕ, [], IfOk};
-ghost use Rattle.desk_base.specs.Answering.{CutCause, Serves, Task};
-ghost use Rattle.desk_base.specs.Calls.{IsFeedOf, IsLawful};
+ghost use Rattle.desk_base.specs.Answering.{CutCause, Serves};
+ghost use Rattle.desk_base.specs.Calls.{IsFeedOf, IsLawful, stated_length};
 ghost use Rattle.op_steps.specs.Claims.{no_claim};
+ghost use Rattle.op_steps.specs.Going.{PaysFor};
 ghost use Rattle.bucket_book.specs.Limits.{moment_limit};
 
 use crate::later::refuse_later;
@@ -14,16 +15,17 @@ use call_types::{Cut, Feed};
 use desk_base::{Call, Teller};
 use fault_base::NoMemory;
 use list_ops::PageOp;
-use object_ops::{DeleteOp, GetOp, HeadOp, PutOp};
+use object_ops::{DeedOp, GetOp, HeadOp, PutOp};
 use op_steps::Op;
 use std::alloc::Global;
 
-/// Serves a call by its op, which has done nothing yet. Where there was no memory for it the call is cut, and nothing is done.
+/// Serves a call, made in this Unix second, by its op, which has done nothing yet. Where there was no memory for it the call is cut, and nothing is done.
 fn serve<S: OpDesk, O: Op + Drop, F: Feed, T: Teller>(
     desk: &S,
     alloc: Global,
     pass: &mut S::Pass,
     call: &Call,
+    now: u64,
     op: Result<O, NoMemory>,
     feed: &mut F,
     teller: &mut T,
@@ -32,15 +34,17 @@ fn serve<S: OpDesk, O: Op + Drop, F: Feed, T: Teller>(
     requires set { IfOk op (λ op. O.set op ≡ S.set (S.holds pass.old)) }
     requires taken { IfOk op (λ op. O.taken op ≡ 0) }
     requires begins { IfOk op (λ op. (slot : ℕ) × (slot < 64) × O.stands op (no_claim slot) []) }
-    requires feed { IfOk op (λ op. IsFeedOf (F.seen feed.old) (O.task op).call) }
+    requires stated { IfOk op (λ op. O.stated (O.asked op) ≡ stated_length call.now) }
+    requires pays { IfOk op (λ op. PaysFor (O.set op) (record { call = call.now; now = now }) (O.owed (O.set op) (O.asked op))) }
+    requires feed { IsFeedOf (F.seen feed.old) call.now }
     ensures holds { S.holds pass.new ≡ S.holds pass.old }
-    ensures serves { (task : Task) → IfOk op (λ op. O.task op ≡ task) → Serves T.takes T.breaks
-        (λ body tale. S.answers desk.now task pass.old pass.new body tale result)
-        task.call result (F.seen feed.old) (F.seen feed.new) teller.old teller.new }
+    ensures serves { Serves T.takes T.breaks
+        (λ body tale. S.answers desk.now (record { call = call.now; now = now }) pass.old pass.new body tale result)
+        call.now result (F.seen feed.old) (F.seen feed.new) teller.old teller.new }
     ensures cause { CutCause result (F.seen feed.new) (F.faults feed.old) (F.faults feed.new) (T.faults teller.old) (T.faults teller.new) }
 {
     match op {
-        Ok(mut op) => desk.serve_op(alloc, pass, call, &mut op, feed, teller),
+        Ok(mut op) => desk.serve_op(alloc, pass, call, now, &mut op, feed, teller),
         Err(_) => {
             desk.told_alone();
             Err(Cut::NoMemory)
@@ -72,35 +76,35 @@ pub(crate) fn serve_call<S: OpDesk, F: Feed, T: Teller>(
     match call {
         Call::ListBuckets => {
             let op = ListOp::new(alloc, set, now);
-            serve(desk, alloc, pass, call, op, feed, teller)
+            serve(desk, alloc, pass, call, now, op, feed, teller)
         }
         Call::HeadBucket { .. } | Call::GetVersioning { .. } => {
             let op = LookOp::new(alloc, set, call, now);
-            serve(desk, alloc, pass, call, op, feed, teller)
+            serve(desk, alloc, pass, call, now, op, feed, teller)
         }
         Call::CreateBucket { .. } | Call::PutVersioning { .. } => {
             let op = ChangeOp::new(alloc, set, call, now);
-            serve(desk, alloc, pass, call, op, feed, teller)
+            serve(desk, alloc, pass, call, now, op, feed, teller)
         }
         Call::Put { .. } => {
             let op = PutOp::new(alloc, set, call, now);
-            serve(desk, alloc, pass, call, op, feed, teller)
+            serve(desk, alloc, pass, call, now, op, feed, teller)
         }
         Call::Get { .. } => {
             let op = GetOp::new(alloc, set, call, now);
-            serve(desk, alloc, pass, call, op, feed, teller)
+            serve(desk, alloc, pass, call, now, op, feed, teller)
         }
         Call::Head { .. } => {
             let op = HeadOp::new(alloc, set, call, now);
-            serve(desk, alloc, pass, call, op, feed, teller)
+            serve(desk, alloc, pass, call, now, op, feed, teller)
         }
         Call::Delete { .. } => {
-            let op = DeleteOp::new(alloc, set, call, now);
-            serve(desk, alloc, pass, call, op, feed, teller)
+            let op = DeedOp::new(alloc, set, call, now);
+            serve(desk, alloc, pass, call, now, op, feed, teller)
         }
         Call::List2 { .. } | Call::ListVersions { .. } => {
             let op = PageOp::new(alloc, set, call, now);
-            serve(desk, alloc, pass, call, op, feed, teller)
+            serve(desk, alloc, pass, call, now, op, feed, teller)
         }
         Call::Create { .. } | Call::Part { .. } | Call::Complete { .. } | Call::Abort { .. } =>
             refuse_later(desk, pass, alloc, call, now, feed, teller),

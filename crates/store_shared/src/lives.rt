@@ -8,6 +8,7 @@ ghost use Rattle.store_shared.specs.Holders.{
   OpenedStoreHolds,
   TriedRigHolds,
 };
+ghost use Rattle.store_shared.specs.Strikes.{StruckRigHolds};
 
 use audit_trail::Audit;
 use drive_base::Drive;
@@ -40,4 +41,13 @@ pub fn opened_law<D: Drive, A: Audit>()
     fresh_law();
     resting_laws();
     opening_laws();
+}
+
+/// Lanes and data drives that hold go on to, where drives are struck by trouble or stop between two lives: each tells and keeps as before, its files that were
+/// being written stay or are gone, what it shows stays honest, and the term is still kept. It does nothing.
+pub fn struck_law<D: Drive, A: Audit>()
+    ensures { StruckRigHolds A D.Drive }
+{
+    out_law();
+    fresh_data_law();
 }

@@ -3,10 +3,11 @@
 ghost use Rattle.std.specs.Prelude.{◌≡◌, ◌<◌, ℕ, List, [], Result};
 ghost use Rattle.call_types.specs.declared.feed.Cut.{Cut};
 ghost use Rattle.desk_base.specs.Answering.{CutCause, Serves, Task};
-ghost use Rattle.desk_base.specs.Calls.{IsFeedOf};
+ghost use Rattle.desk_base.specs.Calls.{IsFeedOf, stated_length};
 ghost use Rattle.desk_base.specs.Telling.{Telling};
 ghost use Rattle.drive_base.specs.declared.plan.SetPlan.{SetPlan};
 ghost use Rattle.op_steps.specs.Claims.{no_claim};
+ghost use Rattle.op_steps.specs.Going.{PaysFor};
 ghost use Rattle.store_shared.specs.Serving.{AnswersAlone};
 ghost use Rattle.store_shared.specs.declared.receipt.Receipt.{Receipt};
 
@@ -41,12 +42,13 @@ pub(crate) trait OpDesk {
     fn set_in(&self, pass: &Self::Pass) -> SetPlan
         ensures { result ≡ set (holds pass.now) };
 
-    /// Serves a call by its op, which has done nothing yet.
+    /// Serves a call, made in this Unix second, by its op, which has done nothing yet.
     fn serve_op<O: Op, F: Feed, T: Teller>(
         &self,
         alloc: Global,
         pass: &mut Self::Pass,
         call: &Call,
+        now: u64,
         op: &mut O,
         feed: &mut F,
         teller: &mut T,
@@ -55,11 +57,13 @@ pub(crate) trait OpDesk {
         requires set { O.set op.old ≡ set (holds pass.old) }
         requires taken { O.taken op.old ≡ 0 }
         requires begins { (slot : ℕ) × (slot < 64) × O.stands op.old (no_claim slot) [] }
-        requires feed { IsFeedOf (F.seen feed.old) (O.task op.old).call }
+        requires stated { O.stated (O.asked op.old) ≡ stated_length call.now }
+        requires pays { PaysFor (O.set op.old) (record { call = call.now; now = now }) (O.owed (O.set op.old) (O.asked op.old)) }
+        requires feed { IsFeedOf (F.seen feed.old) call.now }
         ensures holds { holds pass.new ≡ holds pass.old }
         ensures serves { Serves T.takes T.breaks
-            (λ body tale. answers self.now (O.task op.old) pass.old pass.new body tale result)
-            (O.task op.old).call result (F.seen feed.old) (F.seen feed.new) teller.old teller.new }
+            (λ body tale. answers self.now (record { call = call.now; now = now }) pass.old pass.new body tale result)
+            call.now result (F.seen feed.old) (F.seen feed.new) teller.old teller.new }
         ensures cause { CutCause result (F.seen feed.new) (F.faults feed.old) (F.faults feed.new) (T.faults teller.old) (T.faults teller.new) };
 
     /// A call that is served by tellings alone is answered so, and its pass stays. It does nothing.

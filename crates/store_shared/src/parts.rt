@@ -38,6 +38,13 @@ impl<D, A> PlainPass<D, A> {
         }
     }
 
+    /// The set, with the drives that are out in this life.
+    pub fn set(&self) -> SetPlan
+        ensures { result ≡ set_of self.now }
+    {
+        self.set
+    }
+
     /// Gives the slots and drives back.
     pub fn into_parts(self) -> PassParts<D, A>
         ensures set { result.set ≡ set_of self }

@@ -9,7 +9,7 @@ use Rattle.store_shared.specs.Turned.{SlotName}
 use Rattle.store_shared.specs.declared.turned.TurnedSlot.{TurnedSlot}
 use Rattle.store_shared.proofs.AmongLemmas.{bar_goes, turn_goes}
 use Rattle.store_shared.proofs.TurnedLemmas.{desk_name, refused_seen, turn_seen}
-use Rattle.store_shared.proofs.shared.SharedDesk.turn.Goals as goal
+use Rattle.store_shared.proofs.shared.SharedDesk.turn_by.Goals as goal
 
 pub section-stub-requires-clause-next : goal.section-stub-requires-clause-next
 section-stub-requires-clause-next g c =

@@ -1,0 +1,29 @@
+-- What trouble does to a pass: it befalls the lane of one index in each slot, and the data drive of this index.
+use Rattle.std.specs.Prelude.{◌≡◌, ℕ, ◌<◌, Bool, List, length, slice_index_or}
+use Rattle.drive_base.specs.declared.drive.Drive.{Ghosts}
+use Rattle.slot_core.specs.Opening.{Strikes}
+use Rattle.slot_core.specs.Views.{audit_of, holding_of, lanes_of, numbers_of}
+use Rattle.slot_core.specs.declared.slot.Slot.{Slot}
+
+module _ {D T : Type 0} (ghosts : Ghosts D) (befalls : T → D → Bool → D → Type 0) where
+  -- a trouble befell the lane of this index in one slot, and all else of the slot stays; in the first slot it is as it was given, in a later one as the
+  -- strikes before left it
+  pub record SlotIsStruck {A : Type 0} (index place : ℕ) (given : T) (was now : Slot D A) : Type 0 where
+    pub trouble : T
+    pub first : place ≡ 0 → trouble ≡ given
+    pub struck : Bool
+    pub strikes : Strikes ghosts.tells ghosts.files ghosts.count befalls index trouble (lanes_of was) struck (lanes_of now)
+    pub numbers : numbers_of now ≡ numbers_of was
+    pub holding : holding_of now ≡ holding_of was
+    pub audit : audit_of now ≡ audit_of was
+
+  -- so it was in each of these slots
+  pub record AreStruckAt {A : Type 0} (index : ℕ) (given : T) (old new : List (Slot D A)) : Type 0 where
+    pub count : length new ≡ length old
+    pub each : (k : ℕ) (d : Slot D A) → k < length old → SlotIsStruck index k given (slice_index_or old k d) (slice_index_or new k d)
+
+  -- a trouble befell one data drive, of which no call was made, and the others stay
+  pub record DiskIsStruck (index : ℕ) (struck : Bool) (old new : List D) : Type 0 where
+    pub trouble : T
+    pub strikes : Strikes ghosts.tells ghosts.files ghosts.count befalls index trouble old struck new
+    pub trail : (d : D) → ghosts.trail (slice_index_or new index d) ≡ ghosts.trail (slice_index_or old index d)
