@@ -6,7 +6,7 @@ ghost use Rattle.desk_base.specs.Calls.{IsLawful, stated_length};
 use crate::asks;
 use desk_base::Call;
 use drive_base::SetPlan;
-use object_ops::{DeleteOp, GetOp, HeadOp, PutOp};
+use object_ops::{DeedOp, GetOp, HeadOp, PutOp};
 use op_steps::{Op, OpNext};
 use receipts::Barred;
 use std::alloc::Global;
@@ -22,7 +22,7 @@ pub struct Callers {
     pub head: Option<Caller<HeadOp>>,
     pub get: Option<Caller<GetOp>>,
     pub put: Option<Caller<PutOp>>,
-    pub delete: Option<Caller<DeleteOp>>,
+    pub delete: Option<Caller<DeedOp>>,
 }
 
 impl Callers {
@@ -62,7 +62,7 @@ impl Callers {
                 self.put = Some(Caller::new(alloc, op, *set, source));
             }
             Call::Delete { .. } => {
-                let op = DeleteOp::new(alloc, *set, call, NOW)?;
+                let op = DeedOp::new(alloc, *set, call, NOW)?;
                 self.delete = Some(Caller::new(alloc, op, *set, source));
             }
             _ => return Err(NoAnswer),
@@ -124,6 +124,10 @@ impl Callers {
                 self.begin(alloc, names, store.set, words)?;
                 self.go(alloc, store, "end", kind, 0)
             }
+            "commits" => match &self.put {
+                Some(caller) => yes(alloc, caller.op.at_commit()),
+                None => said(alloc, "no such op"),
+            },
             _ => self.go(alloc, store, step, kind, number(rest)),
         }
     }

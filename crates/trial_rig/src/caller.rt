@@ -1,7 +1,6 @@
 //! A call that is served step by step.
 
 ghost use Rattle.std.specs.Prelude.{◌≡◌};
-ghost use Rattle.desk_base.specs.Calls.{stated_length};
 
 use crate::{RecordingTeller, Source};
 use drive_base::SetPlan;
@@ -19,6 +18,6 @@ pub struct Caller<O: Op> {
     /// Its teller.
     pub teller: RecordingTeller,
     pub ghost set_is: { O.set op ≡ set },
-    pub ghost stated_is: { source.stated ≡ stated_length (O.task op).call },
+    pub ghost stated_is: { source.stated ≡ O.stated (O.asked op) },
     pub ghost given_is: { source.given ≡ O.taken op },
 }

@@ -1,7 +1,6 @@
 //! The steps of a call.
 
 ghost use Rattle.std.specs.Prelude.{◌≡◌};
-ghost use Rattle.desk_base.specs.Calls.{stated_length};
 ghost use Rattle.op_steps.specs.declared.next.OpNext.TheVariants as next;
 
 use crate::outcomes::say_stub;
@@ -31,7 +30,7 @@ impl<O: Op> Caller<O> {
     /// A call whose op has done nothing yet.
     pub fn new(alloc: Global, op: O, set: SetPlan, source: Source) -> Caller<O>
         requires set { O.set op ≡ set }
-        requires stated { source.stated ≡ stated_length (O.task op).call }
+        requires stated { source.stated ≡ O.stated (O.asked op) }
         requires given { source.given ≡ O.taken op }
     {
         let teller = RecordingTeller {
