@@ -14,14 +14,14 @@ use Rattle.manifest_file.specs.declared.manifest.Manifest.{Manifest}
 use Rattle.stamp_id.specs.declared.version.VersionId.{VersionId}
 use Rattle.shard_file.specs.Shards.{table_of}
 use Rattle.body_print.specs.Shards.{AreShards}
-use Rattle.put_stage.specs.Beginning.{BeginsBody, BeginsManifest, HasFirstLetters, IsFirstLoad}
-use Rattle.put_stage.specs.Called.{CalledBefore}
+use Rattle.put_stage.specs.Loads.{BeginsBody, BeginsManifest, HasFirstLetters, IsFirstLoad}
+use Rattle.put_stage.specs.CallsSoFar.{CalledBefore}
 use Rattle.put_stage.specs.Cells.{DataCells}
-use Rattle.put_stage.specs.Coding.{all_bytes, block_at}
+use Rattle.put_stage.specs.StripeBlocks.{all_bytes, block_at}
 use Rattle.put_stage.specs.Dues.{is_early}
-use Rattle.put_stage.specs.Finishing.{IsOfManifest}
-use Rattle.put_stage.specs.Taking.{HasTaken, IsMadeOf}
-use Rattle.put_stage.specs.Working.{AtWork, Blocks, HasBy, HasNoneLoose, IsBefore, IsOpen, due_at, writing}
+use Rattle.put_stage.specs.StagedBodies.{IsOfManifest}
+use Rattle.put_stage.specs.TakenBodies.{HasTaken, IsMadeOf}
+use Rattle.put_stage.specs.Work.{AtWork, Blocks, HasBy, HasNoneLoose, IsBefore, IsOpen, due_at, writing}
 use Rattle.put_stage.specs.declared.dues.Due.{Due}
 use Rattle.put_stage.specs.declared.dues.Due.TheVariants.{Table, Manifest as DueManifest, Nothing}
 use Rattle.put_stage.specs.declared.stage.Load.{Load}

@@ -17,10 +17,10 @@ use Rattle.file_access.specs.Writing.{Appended, HasLoose, PlacedOrTouched, StepC
 use Rattle.shard_file.specs.Shards.{shard_bytes, table_of}
 use Rattle.body_print.specs.Names.{shard_name, manifest_name, loose_shard_name, loose_manifest_name}
 use Rattle.put_stage.specs.Cells.{DataCells, data_of}
-use Rattle.put_stage.specs.Coding.{all_bytes}
+use Rattle.put_stage.specs.StripeBlocks.{all_bytes}
 use Rattle.put_stage.specs.Dues.{after}
-use Rattle.put_stage.specs.Stepping.{HasAfter, LacksFor, LetterOf}
-use Rattle.put_stage.specs.Working.{Blocks, HasBy, HasFailedAt, IsBefore, IsOfDrive, Keeps, all_placed, half_placed, held_shard, unsynced_file, writing}
+use Rattle.put_stage.specs.Steps.{HasAfter, LacksFor, LetterOf}
+use Rattle.put_stage.specs.Work.{Blocks, HasBy, HasFailedAt, IsBefore, IsOfDrive, Keeps, all_placed, half_placed, held_shard, unsynced_file, writing}
 use Rattle.put_stage.specs.declared.stage.Load.{Load}
 use Rattle.put_stage.specs.declared.dues.Due.{Due}
 use Rattle.put_stage.specs.declared.dues.Due.TheVariants.{Block, Table, SyncShard, Manifest, SyncManifest, PlaceManifest, PlaceShard}

@@ -9,7 +9,7 @@ use Rattle.drive_base.specs.Trail.{DriveCall, Append, Rename, Sync}
 use Rattle.drive_base.specs.View.{DriveView}
 use Rattle.file_access.specs.Trails.{AnswerOf}
 use Rattle.put_stage.specs.Calls.{CallsDue, IsDueCall}
-use Rattle.put_stage.specs.Coding.{all_bytes, block_at}
+use Rattle.put_stage.specs.StripeBlocks.{all_bytes, block_at}
 use Rattle.put_stage.specs.declared.dues.Due.{Due}
 use Rattle.put_stage.specs.declared.dues.Due.TheVariants.{Block, Table, SyncShard, Manifest, SyncManifest, PlaceManifest, PlaceShard}
 use Rattle.put_stage.specs.declared.stage.Load.{Load}

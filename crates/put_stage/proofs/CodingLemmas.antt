@@ -13,8 +13,8 @@ use Rattle.shard_file.proofs.StripeLemmas.{blocks_reach, length-padded}
 use Rattle.shard_file.specs.Stripes.{block_size, padded, piece, pieces}
 use Rattle.body_print.specs.Shards.{AreStripeBlocks}
 use Rattle.sha2.specs.Sha256.{sha256}
-use Rattle.put_stage.specs.Coding.{IsCoded}
-use Rattle.put_stage.specs.declared.stripes.Stripe.{Stripe}
+use Rattle.put_stage.specs.StripeBlocks.{IsCoded}
+use Rattle.put_stage.specs.declared.windows.Stripe.{Stripe}
 
 -- byte k of a piece
 pub byte_of_piece : (size r k : ℕ) (bytes : List ℕ) → k < size → slice_index (piece size bytes r) k ≡ slice_index bytes (size * r + k)

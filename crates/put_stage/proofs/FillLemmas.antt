@@ -1,6 +1,6 @@
 -- What a fill leaves: further stripes, and their blocks to be appended.
 use Rattle.std.proofs.Common.{◌≡◌, ◌≢◌, ◌∙◌, ℕ, ◌+◌, ◌*◌, ◌<◌, ◌≤◌, true, false, List, [], ◌∷◌, ◌++◌, length, map, take, drop, slice_index_or, slice_set, below_more, Option, Some, None, ap, refl, subst, sym, inl, inr, arith, append_assoc, append-nil}
-use Rattle.std.specs.Prelude.{◌⊎◌, ◌%◌, ◌==◌, if◌then◌else◌, Bool, Vec}
+use Rattle.std.specs.Prelude.{if◌then◌else◌, ◌⊎◌, ◌%◌, ◌==◌, Bool, Vec}
 use Rattle.std.specs.List.{concat}
 use Rattle.std.specs.Io.KnownBytes.{append_known, prepend_known}
 use Rattle.std.proofs.lemmas.List.{get_or-map, get_or-set_other, get_or-set_same, length-append, length-map, map-set}
@@ -17,16 +17,16 @@ use Rattle.shard_file.specs.Shards.{table_of}
 use Rattle.shard_file.specs.Stripes.{stripe_size}
 use Rattle.body_print.specs.Shards.{AreShards}
 use Rattle.put_stage.specs.Cells.{DataCells}
-use Rattle.put_stage.specs.Coding.{all_bytes, block_at}
+use Rattle.put_stage.specs.StripeBlocks.{all_bytes, block_at}
 use Rattle.put_stage.specs.Dues.{is_block, is_early}
-use Rattle.put_stage.specs.Filling.{AreDueAfter}
-use Rattle.put_stage.specs.Stepping.{MayFill}
+use Rattle.put_stage.specs.Fills.{AreDueAfter}
+use Rattle.put_stage.specs.Steps.{MayFill}
 use Rattle.stamp_id.specs.declared.version.VersionId.{VersionId}
-use Rattle.put_stage.specs.Called.{AppendsShard, CalledBefore, CallsGoOn}
+use Rattle.put_stage.specs.CallsSoFar.{AppendsShard, CalledBefore, CallsGoOn}
 use Rattle.put_stage.proofs.SoFarLemmas.{early_table, more_due}
-use Rattle.put_stage.specs.Taking.{Filled, GaveUpTo, HasTaken, IsMadeOf, IsSameTask, TookWindow, WorkGoesOn}
+use Rattle.put_stage.specs.TakenBodies.{Filled, GaveUpTo, HasTaken, IsMadeOf, IsSameTask, TookWindow, WorkGoesOn}
 use Rattle.put_stage.specs.Windows.{AreWholeStripes, IsNextLength, IsWindow, window_size, window_stripes, with_shards}
-use Rattle.put_stage.specs.Working.{Blocks, HasBy, HasFailedAt, IsBefore, due_at, why_at}
+use Rattle.put_stage.specs.Work.{Blocks, HasBy, HasFailedAt, IsBefore, due_at, why_at}
 use Rattle.put_stage.specs.declared.dues.Due.{Due}
 use Rattle.put_stage.specs.declared.dues.Due.TheVariants.{Block, Table, SyncShard, Manifest, SyncManifest, PlaceManifest, PlaceShard, Nothing}
 use Rattle.put_stage.specs.declared.stage.Load.{Load}

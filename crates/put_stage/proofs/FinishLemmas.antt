@@ -16,20 +16,20 @@ use Rattle.shard_file.specs.Shards.{root_of, table_of}
 use Rattle.body_print.proofs.ShardLemmas.{shards_have_their_blocks}
 use Rattle.body_print.specs.Prints.{HasPrint, IsCutOf}
 use Rattle.put_stage.specs.Cells.{DataCells, data_of}
-use Rattle.put_stage.specs.Coding.{block_at}
+use Rattle.put_stage.specs.StripeBlocks.{block_at}
 use Rattle.put_stage.specs.Dues.{is_nothing}
-use Rattle.put_stage.specs.Finishing.{StagesBody, StagesManifestAlone}
-use Rattle.put_stage.specs.Holding.{HoldsBody}
+use Rattle.put_stage.specs.StagedBodies.{StagesBody, StagesManifestAlone}
+use Rattle.put_stage.specs.HeldBodies.{HoldsBody}
 use Rattle.put_stage.specs.Outcomes.{Acknowledges, Answers}
-use Rattle.put_stage.specs.Stepping.{HasDone, MayFinish}
-use Rattle.put_stage.specs.Taking.{HasTaken, manifest_in}
-use Rattle.put_stage.specs.Working.{AtWork, Blocks, HasBy, all_placed, due_at, why_at}
+use Rattle.put_stage.specs.Steps.{HasDone, MayFinish}
+use Rattle.put_stage.specs.TakenBodies.{HasTaken, manifest_in}
+use Rattle.put_stage.specs.Work.{AtWork, Blocks, HasBy, all_placed, due_at, why_at}
 use Rattle.put_stage.specs.declared.dues.Due.{Due}
 use Rattle.put_stage.specs.declared.dues.Due.TheVariants.{Block, Table, SyncShard, Manifest as DueManifest, SyncManifest, PlaceManifest, PlaceShard, Nothing}
 use Rattle.put_stage.specs.declared.stage.Load.{Load}
 use Rattle.put_stage.specs.declared.stage.Stage.{Stage}
-use Rattle.put_stage.specs.declared.staged.Staged.{Staged}
-use Rattle.put_stage.specs.declared.staged.StageFault.{StageFault}
+use Rattle.put_stage.specs.declared.answers.Staged.{Staged}
+use Rattle.put_stage.specs.declared.answers.StageFault.{StageFault}
 use Rattle.put_stage.proofs.ManifestLemmas.{canonical_of_tables, roots_of_tables}
 
 -- no other call is none
@@ -147,6 +147,7 @@ finished_body stage (Ok staged) may agrees told = λ body shards taken.
     let made = taken.made may.whole in
     record {
       print = one_part stage.load body staged.print shards taken may.whole told.print;
+      printed = told.print ∙ made.print;
       long = told.long ∙ omega (arith, taken.long, may.whole);
       etag = told.etag ∙ made.etag;
       agrees = λ given is. agrees given is ∙ made.etag;

@@ -4,13 +4,13 @@ use Rattle.call_types.specs.declared.why.FileKind.TheVariants.{Format, Register,
 use Rattle.call_types.specs.declared.why.Why.{Why}
 use Rattle.call_types.specs.declared.why.Why.TheVariants.{Good, Failed, Damaged, Behind, Lacks}
 use Rattle.put_stage.specs.Cells.{DataCells}
-use Rattle.put_stage.specs.Coding.{block_at}
+use Rattle.put_stage.specs.StripeBlocks.{block_at}
 use Rattle.put_stage.specs.Dues.{is_early}
 use Rattle.put_stage.specs.Laws.{OpenStagesPlaceNothing, SuccessIsAnswered, WorkOutlivesOthers}
-use Rattle.put_stage.specs.Working.{AtWork, Blocks, HasBy, HasFailedAt, IsBefore, Keeps, due_at, why_at}
+use Rattle.put_stage.specs.Work.{AtWork, Blocks, HasBy, HasFailedAt, IsBefore, Keeps, due_at, why_at}
 use Rattle.put_stage.specs.declared.dues.Due.{Due}
 use Rattle.put_stage.specs.declared.dues.Due.TheVariants.{Block, Table, SyncShard, Manifest, SyncManifest, PlaceManifest, PlaceShard, Nothing}
-use Rattle.put_stage.specs.declared.staged.StageFault.TheVariants.{WriteQuorum, BadDigest, BodyCut, ReadFault, NoMemory}
+use Rattle.put_stage.specs.declared.answers.StageFault.TheVariants.{WriteQuorum, BadDigest, BodyCut, ReadFault, NoMemory}
 use Rattle.put_stage.proofs.CallLemmas.{keeps_writing}
 
 -- a drive that did all calls before an early one

@@ -9,8 +9,8 @@ use Rattle.call_types.specs.declared.why.Why.{Why}
 use Rattle.call_types.specs.declared.why.Why.TheVariants.{Good}
 use Rattle.put_stage.specs.Dues.{after, is_block, is_nothing}
 use Rattle.put_stage.specs.Left.{calls_from, calls_if, calls_left, calls_on, sum_below}
-use Rattle.put_stage.specs.Stepping.{IsAfter, IsDue}
-use Rattle.put_stage.specs.Working.{due_at, why_at}
+use Rattle.put_stage.specs.Steps.{IsAfter, IsDue}
+use Rattle.put_stage.specs.Work.{due_at, why_at}
 use Rattle.put_stage.specs.declared.dues.Due.{Due}
 use Rattle.put_stage.specs.declared.dues.Due.TheVariants.{Block, Table, SyncShard, Manifest, SyncManifest, PlaceManifest, PlaceShard, Nothing}
 use Rattle.put_stage.specs.declared.stage.Load.{Load}

@@ -16,8 +16,8 @@ use Rattle.manifest_file.specs.Spelling.{file_of}
 use Rattle.md5.specs.Md5.{md5}
 use Rattle.sha2.specs.Sha256.{sha256}
 use Rattle.std.specs.String.{string_bytes}
-use Rattle.put_stage.specs.Coding.{all_bytes}
-use Rattle.put_stage.specs.Taking.{IsMadeOf}
+use Rattle.put_stage.specs.StripeBlocks.{all_bytes}
+use Rattle.put_stage.specs.TakenBodies.{IsMadeOf}
 use Rattle.put_stage.specs.declared.stage.Load.{Load}
 use Rattle.put_stage.specs.declared.stage.Made.{Made}
 use Rattle.put_stage.specs.Manifests.{part_size}

@@ -1,5 +1,5 @@
 -- The calls of a drive so far, and one more.
-use Rattle.std.proofs.Common.{◌≡◌, ◌≢◌, ◌∙◌, ◌<◌, ℕ, true, false, List, [], ◌∷◌, ◌++◌, Some, append-nil, append_assoc, ap, ap₂, arith, length, map, refl, slice_index_or, slice_set, subst, subst₂, sym, inl, inr}
+use Rattle.std.proofs.Common.{◌≡◌, ◌∙◌, ◌<◌, ℕ, true, false, List, [], ◌∷◌, ◌++◌, append-nil, append_assoc, ap, ap₂, arith, length, refl, slice_index_or, subst, sym}
 use Rattle.std.specs.Prelude.{Result, Ok, Err}
 use Rattle.std.specs.List.{concat}
 use Rattle.std.proofs.lemmas.List.{get_or-set_same, map_push}
@@ -11,21 +11,19 @@ use Rattle.stamp_id.specs.declared.version.VersionId.{VersionId}
 use Rattle.drive_base.specs.Trail.{DriveCall, Append, Rename, Sync}
 use Rattle.drive_base.specs.declared.fault.DriveFault.{DriveFault}
 use Rattle.body_print.specs.Names.{loose_manifest_name, loose_shard_name, manifest_name, shard_name}
-use Rattle.body_print.specs.Staging.{appends, shard_calls, staging_calls}
+use Rattle.body_print.specs.Staging.{appends, staging_calls}
 use Rattle.shard_file.specs.Shards.{shard_bytes, table_of}
 use Rattle.file_access.specs.Trails.{AnswerOf}
-use Rattle.put_stage.specs.Called.{AppendsShard, CalledBefore, CalledSo, StepCallsElsewhere, StepCallsSo, WroteShard}
+use Rattle.put_stage.specs.CallsSoFar.{AppendsShard, CalledBefore, StepCallsElsewhere, StepCallsSo, WroteShard}
 use Rattle.put_stage.specs.Calls.{IsDueCall}
-use Rattle.put_stage.specs.Coding.{all_bytes, block_at}
+use Rattle.put_stage.specs.StripeBlocks.{all_bytes, block_at}
 use Rattle.put_stage.specs.Dues.{after, is_block, is_early}
-use Rattle.put_stage.specs.Placed.{AllCallsAreStaging}
-use Rattle.put_stage.specs.Stepping.{IsAfter, IsDue}
-use Rattle.put_stage.specs.Working.{IsOfDrive, IsOpen, due_at, why_at}
+use Rattle.put_stage.specs.Laws.{AllCallsAreStaging}
+use Rattle.put_stage.specs.Work.{IsOpen, due_at, why_at}
 use Rattle.put_stage.specs.declared.dues.Due.{Due}
 use Rattle.put_stage.specs.declared.dues.Due.TheVariants.{Block, Table, SyncShard, Manifest, SyncManifest, PlaceManifest, PlaceShard, Nothing}
 use Rattle.put_stage.specs.declared.stage.Load.{Load}
-use Rattle.put_stage.specs.declared.stage.Stage.{Stage}
-use Rattle.put_stage.proofs.StepLemmas.{only_good, open_block, other_due, other_why}
+use Rattle.put_stage.proofs.StepLemmas.{open_block, other_due, other_why}
 
 -- the one early call that is no block's
 pub early_table : (due : Due) → is_early due ≡ true → is_block due ≡ false → due ≡ Table

@@ -3,18 +3,20 @@ use Rattle.std.proofs.Common.{◌≡◌, ◌≢◌, ◌∙◌, ℕ, ◌<◌, tru
 use Rattle.std.specs.Prelude.{◌⊎◌, Bool, IsTrue, Result, Ok, Err}
 use Rattle.std.specs.Int.{IsBitSet}
 use Rattle.std.proofs.lemmas.Bool.{cases_eq}
-use Rattle.std.proofs.lemmas.List.{get_or_default, get_or-set_other, get_or-set_same}
+use Rattle.std.proofs.lemmas.List.{get_or_default, get_or-set_other, get_or-set_same, length-set}
 use Rattle.call_types.specs.Good.{is_good}
 use Rattle.call_types.specs.declared.why.Why.{Why}
 use Rattle.call_types.specs.declared.why.Why.TheVariants.{Good, Failed, Damaged, Behind, Lacks}
 use Rattle.drive_base.specs.declared.drive.Drive.{Ghosts}
-use Rattle.drive_base.specs.View.{view}
+use Rattle.drive_base.specs.View.{AllGoOn, GoesOn, view, views}
+use Rattle.drive_base.proofs.ViewLemmas.{at_each_view}
+use Rattle.file_access.proofs.EachLemmas.{set_each}
 use Rattle.put_stage.specs.Calls.{CallsDue}
 use Rattle.put_stage.specs.Cells.{DataCells, Spares, data_of}
-use Rattle.put_stage.specs.Coding.{block_at}
+use Rattle.put_stage.specs.StripeBlocks.{block_at}
 use Rattle.put_stage.specs.Dues.{after, is_block, is_early, is_nothing}
-use Rattle.put_stage.specs.Stepping.{HasAfter, HasAppended, HasDone, IsAfter, IsDue, IsFirst, LetterOf, StepWorks, Stepped}
-use Rattle.put_stage.specs.Working.{AtWork, Blocks, Disagrees, HasBy, IsBefore, IsOfDrive, IsOpen, due_at, why_at}
+use Rattle.put_stage.specs.Steps.{HasAfter, HasAppended, HasDone, IsAfter, IsDue, IsFirst, LetterOf, StepWorks, Stepped}
+use Rattle.put_stage.specs.Work.{AtWork, Blocks, Disagrees, HasBy, IsBefore, IsOfDrive, IsOpen, due_at, why_at}
 use Rattle.put_stage.specs.declared.dues.Due.{Due}
 use Rattle.put_stage.specs.declared.dues.Due.TheVariants.{Block, Table, SyncShard, Manifest, SyncManifest, PlaceManifest, PlaceShard, Nothing}
 use Rattle.put_stage.specs.declared.stage.Load.{Load}
@@ -232,3 +234,13 @@ module _ {D : Type 0} (ghosts : Ghosts D) (k : ℕ) (old new : Stage) (before : 
             subst (λ (x : D). AtWork new blocks place first (data_of id (ghosts.files x))) (sym (get_or-set_other before k place now d apart))
             (works_on_others answer k place old new blocks first (data_of id (ghosts.files (slice_index_or before place d))) apart stage load at)
       ]
+
+-- of drives of which one went on, each did
+pub one_goes_on : {D : Type 0} (ghosts : Ghosts D) (drives : List D) (k : ℕ) (default now : D) → k < length drives
+    → GoesOn (view ghosts (slice_index_or drives k default)) (view ghosts now) → AllGoOn (views ghosts drives) (views ghosts (slice_set drives k now))
+one_goes_on {D} ghosts drives k default now low on =
+    let each : (i : ℕ) (d : D) → GoesOn (view ghosts (slice_index_or drives i d)) (view ghosts (slice_index_or (slice_set drives k now) i d)) =
+    set_each D (λ (i : ℕ) (a b : D). GoesOn (view ghosts a) (view ghosts b)) drives drives k now low
+    (λ d. subst (λ (a : D). GoesOn (view ghosts a) (view ghosts now)) (get_or_default drives k default d low) on)
+    (λ i d. record { tells = refl; count = omega arith }) in
+    at_each_view ghosts (λ i. GoesOn) drives (slice_set drives k now) (length-set drives k now) (λ i d within. each i d)

@@ -14,10 +14,10 @@ use Rattle.shard_file.specs.Stripes.{block_size, data_blocks, piece, pieces, str
 use Rattle.body_print.specs.Shards.{AreShards, AreStripeBlocks}
 use Rattle.body_print.proofs.ShardLemmas.{stripe_of}
 use Rattle.sha2.specs.Sha256.{sha256}
-use Rattle.put_stage.specs.Coding.{IsCoded}
+use Rattle.put_stage.specs.StripeBlocks.{IsCoded}
 use Rattle.put_stage.specs.Windows.{IsWindow, data_run, data_runs}
-use Rattle.put_stage.specs.declared.stripes.Stripe.{Stripe}
-use Rattle.put_stage.specs.declared.window.Window.{Window}
+use Rattle.put_stage.specs.declared.windows.Stripe.{Stripe}
+use Rattle.put_stage.specs.declared.windows.Window.{Window}
 use Rattle.put_stage.proofs.CodingLemmas.{byte_of_piece, column_of_blocks, piece_ends, piece_of_front}
 
 -- lists of one length, joined

@@ -2,7 +2,7 @@
 use Rattle.std.specs.Prelude.{ℕ, ◌+◌, ◌*◌, Bool, true, false}
 use Rattle.std.proofs.Common.{zero, suc}
 use Rattle.call_types.specs.Good.{is_good}
-use Rattle.put_stage.specs.Working.{due_at, why_at}
+use Rattle.put_stage.specs.Work.{due_at, why_at}
 use Rattle.put_stage.specs.declared.dues.Due.{Due}
 use Rattle.put_stage.specs.declared.dues.Due.TheVariants.{Block, Table, SyncShard, Manifest, SyncManifest, PlaceManifest, PlaceShard, Nothing}
 use Rattle.put_stage.specs.declared.stage.Stage.{Stage}

@@ -11,9 +11,9 @@ use Rattle.drive_base.specs.Plan.{write_drives}
 use Rattle.drive_base.specs.declared.plan.SetPlan.{SetPlan}
 use Rattle.manifest_file.specs.declared.manifest.Manifest.{Manifest}
 use Rattle.manifest_file.specs.declared.manifest.ManifestPart.{ManifestPart}
-use Rattle.put_stage.specs.declared.staged.Staged.{Staged}
-use Rattle.put_stage.specs.declared.staged.StageFault.{StageFault}
-use Rattle.put_stage.specs.declared.staged.StageFault.TheVariants.{WriteQuorum, BadDigest, BodyCut, ReadFault, NoMemory}
+use Rattle.put_stage.specs.declared.answers.Staged.{Staged}
+use Rattle.put_stage.specs.declared.answers.StageFault.{StageFault}
+use Rattle.put_stage.specs.declared.answers.StageFault.TheVariants.{WriteQuorum, BadDigest, BodyCut, ReadFault, NoMemory}
 
 -- the manifest of a body that is one part
 abbrev pub manifest_of : SetPlan → VersionId → List ℕ → ℕ → List (List ℕ) → Manifest

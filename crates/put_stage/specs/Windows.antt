@@ -1,11 +1,11 @@
 -- Windows: successive whole stripes, or one stripe, whose blocks are appended by one call a drive.
-use Rattle.std.specs.Prelude.{◌≡◌, ◌⊎◌, ℕ, ◌*◌, ◌%◌, ◌<◌, ◌≤◌, List, [], ◌++◌, length, map, take, drop, slice_index_or, ◌==◌, if◌then◌else◌}
+use Rattle.std.specs.Prelude.{if◌then◌else◌, ◌≡◌, ◌⊎◌, ℕ, ◌*◌, ◌%◌, ◌<◌, ◌≤◌, List, [], ◌++◌, length, map, take, drop, slice_index_or, ◌==◌}
 use Rattle.std.specs.List.{concat, range_with_len}
 use Rattle.sha2.specs.Sha256.{sha256}
 use Rattle.body_print.specs.Shards.{AreShards}
 use Rattle.shard_file.specs.Stripes.{data_blocks, piece, stripe_size}
-use Rattle.put_stage.specs.Coding.{block_at}
-use Rattle.put_stage.specs.declared.window.Window.{Window}
+use Rattle.put_stage.specs.StripeBlocks.{block_at}
+use Rattle.put_stage.specs.declared.windows.Window.{Window}
 
 -- the fewest stripes of n blocks that fill lanes of four with none idle
 abbrev pub window_stripes : ℕ → ℕ

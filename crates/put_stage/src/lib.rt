@@ -15,20 +15,14 @@
 #![tactic(auto)]
 
 mod answers;
-mod coding;
 mod dues;
-mod filling;
-mod finishing;
-mod laws;
-mod making;
+mod fills;
+mod loads;
 mod manifests;
-mod names;
 mod stage;
-mod staged;
-mod stepping;
-mod stripes;
-mod window;
+mod steps;
+mod windows;
 
-pub use laws::stage_laws;
+pub use answers::{StageFault, Staged};
 pub use stage::{Stage, StageNext};
-pub use staged::{StageFault, Staged};
+pub use steps::stage_laws;

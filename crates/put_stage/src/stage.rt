@@ -1,17 +1,56 @@
-//! A stage: what it writes, and how far it has come on each drive.
+//! A stage: the names of its files, what it writes, and how far it has come on each drive.
 
-ghost use Rattle.std.specs.Prelude.{◌≡◌, ◌+◌, ◌*◌, ◌<◌, ◌≤◌, ◌^◌, ℕ, true, false, length, slice_index_or, string_bytes};
+ghost use Rattle.std.specs.Prelude.{◌≡◌, IfOk, ◌*◌, ◌<◌, ◌≤◌, ◌^◌, ℕ, true, false, length, slice_index_or, string_bytes};
+ghost use Rattle.body_print.specs.Names.{shard_name, manifest_name, loose_shard_name, loose_manifest_name};
 ghost use Rattle.std.specs.Int.{IsBitSet};
 ghost use Rattle.call_types.specs.Good.{is_good};
 ghost use Rattle.call_types.specs.declared.why.Why.TheVariants.{Good};
 ghost use Rattle.manifest_file.specs.Limits.{most_part_bytes};
 
 use crate::dues::Due;
-use crate::names::Names;
-use crate::window::Window;
+use crate::windows::Window;
+use body_print::{loose_name_of_manifest, loose_name_of_shard, name_of_manifest, name_of_shard};
 use call_types::Whys;
 use drive_base::SetPlan;
 use md5::Md5;
+use stamp_id::VersionId;
+use std::alloc::{AllocError, Global};
+
+/// The names of the files of one id, and the loose names under which they are written.
+#[derive(Drop)]
+pub struct Names {
+    /// The id.
+    pub id: VersionId,
+    /// The name of the shard file.
+    pub shard: String,
+    /// The name of the manifest.
+    pub manifest: String,
+    /// The loose name of the shard file.
+    pub loose_shard: String,
+    /// The loose name of the manifest.
+    pub loose_manifest: String,
+    pub ghost shard_is: { string_bytes shard ≡ shard_name id },
+    pub ghost manifest_is: { string_bytes manifest ≡ manifest_name id },
+    pub ghost loose_shard_is: { string_bytes loose_shard ≡ loose_shard_name id },
+    pub ghost loose_manifest_is: { string_bytes loose_manifest ≡ loose_manifest_name id },
+}
+
+/// The names of the files of an id.
+pub fn names_of(alloc: Global, id: VersionId) -> Result<Names, AllocError>
+    ensures { IfOk result (λ names. names.id ≡ id) }
+{
+    let shard = name_of_shard(alloc, id)?;
+    let manifest = name_of_manifest(alloc, id)?;
+    let loose_shard = loose_name_of_shard(alloc, id)?;
+    let loose_manifest = loose_name_of_manifest(alloc, id)?;
+    Ok(Names {
+        id,
+        shard,
+        manifest,
+        loose_shard,
+        loose_manifest,
+    })
+}
 
 /// What is made once the body is whole.
 #[derive(Drop)]

@@ -3,11 +3,11 @@ use Rattle.std.proofs.Common.{◌≡◌, ◌∙◌, ap, refl, sym, inl, arith, l
 use Rattle.std.specs.Prelude.{Ok, Err}
 use Rattle.std.proofs.lemmas.List.{get_or_default}
 use Rattle.put_stage.specs.Dues.{after}
-use Rattle.put_stage.specs.Working.{due_at}
+use Rattle.put_stage.specs.Work.{due_at}
 use Rattle.put_stage.specs.declared.dues.Due.{Due}
 use Rattle.put_stage.specs.declared.dues.Due.TheVariants.{Block, Nothing}
 use Rattle.put_stage.proofs.LeftLemmas.{fewer_after}
-use Rattle.put_stage.proofs.StepLemmas.{bad_letter, step_works, stepped}
+use Rattle.put_stage.proofs.StepLemmas.{bad_letter, one_goes_on, step_works, stepped}
 use Rattle.put_stage.proofs.stage.Stage.step.Goals as goal
 
 pub returns-in-Ok-clause-once : goal.returns-in-Ok-clause-once
@@ -78,3 +78,13 @@ returns-in-Err-clause-fewer g c = λ place is.
     let places : length old.dues ≡ 16 = omega arith in
     fewer_after (Err c.in-Err.why) k old _ places c.in-Some.ensures.0 (c.set.ensures, refl) refl
     (bad_letter c.in-Err.why _ _ _ _ _ c.in-Err.ensures.letter)
+
+pub returns-in-Ok-clause-drives : goal.returns-in-Ok-clause-drives
+returns-in-Ok-clause-drives g c =
+    one_goes_on g.D.Drive c.args.drives.now c.in-Some.index c.index-drives-index.result c.call_on.new.drive
+    (omega (arith, c.requires, c.in-Some.ensures.0.within)) c.call_on.ensures.goes_on
+
+pub returns-in-Err-clause-drives : goal.returns-in-Err-clause-drives
+returns-in-Err-clause-drives g c =
+    one_goes_on g.D.Drive c.args.drives.now c.in-Some.index c.index-drives-index.result c.call_on.new.drive
+    (omega (arith, c.requires, c.in-Some.ensures.0.within)) c.call_on.ensures.goes_on

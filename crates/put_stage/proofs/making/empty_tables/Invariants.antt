@@ -1,6 +1,0 @@
-use Rattle.std.proofs.Common.{◌≡◌, [], replicate}
-use Rattle.put_stage.specs.Coding.{all_bytes}
-use Rattle.put_stage.proofs.making.empty_tables.Given as goal
-
-abbrev pub invariant-loop-made : goal.invariant-loop-made
-invariant-loop-made l = all_bytes l.tables.items ≡ replicate l.made []
