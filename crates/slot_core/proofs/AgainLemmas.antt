@@ -1,12 +1,12 @@
 -- What lanes stand for after a change that a look found pending was written again: the same state, or that after its late step.
-use Rattle.std.proofs.Common.{◌≡◌, ◌⊎◌, ◌≤◌, ◌∙◌, ℕ, List, [], ◌∷◌, Contains, false, bytes_eq, sym, ap, subst, refl, inl, inr, arith}
+use Rattle.std.proofs.Common.{◌≡◌, ◌≤◌, ◌∙◌, ℕ, List, [], ◌∷◌, Contains, false, bytes_eq, sym, ap, subst, refl, inl, inr}
 use Rattle.vote_core.specs.Lane.{Next}
 use Rattle.vote_core.specs.Laws.{DrawingKeeps, FreshIsCalm}
 use Rattle.register_caller.specs.Leaving.{LeavesLanes, Written, written_of}
 use Rattle.register_caller.specs.Settling.{IsPending}
 use Rattle.slot_history.specs.Laws.{OnlyTheOld}
 use Rattle.slot_history.specs.Sections.{IsOnItsWay}
-use Rattle.slot_history.specs.Standing.{Stands, WaitsAs}
+use Rattle.slot_history.specs.Standing.{WaitsAs}
 use Rattle.slot_history.specs.State.{IsHeld, Register, State, Waiting}
 use Rattle.slot_history.specs.Waiting.{AreLate, IsLate}
 use Rattle.slot_history.specs.Writing.{WritesUnder}

@@ -14,12 +14,12 @@ use Rattle.slot_data.specs.Moves.{with_pins}
 use Rattle.slot_data.specs.Rows.{pinned_of}
 use Rattle.slot_data.specs.declared.rows.FlightRow.{FlightRow}
 use Rattle.slot_data.specs.declared.rows.PinRow.{PinRow}
-use Rattle.slot_core.specs.Reading.{IsNewTicket, PinIsListed, ReadCause, ReadGave}
+use Rattle.slot_core.specs.ReadSection.{IsNewTicket, PinIsListed, ReadCause, ReadGave}
 use Rattle.slot_core.specs.Sections.{ReadHolds}
 use Rattle.slot_core.specs.Views.{SlotNumbers}
-use Rattle.slot_core.specs.declared.fault.SlotFault.{SlotFault}
-use Rattle.slot_core.specs.declared.fault.SlotFault.TheVariants.{Quorum, Key as KeyFault, SeqSpent, AuditFailed, NoMemory, NotInFlight}
-use Rattle.slot_core.specs.declared.reading.ReadStart.{ReadStart}
+use Rattle.slot_core.specs.declared.slot.SlotFault.{SlotFault}
+use Rattle.slot_core.specs.declared.slot.SlotFault.TheVariants.{Quorum, Key as KeyFault, SeqSpent, AuditFailed, NoMemory, NotInFlight}
+use Rattle.slot_core.specs.declared.read_plan.ReadStart.{ReadStart}
 use Rattle.slot_core.proofs.LaneLemmas.{with_turns}
 use Rattle.slot_core.proofs.PeekLemmas.{completes_turned}
 

@@ -10,8 +10,8 @@ use Rattle.slot_history.specs.Moving.{drawn_by}
 use Rattle.slot_history.specs.Standing.{Records}
 use Rattle.slot_history.specs.State.{Register, State}
 use Rattle.slot_history.proofs.MemberLemmas.{other_is_other, same_or_other}
-use Rattle.slot_core.specs.Calming.{DeedCalms, HasBegun, HasMade, IsBegun, IsCalmUnder, MadeIn, OnlyLooked, SectionCalms, StaysUnder}
-use Rattle.slot_core.specs.Carrying.{entry_at}
+use Rattle.slot_core.specs.Calm.{DeedCalms, HasBegun, HasMade, IsBegun, IsCalmUnder, MadeIn, OnlyLooked, SectionCalms, StaysUnder}
+use Rattle.slot_core.specs.CommitOutcome.{entry_at}
 use Rattle.slot_core.proofs.LaneLemmas.{with_lanes, with_lanes_writes}
 
 -- what nothing was done to

@@ -35,10 +35,10 @@ use Rattle.slot_rules.specs.declared.site.Drawn.{Drawn}
 use Rattle.slot_rules.specs.declared.site.Site.{Site}
 use Rattle.slot_rules.specs.declared.telling.Tale.{Tale}
 use Rattle.slot_rules.specs.declared.telling.Told.{Told}
-use Rattle.slot_core.specs.Calming.{IsCalmUnder, OnlyLooked}
-use Rattle.slot_core.specs.Carrying.{DeedLeaves, EntryLeaves, Lands, answer_of, entry_at, kept_with}
-use Rattle.slot_core.specs.Committing.{DeedTrash, MayCommitData, ShowsTrash}
-use Rattle.slot_core.specs.Settling.{Settled, numbers_at}
+use Rattle.slot_core.specs.Calm.{IsCalmUnder, OnlyLooked}
+use Rattle.slot_core.specs.CommitOutcome.{DeedLeaves, EntryLeaves, Lands, answer_of, entry_at, kept_with}
+use Rattle.slot_core.specs.Commits.{DeedTrash, MayCommitData, ShowsTrash}
+use Rattle.slot_core.specs.Settlement.{Settled, numbers_at}
 use Rattle.slot_core.specs.Standing.{LanesHave, SlotStands}
 use Rattle.slot_core.specs.Views.{last_of, quorum_of}
 use Rattle.slot_core.proofs.CalmingLemmas.{entry_calms, idle_calms, wrote_stays}

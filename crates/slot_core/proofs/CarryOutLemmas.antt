@@ -1,5 +1,5 @@
 -- What carrying out a plan tells, and from which calls its outcome comes.
-use Rattle.std.proofs.Common.{◌≡◌, ◌≢◌, ◌⊎◌, ◌≤◌, ◌+◌, ◌∙◌, ℕ, List, [], Option, None, Some, Result, Ok, Err, ap, subst, sym, refl, inl, inr, arith}
+use Rattle.std.proofs.Common.{◌≡◌, ◌≤◌, ◌+◌, ◌∙◌, ℕ, List, [], Option, None, Some, Result, Ok, Err, ap, subst, sym, refl, inl, inr, arith}
 use Rattle.std.proofs.lemmas.List.{append-nil}
 use Rattle.std.specs.Prelude.{◌++◌, Bool, ⊤, IfSome, MatchOption, string_bytes}
 use Rattle.call_types.specs.Refusals.{refusal_of}
@@ -12,9 +12,8 @@ use Rattle.drive_base.specs.declared.plan.SetPlan.{SetPlan}
 use Rattle.stamp_id.specs.declared.stamp.Ballot.{Ballot}
 use Rattle.stamp_id.specs.declared.stamp.ChangeId.{ChangeId}
 use Rattle.stamp_id.specs.declared.version.VersionId.{VersionId}
-use Rattle.audit_trail.specs.declared.entry.Entry.{Entry}
 use Rattle.register_file.specs.declared.record.Next.{Next}
-use Rattle.register_core.specs.Drafts.{IsDraftAfterDraft, IsDraftAfterLook, IsDraftOf}
+use Rattle.register_core.specs.Drafts.{IsDraftOf}
 use Rattle.register_core.specs.Found.{content_of}
 use Rattle.register_core.specs.declared.drafts.Draft.{Draft}
 use Rattle.register_core.specs.declared.faults.QuorumFault.{QuorumFault}
@@ -32,14 +31,14 @@ use Rattle.slot_rules.specs.declared.ready.Ready.{Ready}
 use Rattle.slot_rules.specs.declared.site.Drawn.{Drawn}
 use Rattle.slot_rules.specs.declared.site.Site.{Site}
 use Rattle.slot_rules.specs.declared.telling.Tale.{Tale}
-use Rattle.slot_core.specs.Carrying.{CallsCarry, CallsOwn, CallsOwnWrites, IsTold, IsToldDone, deed_told, entry_at, entry_told}
-use Rattle.slot_core.specs.CarryingOut.{IsOwnOver, OwnFits, PlanFits}
-use Rattle.slot_core.specs.Committing.{GoneByAnswer}
-use Rattle.slot_core.specs.Looked.{CallsForward}
-use Rattle.slot_core.specs.Settling.{FirstIs}
-use Rattle.slot_core.specs.declared.carrying.Outcome.{Outcome}
-use Rattle.slot_core.specs.declared.carrying.Outcome.TheVariants.{Begun, Done, Kept, LacksMemory}
-use Rattle.slot_core.specs.declared.fault.SlotFault.{SlotFault}
+use Rattle.slot_core.specs.CommitOutcome.{CallsCarry, CallsOwnWrites, IsTold, IsToldDone, deed_told, entry_at, entry_told}
+use Rattle.slot_core.specs.CommitWrite.{IsOwnOver, OwnFits, PlanFits}
+use Rattle.slot_core.specs.Commits.{GoneByAnswer}
+use Rattle.slot_core.specs.RegisterLook.{CallsForward}
+use Rattle.slot_core.specs.Settlement.{FirstIs}
+use Rattle.slot_core.specs.declared.commit_write.Outcome.{Outcome}
+use Rattle.slot_core.specs.declared.commit_write.Outcome.TheVariants.{Begun, Done, Kept, LacksMemory}
+use Rattle.slot_core.specs.declared.slot.SlotFault.{SlotFault}
 use Rattle.slot_core.proofs.SettlingLemmas.{first_found}
 
 -- ---- plans

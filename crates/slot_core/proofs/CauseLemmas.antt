@@ -27,8 +27,8 @@ use Rattle.slot_rules.specs.declared.rules.TheConstants.{BUCKET_BYTES, KEY_BYTES
 use Rattle.slot_rules.specs.declared.site.Drawn.{Drawn}
 use Rattle.slot_rules.specs.declared.site.Site.{Site}
 use Rattle.slot_core.specs.Causes.{Completes, LookCause, LookGave}
-use Rattle.slot_core.specs.Looked.{CallsForward, DraftFits, LooksAt, WritesFirst, late_of}
-use Rattle.slot_core.specs.Settling.{FirstIs, IsReady, numbers_at}
+use Rattle.slot_core.specs.RegisterLook.{CallsForward, DraftFits, LooksAt, WritesFirst, late_of}
+use Rattle.slot_core.specs.Settlement.{FirstIs, IsReady, numbers_at}
 use Rattle.slot_core.proofs.SettlingLemmas.{first_found, first_none}
 
 -- the rule of a register's contents, by whether it is a bucket's

@@ -19,7 +19,7 @@ use Rattle.audit_trail.specs.declared.entry.Deed.{Deed}
 use Rattle.audit_trail.specs.declared.entry.Deed.TheVariants.{Done as DoneDeed, Kept as KeptDeed, Refused as RefusedDeed}
 use Rattle.call_types.specs.declared.act.Brief.TheVariants.{Answer}
 use Rattle.slot_rules.specs.Deeds.{call_of, name_of}
-use Rattle.slot_rules.specs.Owning.{IsOwnChange, IsOwnDraft, IsOwnOf, again_takes, own_seq}
+use Rattle.slot_rules.specs.Owning.{IsOwnChange, IsOwnDraft, IsOwnOf, again_takes, life_at, own_seq}
 use Rattle.slot_rules.specs.Planning.{DoesOver}
 use Rattle.slot_rules.specs.Plans.{IsPlan, IsPlanBy, IsTale, PlansNone, PlansOwn}
 use Rattle.slot_rules.specs.declared.commit.Commit.{Commit}
@@ -30,13 +30,13 @@ use Rattle.slot_rules.specs.declared.site.Drawn.{Drawn}
 use Rattle.slot_rules.specs.declared.site.Site.{Site}
 use Rattle.slot_rules.specs.declared.telling.Tale.{Tale}
 use Rattle.slot_rules.specs.declared.telling.Told.{Told}
-use Rattle.slot_core.specs.Carrying.{CallsCarry, CallsOwn, answer_of, answer_told, deed_told}
+use Rattle.slot_core.specs.CommitOutcome.{CallsCarry, CallsOwn, answer_of, answer_told, deed_told}
 use Rattle.slot_core.specs.CommitCauses.{CommitCause, FoundSo, IsChangeAt, IsOwnChangeOf, IsRuleOf, LookRefused, OwnIsWritten, WroteSo, own_deed}
-use Rattle.slot_core.specs.Finishing.{FinishCalls}
-use Rattle.slot_core.specs.Looked.{CallsForward, LooksAt}
-use Rattle.slot_core.specs.Settling.{IsReady, numbers_at}
-use Rattle.slot_core.specs.declared.carrying.Outcome.{Outcome}
-use Rattle.slot_core.specs.declared.carrying.Outcome.TheVariants.{Begun, Done, Kept, LacksMemory}
+use Rattle.slot_core.specs.CommitPlan.{FinishCalls}
+use Rattle.slot_core.specs.RegisterLook.{CallsForward, LooksAt}
+use Rattle.slot_core.specs.Settlement.{IsReady, numbers_at}
+use Rattle.slot_core.specs.declared.commit_write.Outcome.{Outcome}
+use Rattle.slot_core.specs.declared.commit_write.Outcome.TheVariants.{Begun, Done, Kept, LacksMemory}
 use Rattle.slot_core.proofs.CauseLemmas.{cause_of_forward, gave_of, writes_have_memory}
 use Rattle.slot_core.proofs.SettlingLemmas.{first_found, first_none}
 use Rattle.slot_core.proofs.TurnLemmas.{forward_has_memory}
@@ -61,7 +61,7 @@ module _ {D : Type 0} (tells : D → Bool) (files : D → Files) (count : D → 
   -- ---- own changes that were written
 
   change_at : (site : Site) (drawn : Drawn) (last : ℕ) (put : Option VersionId) (change : ChangeId) (ballot : ℕ) → drawn.seq ≤ last → ballot ≡ own_seq last put
-      → IsOwnChange site last put change → IsChangeAt (numbers_at site drawn) ballot put change
+      → IsOwnChange (life_at site) last put change → IsChangeAt (numbers_at site drawn) ballot put change
   change_at site drawn last None change ballot low is own = (own.0, let same = own.1 in omega arith, let same = own.1 in omega arith)
   change_at site drawn last (Some id) change ballot low is own = own
 

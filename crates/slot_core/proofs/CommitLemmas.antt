@@ -1,6 +1,6 @@
 -- What a commit leaves, by the entry that it wrote.
-use Rattle.std.proofs.Common.{◌≡◌, ◌≢◌, ◌⊎◌, ◌∙◌, ℕ, List, [], ◌++◌, map, Option, None, Some, Result, Ok, Err, All, Contains, length, ap, subst, sym, refl, inl, inr}
-use Rattle.std.specs.Prelude.{Bool, MatchOption, ⊤}
+use Rattle.std.proofs.Common.{◌≡◌, ◌∙◌, ℕ, List, [], ◌++◌, Option, None, Some, Result, Err, All, ap, subst, sym, refl, inl, inr}
+use Rattle.std.specs.Prelude.{Bool, MatchOption}
 use Rattle.std.proofs.lemmas.List.{append-nil}
 use Rattle.drive_base.specs.Files.{Files}
 use Rattle.stamp_id.specs.declared.version.VersionId.{VersionId}
@@ -8,13 +8,11 @@ use Rattle.audit_trail.specs.declared.entry.Deed.{Deed}
 use Rattle.audit_trail.specs.Entries.{with_entry}
 use Rattle.audit_trail.specs.declared.entry.Deed.TheVariants.{Kept as KeptDeed}
 use Rattle.audit_trail.specs.declared.entry.Entry.{Entry}
-use Rattle.fault_base.specs.Counts.{Rose}
-use Rattle.slot_history.specs.Contents.{NamedData, number_of_id}
 use Rattle.slot_history.specs.Standing.{Flying, Records}
-use Rattle.slot_history.specs.State.{State, TakesOut}
+use Rattle.slot_history.specs.State.{State}
 use Rattle.slot_data.specs.Bringing.{GoOn}
 use Rattle.slot_data.specs.Disks.{Disks}
-use Rattle.slot_data.specs.Holding.{Hands, Holding, IsInFlight}
+use Rattle.slot_data.specs.Holding.{Hands, Holding}
 use Rattle.slot_data.specs.Standing.{DataStands}
 use Rattle.slot_data.specs.declared.rows.FlightRow.{FlightRow}
 use Rattle.slot_rules.specs.Deeds.{name_of}
@@ -23,25 +21,26 @@ use Rattle.slot_rules.specs.declared.commit.Commit.{Commit}
 use Rattle.slot_rules.specs.declared.commit.Committed.{Committed}
 use Rattle.slot_rules.specs.declared.site.Drawn.{Drawn}
 use Rattle.slot_rules.specs.declared.site.Site.{Site}
-use Rattle.slot_core.specs.Carrying.{EntryLeaves, FitsPut, Lands, answer_told, entry_at, entry_told, kept_with}
+use Rattle.slot_core.specs.CommitOutcome.{EntryLeaves, FitsPut, Lands, answer_told, entry_at, entry_told, kept_with}
 use Rattle.slot_core.specs.CommitCauses.{CommitCause}
-use Rattle.slot_core.specs.Calming.{SectionCalms}
-use Rattle.slot_core.specs.Committing.{ChecksFlight, CommitHolds, GoneByAnswer, MayCommitData, NothingBegun, SaysCommit, ShowsTrash}
-use Rattle.slot_core.specs.Finishing.{CommitLeaves}
-use Rattle.slot_core.specs.Landing.{ChecksLanding}
-use Rattle.slot_core.specs.Opened.{IsUnreserved}
-use Rattle.slot_core.specs.Peeking.{TurnsAt}
-use Rattle.slot_core.specs.Pen.{Reserves, WritesDown, kept_entry}
-use Rattle.slot_core.specs.Settling.{numbers_at}
-use Rattle.slot_core.specs.Standing.{SlotStands}
+use Rattle.slot_core.specs.Calm.{SectionCalms}
+use Rattle.slot_core.specs.Commits.{GoneByAnswer, MayCommitData, NothingBegun, SaysCommit, ShowsTrash, TrashGrows}
+use Rattle.slot_core.specs.CommitPlan.{CommitLeaves}
+use Rattle.slot_core.specs.CommitSection.{IsMissed}
+use Rattle.slot_core.specs.PutEnds.{ChecksLanding}
+use Rattle.slot_core.specs.CommitOpening.{IsUnreserved}
+use Rattle.slot_core.specs.PeekSection.{TurnsAt}
+use Rattle.slot_core.specs.AuditEntry.{Reserves, WritesDown, kept_entry}
+use Rattle.slot_core.specs.Settlement.{numbers_at}
 use Rattle.slot_core.specs.Stubs.{AuditCounts, Says, StubOfEntry, entry_of}
-use Rattle.slot_core.specs.Turning.{EntryMoves, Leaves, TurnLeaves}
+use Rattle.slot_core.specs.Turns.{EntryMoves, Leaves, TurnLeaves}
 use Rattle.slot_core.specs.Views.{SlotNumbers, last_of, quorum_of}
-use Rattle.slot_core.specs.declared.carrying.Outcome.{Outcome}
-use Rattle.slot_core.specs.declared.fault.SlotFault.{SlotFault}
-use Rattle.slot_core.specs.declared.fault.SlotFault.TheVariants.{AuditFailed, NoMemory as LacksMemory, NotInFlight, SeqSpent}
-use Rattle.slot_core.specs.declared.pen.ReserveFault.{ReserveFault}
-use Rattle.slot_core.specs.declared.pen.ReserveFault.TheVariants.{Failed, NoMemory}
+use Rattle.slot_core.specs.declared.commit_write.Outcome.{Outcome}
+use Rattle.slot_core.specs.declared.flights.Landing.TheVariants.{Missing}
+use Rattle.slot_core.specs.declared.slot.SlotFault.{SlotFault}
+use Rattle.slot_core.specs.declared.slot.SlotFault.TheVariants.{NotInFlight}
+use Rattle.slot_core.specs.declared.audit_entry.ReserveFault.{ReserveFault}
+use Rattle.slot_core.specs.declared.audit_entry.ReserveFault.TheVariants.{Failed, NoMemory}
 use Rattle.slot_core.specs.declared.stub.Stub.{Stub}
 use Rattle.slot_core.specs.declared.stub.Turn.{Turn}
 use Rattle.slot_core.proofs.CalmingLemmas.{none_calms}
@@ -116,6 +115,30 @@ missing_turns site drawn id entry turn made before mid after old new is some dow
   unspent = λ spent. let both = sym is ∙ spent in absurd cc;
 }
 
+-- ---- so a turn whose put was missed
+
+pub missed_begun : (site : Site) (name : List ℕ) (id : VersionId) (turn : Turn Committed) → IsMissed site name id turn → NothingBegun turn.answer
+missed_begun site name id turn (inl lost) = lost_begun site lost.0 turn lost.1
+missed_begun site name id turn (inr kept) = subst NothingBegun (sym kept.0) tt
+
+pub missed_checks : (site : Site) (name : List ℕ) (put : VersionId) (turn : Turn Committed) → IsMissed site name put turn → ChecksLanding (Missing put) turn.answer
+missed_checks site name put turn (inl lost) = (
+  lost_begun site lost.0 turn lost.1,
+  λ x same. absurd (lost_not_missing site lost.0 turn x lost.1 same),
+)
+missed_checks site name put turn (inr kept) = (subst NothingBegun (sym kept.0) tt, λ x same. missing_same x put turn kept.0 same)
+
+pub missed_says : (site : Site) (deed : Commit) (now : ℕ) (id : VersionId) (turn : Turn Committed) → IsMissed site (name_of deed) id turn
+    → Says turn.stub (SaysCommit deed now turn.answer)
+missed_says site deed now id turn (inl lost) = lost_says site lost.0 turn (SaysCommit deed now turn.answer) lost.1
+missed_says site deed now id turn (inr kept) = missing_says site.turns deed now id turn kept.0 kept.1
+
+pub missed_gone : (site : Site) (name : List ℕ) (id : VersionId) (turn : Turn Committed) (trash : List VersionId) → IsMissed site name id turn
+    → TrashGrows turn.answer trash trash
+missed_gone site name id turn trash (inl lost) = lost_gone site lost.0 turn trash lost.1
+missed_gone site name id turn trash (inr kept) =
+    ([], sym (append-nil trash), subst (λ (a : Result Committed SlotFault). GoneByAnswer a []) (sym kept.0) refl)
+
 module _ {D : Type 0} (tells : D → Bool) (files : D → Files) (count : D → ℕ) where
   pub lost_cause : (numbers later : SlotNumbers) (deed : Commit) (put : Option VersionId) (now : ℕ) (site : Site) (why : ReserveFault) (turn : Turn Committed) (entered : Deed)
       (old disks disks_after : List D) → IsUnreserved site why turn → CommitCause tells files count numbers later deed put now turn.answer entered old old disks disks_after
@@ -175,6 +198,25 @@ module _ {D : Type 0} (tells : D → Bool) (files : D → Files) (count : D → 
       (entry_leaves {D = D} tells files site drawn drawn drawn holding (kept_with holding rest trash) (name_of deed) None KeptDeed site.turns (λ after now. Unit {0}) lanes lanes
       (λ before_it after. Unit {0}) (λ disks hands less. MayCommitData deed (kept_with holding rest trash) disks hands less) records state (λ after now known. tt) settled
       (kept_leaves {D = D} tells files laws site drawn deed holding rest None before trash lanes settled.after settled.now settled.stands lands was same)))
+
+  -- a commit whose put was missed
+  pub missed_leaves : LandLaws → (site : Site) (drawn : Drawn) (deed : Commit) (id : VersionId) (trash : List VersionId) (lanes : List D) (turn : Turn Committed)
+      (holding : Holding) (rest : List Flying) → IsMissed site (name_of deed) id turn → Lands None holding.flights rest → holding.trash ≡ trash
+      → Leaves tells files (numbers_at site drawn) (numbers_at site drawn) holding (kept_with holding rest trash) lanes lanes turn.stub
+      (ShowsTrash deed turn.answer trash trash) (MayCommitData deed (kept_with holding rest trash))
+  missed_leaves laws site drawn deed id trash lanes turn holding rest (inl lost) lands was =
+      lost_leaves laws site drawn deed None trash trash lanes turn.stub (ShowsTrash deed turn.answer trash trash) holding rest
+      (lost_entry site lost.0 turn lost.1) lands was refl
+  missed_leaves laws site drawn deed id trash lanes turn holding rest (inr kept) lands was =
+      missing_leaves laws site drawn deed trash trash lanes turn.stub turn.answer id holding rest kept.0 kept.1 lands was refl
+
+  pub missed_cause : (numbers later : SlotNumbers) (deed : Commit) (put : Option VersionId) (now : ℕ) (site : Site) (name : List ℕ) (id : VersionId) (turn : Turn Committed)
+      (entered : Deed) (old disks disks_after : List D) → IsMissed site name id turn
+      → CommitCause tells files count numbers later deed put now turn.answer entered old old disks disks_after
+  missed_cause numbers later deed put now site name id turn entered old disks disks_after (inl lost) =
+      lost_cause numbers later deed put now site lost.0 turn entered old disks disks_after lost.1
+  missed_cause numbers later deed put now site name id turn entered old disks disks_after (inr kept) =
+      subst (λ (a : Result Committed SlotFault). CommitCause tells files count numbers later deed put now a entered old old disks disks_after) (sym kept.0) refl
 
   -- a commit, by what came of it
   pub outcome_leaves : (site : Site) (drawn later : Drawn) (deed : Commit) (put : Option VersionId) (outcome : Outcome) (before trash : List VersionId) (old new : List D)

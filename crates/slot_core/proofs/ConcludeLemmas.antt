@@ -1,17 +1,14 @@
 -- What a commit tells at its end.
-use Rattle.std.proofs.Common.{◌≡◌, ◌≢◌, ◌∙◌, ℕ, List, [], ◌++◌, Option, None, Some, Result, Ok, Err, ap, subst, sym, refl, inl, inr}
+use Rattle.std.proofs.Common.{◌≡◌, ◌≢◌, ◌∙◌, ℕ, List, Option, None, Some, Result, Err, ap, subst, sym, refl, inl, inr}
 use Rattle.std.specs.Prelude.{MatchOption, ⊤}
-use Rattle.std.proofs.lemmas.List.{append-nil}
 use Rattle.call_types.specs.Refusals.{refusal_of}
 use Rattle.call_types.specs.declared.act.Brief.TheVariants.{Answer}
 use Rattle.call_types.specs.declared.refusal.KeyRefusal.{KeyRefusal}
 use Rattle.call_types.specs.declared.reply.Reply.{Reply}
 use Rattle.call_types.specs.declared.reply.Reply.TheVariants.{Refused as RefusedReply}
-use Rattle.call_types.specs.declared.why.Why.{Why}
 use Rattle.stamp_id.specs.declared.stamp.ChangeId.{ChangeId}
 use Rattle.stamp_id.specs.declared.version.VersionId.{VersionId}
 use Rattle.audit_trail.specs.Entries.{with_entry}
-use Rattle.audit_trail.specs.declared.entry.Deed.{Deed}
 use Rattle.audit_trail.specs.declared.entry.Deed.TheVariants.{Done as DoneDeed, Refused as RefusedDeed, Kept as KeptDeed}
 use Rattle.audit_trail.specs.declared.entry.Entry.{Entry}
 use Rattle.register_core.specs.declared.faults.QuorumFault.{QuorumFault}
@@ -23,17 +20,17 @@ use Rattle.slot_rules.specs.declared.site.Drawn.{Drawn}
 use Rattle.slot_rules.specs.declared.site.Site.{Site}
 use Rattle.slot_rules.specs.declared.telling.Tale.{Tale}
 use Rattle.slot_rules.specs.declared.telling.Told.{Told}
-use Rattle.slot_core.specs.Carrying.{IsTold, answer_of, answer_told, deed_told, entry_at, entry_told}
+use Rattle.slot_core.specs.CommitOutcome.{IsTold, answer_of, answer_told, deed_told, entry_told}
 use Rattle.slot_core.specs.CommitCauses.{deed_in}
-use Rattle.slot_core.specs.Committing.{CommitDeed, GoneByAnswer, NothingBegun, QuorumDeed, SaysCommit}
-use Rattle.slot_core.specs.Landing.{IsTwice, entry_from, fault_of}
-use Rattle.slot_core.specs.Pen.{WritesDown, kept_entry}
-use Rattle.slot_core.specs.Settling.{numbers_at}
+use Rattle.slot_core.specs.Commits.{CommitDeed, QuorumDeed, SaysCommit}
+use Rattle.slot_core.specs.PutEnds.{IsTwice, entry_from, fault_of}
+use Rattle.slot_core.specs.AuditEntry.{WritesDown, kept_entry}
+use Rattle.slot_core.specs.Settlement.{numbers_at}
 use Rattle.slot_core.specs.Stubs.{AuditCounts, AuditHas, Says, StubOfEntry, Writes, entry_of}
-use Rattle.slot_core.specs.declared.carrying.Outcome.{Outcome}
-use Rattle.slot_core.specs.declared.carrying.Outcome.TheVariants.{Begun, Done, Kept, LacksMemory}
-use Rattle.slot_core.specs.declared.fault.SlotFault.{SlotFault}
-use Rattle.slot_core.specs.declared.fault.SlotFault.TheVariants.{Quorum, Key as KeyFault, SeqSpent, AuditFailed, NoMemory, NotInFlight}
+use Rattle.slot_core.specs.declared.commit_write.Outcome.{Outcome}
+use Rattle.slot_core.specs.declared.commit_write.Outcome.TheVariants.{Begun, Done, Kept, LacksMemory}
+use Rattle.slot_core.specs.declared.slot.SlotFault.{SlotFault}
+use Rattle.slot_core.specs.declared.slot.SlotFault.TheVariants.{Quorum, Key as KeyFault, SeqSpent, NotInFlight}
 use Rattle.slot_core.specs.declared.stub.Stub.{Stub}
 
 -- ---- stubs

@@ -43,7 +43,7 @@ use Rattle.slot_rules.specs.Deeds.{act_brings, brings_of, call_of, name_of}
 use Rattle.slot_rules.specs.Planning.{IsGoneBy, act_adds}
 use Rattle.slot_rules.specs.declared.commit.Commit.TheVariants.{Key, MakeBucket, SetMode}
 use Rattle.slot_rules.specs.declared.commit.Commit.{Commit}
-use Rattle.slot_core.specs.Carrying.{Lands}
+use Rattle.slot_core.specs.CommitOutcome.{Lands}
 use Rattle.slot_core.proofs.DeemingLemmas.{Deeming, IsDeemed, NumberIs, number_some, own_number, own_spent, put_is, put_lands, record_spent, stood_names}
 use Rattle.slot_core.proofs.StepLemmas.{step_made, step_only}
 

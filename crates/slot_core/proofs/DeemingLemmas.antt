@@ -22,7 +22,7 @@ use Rattle.slot_rules.specs.Planning.{adds_of}
 use Rattle.slot_rules.specs.Rules.{IsRegisterName}
 use Rattle.slot_rules.specs.declared.commit.Commit.TheVariants.{Key, MakeBucket, SetMode}
 use Rattle.slot_rules.specs.declared.commit.Commit.{Commit}
-use Rattle.slot_core.specs.Carrying.{FitsPut, Lands}
+use Rattle.slot_core.specs.CommitOutcome.{FitsPut, Lands}
 use Rattle.slot_core.proofs.SettlingLemmas.{name_held}
 
 -- a deed's register is a bucket's or a key's

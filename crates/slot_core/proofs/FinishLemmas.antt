@@ -2,12 +2,7 @@
 use Rattle.std.proofs.Common.{◌≡◌, ◌≢◌, ◌≤◌, ◌+◌, ◌∙◌, ℕ, List, [], Option, None, Some, length, ap, subst, sym, refl, arith}
 use Rattle.std.specs.Prelude.{Bool, false, MatchOption, is_some}
 use Rattle.std.proofs.lemmas.List.{length-replicate}
-use Rattle.call_types.specs.declared.act.Act.{Act}
-use Rattle.call_types.specs.declared.names.Key.{Key as KeyName}
-use Rattle.call_types.specs.declared.names.Mode.{Mode}
 use Rattle.call_types.specs.declared.why.Why.TheVariants.{Good}
-use Rattle.bucket_book.specs.Content.{content_fault}
-use Rattle.bucket_book.specs.declared.step.BucketAct.{BucketAct}
 use Rattle.drive_base.specs.Files.{Files}
 use Rattle.drive_base.specs.declared.plan.SetPlan.{SetPlan}
 use Rattle.stamp_id.specs.VersionId.{id_bytes}
@@ -36,12 +31,15 @@ use Rattle.slot_data.specs.Bringing.{GoOn}
 use Rattle.slot_data.specs.Holding.{Holding}
 use Rattle.slot_data.specs.Standing.{DataStands}
 use Rattle.slot_rules.specs.Deeds.{name_of}
-use Rattle.slot_rules.specs.Owning.{IsDraftable, IsOwnDraft, IsOwnId, again_takes, id_over, own_seq}
-use Rattle.slot_rules.specs.Planning.{IsBucketDeed, most_for}
+use Rattle.slot_rules.specs.DeedRules.{DeedHasRead, IsDeedRule, IsReadFor, deed_fault, deed_most}
+use Rattle.slot_rules.specs.Owning.{IsDraftable, IsOwnDraft, IsOwnId, again_takes, id_over, life_at, own_seq}
+use Rattle.slot_rules.specs.Planning.{most_for}
 use Rattle.slot_rules.specs.Plans.{IsPlan, IsPlanBy}
 use Rattle.slot_rules.specs.Rules.{first_place, key_fault, named_place}
 use Rattle.slot_rules.specs.declared.commit.Commit.TheVariants.{Key, MakeBucket, SetMode}
 use Rattle.slot_rules.specs.declared.commit.Commit.{Commit}
+use Rattle.slot_rules.specs.declared.deed_rule.DeedRule.TheVariants.{Bucket as BucketContents, Key as KeyContents}
+use Rattle.slot_rules.specs.declared.deed_rule.DeedRule.{DeedRule}
 use Rattle.slot_rules.specs.declared.owning.Own.{Own}
 use Rattle.slot_rules.specs.declared.owning.OwnIds.{OwnIds}
 use Rattle.slot_rules.specs.declared.plans.Plan.{Plan}
@@ -49,17 +47,17 @@ use Rattle.slot_rules.specs.declared.ready.Ready.{Ready}
 use Rattle.slot_rules.specs.declared.rules.TheConstants.{BUCKET_BYTES, KEY_BYTES}
 use Rattle.slot_rules.specs.declared.site.Drawn.{Drawn}
 use Rattle.slot_rules.specs.declared.site.Site.{Site}
-use Rattle.slot_core.specs.Carrying.{kept_with}
-use Rattle.slot_core.specs.CarryingOut.{OwnFits, PlanFits}
-use Rattle.slot_core.specs.CommitCauses.{IsRuleOf, site_of}
-use Rattle.slot_core.specs.Committing.{MayCommitData}
-use Rattle.slot_core.specs.Finishing.{CommitLeaves, IsKeptBy, ReadyFits}
-use Rattle.slot_core.specs.Looked.{DraftFits, FirstFits}
-use Rattle.slot_core.specs.Settling.{FirstIs, IsReady, numbers_at}
+use Rattle.slot_core.specs.CommitOutcome.{kept_with}
+use Rattle.slot_core.specs.CommitWrite.{OwnFits, PlanFits}
+use Rattle.slot_core.specs.CommitCauses.{IsRuleOf, life_of}
+use Rattle.slot_core.specs.Commits.{MayCommitData}
+use Rattle.slot_core.specs.CommitPlan.{CommitLeaves, IsKeptBy, ReadyFits}
+use Rattle.slot_core.specs.RegisterLook.{DraftFits, FirstFits}
+use Rattle.slot_core.specs.Settlement.{FirstIs, IsReady, numbers_at}
 use Rattle.slot_core.specs.Standing.{SlotStands}
-use Rattle.slot_core.specs.Views.{SlotNumbers, last_of, quorum_of}
-use Rattle.slot_core.specs.declared.carrying.Outcome.{Outcome}
-use Rattle.slot_core.specs.declared.carrying.Outcome.TheVariants.{Kept, LacksMemory}
+use Rattle.slot_core.specs.Views.{last_of, quorum_of}
+use Rattle.slot_core.specs.declared.commit_write.Outcome.{Outcome}
+use Rattle.slot_core.specs.declared.commit_write.Outcome.TheVariants.{Kept, LacksMemory}
 use Rattle.slot_core.proofs.CalmingLemmas.{none_calms}
 use Rattle.slot_core.proofs.CarryLemmas.{entry_leaves, kept_leaves}
 use Rattle.slot_core.proofs.LandLemmas.{LandLaws, land_data, land_stands}
@@ -140,10 +138,10 @@ plan_can site seq ready deed put now plan fits is = by plan.own is
 
 -- it has the id that was drawn for it
 pub id_drawn : (site : Site) (seq : ℕ) (put : Option VersionId) (ids : OwnIds) (first : Option Draft) (id : VersionId) → id ≡ id_over ids first
-    → IsOwnId site seq put ids.alone → IsOwnId site (seq + 1) put ids.after → IsOwnId site (seq + again_takes first) put id
+    → IsOwnId (life_at site) seq put ids.alone → IsOwnId (life_at site) (seq + 1) put ids.after → IsOwnId (life_at site) (seq + again_takes first) put id
 id_drawn site seq put ids None id is alone after =
-    subst (λ (x : VersionId). IsOwnId site (seq + 0) put x) (sym is) (subst (λ (n : ℕ). IsOwnId site n put ids.alone) (omega arith) alone)
-id_drawn site seq put ids (Some first) id is alone after = subst (λ (x : VersionId). IsOwnId site (seq + 1) put x) (sym is) after
+    subst (λ (x : VersionId). IsOwnId (life_at site) (seq + 0) put x) (sym is) (subst (λ (n : ℕ). IsOwnId (life_at site) n put ids.alone) (omega arith) alone)
+id_drawn site seq put ids (Some first) id is alone after = subst (λ (x : VersionId). IsOwnId (life_at site) (seq + 1) put x) (sym is) after
 
 -- a place that isn't there
 first_none_of : (a b : Option ℕ) → first_place a b ≡ None → (a ≡ None) × (b ≡ None)
@@ -168,27 +166,44 @@ id_unnamed ids first id content state is accepted spells =
 
 -- ---- the rules of contents
 
-id_at : (site : Site) (drawn : Drawn) (last : ℕ) (put : Option VersionId) (id : VersionId) → IsOwnId site last put id → IsOwnId (site_of (numbers_at site drawn)) last put id
+id_at : (site : Site) (drawn : Drawn) (last : ℕ) (put : Option VersionId) (id : VersionId) → IsOwnId (life_at site) last put id → IsOwnId (life_of (numbers_at site drawn)) last put id
 id_at site drawn last None id is = record { change = is.change; slot = is.slot }
 id_at site drawn last (Some p) id is = record { change = is.change; slot = is.slot }
 
-pub key_rule : (site : Site) (drawn : Drawn) (deed : Commit) (at : KeyName) (mode : Mode) (done : Act) (put : Option VersionId) (ids : OwnIds) → deed ≡ Key at mode done
-    → IsOwnId site drawn.seq put ids.alone → IsOwnId site (drawn.seq + 1) put ids.after
-    → IsRuleOf (numbers_at site drawn) deed put (λ content. key_fault (Some ids.alone) (Some ids.after) content) KEY_BYTES
-key_rule site drawn deed at mode done put ids is alone after =
-    subst (λ (d : Commit). IsRuleOf (numbers_at site drawn) d put (λ content. key_fault (Some ids.alone) (Some ids.after) content) KEY_BYTES) (sym is)
+-- the rule of a deed is that by which its cause goes
+pub deed_rule : (site : Site) (drawn : Drawn) (deed : Commit) (put : Option VersionId) (ids : OwnIds) (rule : DeedRule) → IsDeedRule deed ids rule
+    → IsOwnId (life_at site) drawn.seq put ids.alone → IsOwnId (life_at site) (drawn.seq + 1) put ids.after
+    → IsRuleOf (numbers_at site drawn) deed put (λ content. deed_fault rule content) (deed_most rule)
+deed_rule site drawn (Key at mode act) put ids rule is alone after =
+    subst (λ (r : DeedRule). IsRuleOf (numbers_at site drawn) (Key at mode act) put (λ content. deed_fault r content) (deed_most r)) (sym is)
     (ids.alone, ids.after, id_at site drawn drawn.seq put ids.alone alone, id_at site drawn (drawn.seq + 1) put ids.after after, refl, refl)
+deed_rule site drawn (MakeBucket bucket) put ids rule is alone after =
+    subst (λ (r : DeedRule). IsRuleOf (numbers_at site drawn) (MakeBucket bucket) put (λ content. deed_fault r content) (deed_most r)) (sym is) (refl, refl)
+deed_rule site drawn (SetMode bucket mode) put ids rule is alone after =
+    subst (λ (r : DeedRule). IsRuleOf (numbers_at site drawn) (SetMode bucket mode) put (λ content. deed_fault r content) (deed_most r)) (sym is) (refl, refl)
 
-pub bucket_rule : (numbers : SlotNumbers) (deed : Commit) (done : BucketAct) (put : Option VersionId) → IsBucketDeed deed done
-    → IsRuleOf numbers deed put (λ content. content_fault content) BUCKET_BYTES
-bucket_rule numbers (Key at mode act) done put is = absurd is
-bucket_rule numbers (MakeBucket bucket) done put is = (refl, refl)
-bucket_rule numbers (SetMode bucket mode) done put is = (refl, refl)
+pub deed_most_is : (deed : Commit) (ids : OwnIds) (rule : DeedRule) → IsDeedRule deed ids rule → deed_most rule ≡ most_for deed
+deed_most_is (Key at mode act) ids rule is = ap deed_most is
+deed_most_is (MakeBucket bucket) ids rule is = ap deed_most is
+deed_most_is (SetMode bucket mode) ids rule is = ap deed_most is
 
-pub bucket_most : (deed : Commit) (done : BucketAct) → IsBucketDeed deed done → most_for deed ≡ BUCKET_BYTES
-bucket_most (Key at mode act) done is = absurd is
-bucket_most (MakeBucket bucket) done is = refl
-bucket_most (SetMode bucket mode) done is = refl
+-- at what it read the change of the deed is new
+read_key : (ids : OwnIds) (new : DeedRule) (first : Option Draft) (id : VersionId) (content : List ℕ) → deed_most new ≡ KEY_BYTES → id ≡ id_over ids first
+    → key_fault (Some ids.alone) (Some ids.after) content ≡ None → DeedHasRead new content → IsReadFor new id content
+read_key ids (KeyContents r) first id content most same accepted read =
+    (read.0, read.1, read.2.spells, id_unnamed ids first id content read.0 same accepted read.2.spells)
+read_key ids (BucketContents r) first id content most same accepted read = absurd (omega (arith, most))
+
+read_bucket : (new : DeedRule) (id : VersionId) (content : List ℕ) → deed_most new ≡ BUCKET_BYTES → DeedHasRead new content → IsReadFor new id content
+read_bucket (KeyContents r) id content most read = absurd (omega (arith, most))
+read_bucket (BucketContents r) id content most read = read
+
+pub read_for : (deed : Commit) (ids : OwnIds) (old new : DeedRule) (first : Option Draft) (id : VersionId) (content : List ℕ) → IsDeedRule deed ids old
+    → deed_most new ≡ deed_most old → id ≡ id_over ids first → deed_fault old content ≡ None → DeedHasRead new content → IsReadFor new id content
+read_for (Key at mode act) ids old new first id content is most same accepted read =
+    read_key ids new first id content (most ∙ ap deed_most is) same (subst (λ (r : DeedRule). deed_fault r content ≡ None) is accepted) read
+read_for (MakeBucket bucket) ids old new first id content is most same accepted read = read_bucket new id content (most ∙ ap deed_most is) read
+read_for (SetMode bucket mode) ids old new first id content is most same accepted read = read_bucket new id content (most ∙ ap deed_most is) read
 
 -- ---- refusals
 

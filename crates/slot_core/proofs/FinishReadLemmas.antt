@@ -19,15 +19,15 @@ use Rattle.slot_rules.specs.Rules.{IsRegisterName, longest_for, rule_for}
 use Rattle.slot_rules.specs.declared.site.Drawn.{Drawn}
 use Rattle.slot_rules.specs.declared.site.Site.{Site}
 use Rattle.slot_core.specs.Causes.{LookCause}
-use Rattle.slot_core.specs.Looked.{CallsForward}
-use Rattle.slot_core.specs.Peeking.{GivesBy, GivesOver, IsRefusal}
-use Rattle.slot_core.specs.Reading.{FinishesPlan, KnownRead, LooksForRead, PlansRead, ReadGave}
-use Rattle.slot_core.specs.Settling.{SettledOn, SettlesAfter, numbers_at}
+use Rattle.slot_core.specs.RegisterLook.{CallsForward}
+use Rattle.slot_core.specs.PeekSection.{GivesBy, GivesOver, IsRefusal}
+use Rattle.slot_core.specs.ReadSection.{FinishesPlan, KnownRead, LooksForRead, PlansRead, ReadGave}
+use Rattle.slot_core.specs.Settlement.{SettledOn, SettlesAfter, numbers_at}
 use Rattle.slot_core.specs.Standing.{SlotStands}
-use Rattle.slot_core.specs.declared.finding.Planned.{Planned}
-use Rattle.slot_core.specs.declared.peeking.Peeked.{Peeked}
-use Rattle.slot_core.specs.declared.peeking.Peeked.TheVariants.{Found, Refused, LacksMemory}
-use Rattle.slot_core.specs.declared.reading.ReadPlan.{ReadPlan}
+use Rattle.slot_core.specs.declared.read_section.Planned.{Planned}
+use Rattle.slot_core.specs.declared.peek_section.Peeked.{Peeked}
+use Rattle.slot_core.specs.declared.peek_section.Peeked.TheVariants.{Found, Refused, LacksMemory}
+use Rattle.slot_core.specs.declared.read_plan.ReadPlan.{ReadPlan}
 use Rattle.slot_core.proofs.CauseLemmas.{cause_of_forward}
 use Rattle.slot_core.proofs.ReadLemmas.{known_read}
 use Rattle.slot_core.proofs.ReadTurnLemmas.{read_gave}

@@ -1,6 +1,5 @@
 -- The names that are listed are the first of those that the lanes show.
-use Rattle.std.specs.Prelude.{◌≡◌, ◌≢◌, ◌⊎◌, ◌↔◌, ℕ, ◌+◌, ◌<◌, ◌≤◌, Bool, true, false, cond, IsTrue, IsSome, List, [], ◌∷◌, ◌++◌, All, Contains, length, map, slice_index_or, slice_set, Option, Some, None, String, string_bytes, refl}
-use Rattle.std.specs.Int.{IsBitSet}
+use Rattle.std.specs.Prelude.{◌≡◌, ◌≢◌, ◌⊎◌, ◌↔◌, ℕ, ◌+◌, ◌<◌, ◌≤◌, Bool, true, false, cond, IsTrue, IsSome, List, [], ◌∷◌, ◌++◌, All, Contains, length, map, slice_index_or, slice_set, Option, Some, String, string_bytes, refl}
 use Rattle.std.proofs.Common.{sym, ap, ◌∙◌, subst, inl, inr, arith, get_or-set_other, get_or-set_same}
 use Rattle.std.proofs.lemmas.Bool.{cases_eq}
 use Rattle.std.proofs.lemmas.List.{map-append}
@@ -21,8 +20,8 @@ use Rattle.drive_base.specs.Names.{IsBefore, IsPage, ListsShown, byte_order}
 use Rattle.drive_base.specs.declared.drive.TheConstants.{LONGEST_NAME}
 use Rattle.register_core.specs.Loops.{letter_at}
 use Rattle.slot_core.proofs.SortedLemmas.{before_trans, each_or, within_same}
-use Rattle.slot_core.specs.Gathering.{AreGathered, AsksLane, HasPage}
-use Rattle.slot_core.specs.Listing.{AreShownNames, IsGiven, IsListable, IsShown, NamesLetter}
+use Rattle.slot_core.specs.NamePages.{AreGathered, AsksLane, HasPage}
+use Rattle.slot_core.specs.NameList.{AreShownNames, IsGiven, IsListable, IsShown, NamesLetter}
 
 module _ {D : Type 0} (tells : D → Bool) (files : D → Files) where
   -- a page that is gathered stays so

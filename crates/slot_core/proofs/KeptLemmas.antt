@@ -1,7 +1,7 @@
 -- Sections that only read their lanes, and write that they did nothing of their own.
-use Rattle.std.specs.Prelude.{◌≡◌, ◌≢◌, ℕ, ◌+◌, ◌<◌, ◌≤◌, ◌^◌, Bool, IsTrue, List, [], length, slice_index_or, Option, Some, None, refl}
+use Rattle.std.specs.Prelude.{◌≡◌, ℕ, ◌<◌, Bool, IsTrue, List, [], length, slice_index_or, Option, Some, None, refl}
 use Rattle.std.specs.Int.{IsBitSet}
-use Rattle.std.proofs.Common.{sym, ap, ◌∙◌, subst, inl, inr, arith}
+use Rattle.std.proofs.Common.{sym, ◌∙◌, subst, inl, arith}
 use Rattle.stamp_id.specs.declared.stamp.ChangeId.{ChangeId}
 use Rattle.audit_trail.specs.declared.entry.Deed.{Deed}
 use Rattle.audit_trail.specs.declared.entry.Deed.TheVariants.{Kept}
@@ -11,25 +11,23 @@ use Rattle.drive_base.specs.Plan.{write_drives}
 use Rattle.drive_base.specs.declared.plan.SetPlan.{SetPlan}
 use Rattle.register_core.specs.Loops.{TellsStay}
 use Rattle.register_core.specs.Loose.{loose_name}
-use Rattle.register_core.specs.OnLanes.{AllTell, AreHonest, AreLanes, AreUnused}
 use Rattle.register_core.specs.Records.{HasLane, IsHonest}
 use Rattle.register_caller.specs.Steps.{FilesStay}
 use Rattle.vote_core.specs.Lane.{lane_at}
-use Rattle.slot_history.specs.Moving.{Deeds, IsLast, Moves}
+use Rattle.slot_history.specs.Moving.{Deeds, IsLast}
 use Rattle.slot_history.specs.Sections.{IsOnItsWay, SectionMoves}
 use Rattle.slot_history.specs.Standing.{Records, Stands}
 use Rattle.slot_history.specs.State.{State}
-use Rattle.slot_data.specs.Disks.{Disks}
 use Rattle.slot_data.specs.Holding.{Hands, Holding}
 use Rattle.slot_data.specs.Standing.{DataStands}
 use Rattle.slot_core.proofs.CalmingLemmas.{all_stays, look_calms, none_calms}
 use Rattle.slot_core.proofs.QuietLemmas.{have_later, last_stays}
-use Rattle.slot_core.specs.Calming.{OnlyLooked}
+use Rattle.slot_core.specs.Calm.{OnlyLooked}
 use Rattle.slot_core.specs.Hands.{HandsStay}
 use Rattle.slot_core.specs.Numbers.{NumbersMove}
 use Rattle.slot_core.specs.Standing.{LanesHave, SlotStands}
 use Rattle.slot_core.specs.Stubs.{entry_of}
-use Rattle.slot_core.specs.Turning.{EntryMoves, Leaves, TurnLeaves}
+use Rattle.slot_core.specs.Turns.{EntryMoves, Leaves, TurnLeaves}
 use Rattle.slot_core.specs.Views.{SlotNumbers, last_of, quorum_of}
 use Rattle.slot_core.specs.declared.stub.Stub.{Stub}
 

@@ -1,5 +1,5 @@
 -- Puts that end with a section, whether their data is brought or not.
-use Rattle.std.proofs.Common.{◌≡◌, ◌⊎◌, ◌≤◌, ◌∙◌, ℕ, List, [], ◌∷◌, ◌++◌, Option, None, Some, Contains, sym, ap, subst, refl, inl, inr}
+use Rattle.std.proofs.Common.{◌≡◌, ◌∙◌, ℕ, List, [], ◌∷◌, ◌++◌, Option, None, Some, Contains, sym, ap, subst, inl, inr}
 use Rattle.std.proofs.lemmas.List.Elements.{Contains-append_left, Contains-append_right}
 use Rattle.drive_base.specs.Plan.{write_drives}
 use Rattle.drive_base.specs.declared.plan.SetPlan.{SetPlan}
@@ -14,8 +14,8 @@ use Rattle.slot_data.specs.Disks.{Disks}
 use Rattle.slot_data.specs.Holding.{Hands, Holding, IsPinned, Known}
 use Rattle.slot_data.specs.Laws.{HandsAreFreed, PutIsGivenUp, TrashIsTaken}
 use Rattle.slot_data.specs.Moves.{LanesStand, given_up, with_taken, with_trash}
-use Rattle.slot_data.specs.Standing.{DataStands, IsListed}
-use Rattle.slot_core.specs.Carrying.{Lands, kept_with}
+use Rattle.slot_data.specs.Standing.{DataStands}
+use Rattle.slot_core.specs.CommitOutcome.{Lands, kept_with}
 use Rattle.slot_core.proofs.DeemingLemmas.{lands_fewer}
 
 -- the laws of puts that end

@@ -1,6 +1,6 @@
 -- Lanes of a slot through looks and writes of one register.
-use Rattle.std.proofs.Common.{◌≡◌, ◌<◌, ◌≤◌, ◌∙◌, ℕ, List, Option, false, cond, length, bytes_eq, ap, subst, sym, refl, inl, inr, arith}
-use Rattle.std.specs.Prelude.{Bool, IsTrue, slice_index_or}
+use Rattle.std.proofs.Common.{◌≡◌, ◌<◌, ◌∙◌, ℕ, List, Option, false, cond, length, bytes_eq, ap, subst, sym, refl, inl, inr, arith}
+use Rattle.std.specs.Prelude.{Bool, slice_index_or}
 use Rattle.std.specs.Int.{IsBitSet}
 use Rattle.std.proofs.lemmas.Bool.{cond-true, cond-false}
 use Rattle.std.proofs.lemmas.Slice.Eq.{bytes_eq-Decides}

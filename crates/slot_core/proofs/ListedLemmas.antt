@@ -1,25 +1,24 @@
 -- Where lanes stand for a state, a listing of their names has each register that some change made.
-use Rattle.std.specs.Prelude.{◌≡◌, ◌≢◌, ◌⊎◌, ℕ, suc, zero, ◌+◌, ◌<◌, ◌≤◌, Bool, true, false, cond, ◌||◌, IsTrue, IsSome, List, [], ◌∷◌, length, slice_index_or, count_by, Option, Some, None, refl}
+use Rattle.std.specs.Prelude.{◌≡◌, ◌≢◌, ℕ, suc, zero, ◌+◌, ◌<◌, ◌≤◌, Bool, true, false, cond, IsTrue, IsSome, List, [], ◌∷◌, length, slice_index_or, count_by, Option, Some, None, refl}
 use Rattle.std.specs.Int.{IsBitSet}
 use Rattle.std.proofs.Common.{sym, ap, ◌∙◌, subst, inl, inr, arith}
 use Rattle.std.proofs.lemmas.Bool.{eqb-true}
 use Rattle.std.proofs.lemmas.List.Sums.{sum_by-cons}
-use Rattle.call_types.specs.Good.{good_count, is_good}
+use Rattle.call_types.specs.Good.{is_good}
 use Rattle.call_types.specs.declared.why.FileKind.TheVariants.{Format}
 use Rattle.call_types.specs.declared.why.Why.{Why}
 use Rattle.call_types.specs.declared.why.Why.TheVariants.{Behind, Damaged, Failed, Good, Lacks}
 use Rattle.drive_base.specs.Files.{Files}
-use Rattle.drive_base.specs.Plan.{data_drives, write_drives}
+use Rattle.drive_base.specs.Plan.{write_drives}
 use Rattle.drive_base.specs.declared.plan.SetPlan.{SetPlan}
 use Rattle.register_core.proofs.LookLemmas.{quorums_meet}
 use Rattle.register_core.specs.Loops.{letter_at}
 use Rattle.register_core.specs.Records.{HasLane, IsHonest}
-use Rattle.register_file.specs.declared.record.RegFile.{RegFile}
 use Rattle.vote_core.specs.Lane.{Lane, backs, blank_lane, lane_at}
 use Rattle.vote_core.specs.Sound.{HoldsValue}
 use Rattle.slot_history.specs.Standing.{Flying, Records}
 use Rattle.slot_history.specs.State.{IsHeld, State}
-use Rattle.slot_core.specs.Listing.{IsGiven, IsListable, NamesAreListed, NamesLetter}
+use Rattle.slot_core.specs.NameList.{IsGiven, IsListable, NamesAreListed, NamesLetter}
 use Rattle.slot_core.specs.Standing.{SlotStands}
 use Rattle.slot_core.specs.Views.{SlotNumbers, last_of, quorum_of}
 

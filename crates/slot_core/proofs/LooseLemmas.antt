@@ -1,5 +1,5 @@
 -- Loose names of different terms differ.
-use Rattle.std.proofs.Common.{◌≡◌, ◌≢◌, ℕ, suc, zero, ◌<◌, ◌^◌, Bool, true, false, List, ◌∷◌, [], ◌++◌, drop, take, get_or, Result, Ok, refl, sym, ap, ◌∙◌, arith, lit<, codes}
+use Rattle.std.proofs.Common.{◌≡◌, ◌≢◌, ℕ, suc, zero, ◌<◌, ◌^◌, Bool, true, false, List, ◌∷◌, ◌++◌, drop, take, get_or, Result, Ok, refl, sym, ap, ◌∙◌, arith, lit<, codes}
 use Rattle.std.specs.Int.{w64, to_be_bytes, from_be_bytes}
 use Rattle.std.specs.Str.{bytes_eq}
 use Rattle.std.proofs.lemmas.List.{take_at}

@@ -1,18 +1,16 @@
 -- What an opened slot stands for.
-use Rattle.std.specs.Prelude.{◌≡◌, ℕ, ◌+◌, ◌-◌, ◌≤◌, ◌==◌, Bool, true, false, cond, List, [], Option, replicate}
+use Rattle.std.specs.Prelude.{ℕ, ◌+◌, ◌-◌, ◌≤◌, ◌==◌, Bool, true, false, cond, List, [], Option, replicate}
 use Rattle.std.proofs.Common.{sym, subst, arith}
 use Rattle.audit_trail.specs.declared.entry.Entry.{Entry}
 use Rattle.drive_base.specs.Files.{Files}
 use Rattle.drive_base.specs.Plan.{data_drives, write_drives}
-use Rattle.drive_base.specs.declared.plan.SetPlan.{SetPlan}
 use Rattle.vote_core.specs.Lane.{blank_lane}
 use Rattle.slot_data.specs.Holding.{Holding}
 use Rattle.slot_history.specs.Laws.{FreshStand}
-use Rattle.slot_history.specs.Standing.{Records}
-use Rattle.slot_history.specs.State.{State, no_state}
-use Rattle.slot_core.specs.Opening.{FreshSlotStands, IsOpened, OpenedSlotStands, opened_numbers}
+use Rattle.slot_history.specs.State.{no_state}
+use Rattle.slot_core.specs.Opening.{FreshSlotStands, OpenedSlotStands, opened_numbers}
 use Rattle.slot_core.specs.Standing.{SlotStands}
-use Rattle.slot_core.specs.Views.{SlotNumbers, holding_of, lanes_of, last_of, numbers_of, quorum_of}
+use Rattle.slot_core.specs.Views.{SlotNumbers, holding_of, lanes_of, last_of, quorum_of}
 
 pub opened_stands : {D A : Type 0} (entries : A → Option (List Entry)) (count : A → ℕ) (tells : D → Bool) (files : D → Files)
     → OpenedSlotStands entries count tells files

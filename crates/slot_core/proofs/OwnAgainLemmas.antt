@@ -12,18 +12,16 @@ use Rattle.register_caller.specs.Leaving.{LeavesLanes, WasLive, Written}
 use Rattle.slot_history.specs.Contents.{NamedData, NamesData, number_of_id}
 use Rattle.slot_history.specs.Laws.{OnlyTheOld}
 use Rattle.slot_history.specs.Names.{part_name}
-use Rattle.slot_history.specs.Sections.{IsOnItsWay}
-use Rattle.slot_history.specs.Standing.{AreBlank, BringsItsOwn, IsAdded, IsLawfulUnder, IsSpent, Records, Stands, StandsUnder, WaitsAs}
-use Rattle.slot_history.specs.State.{IsHeld, Register, State, Waiting}
+use Rattle.slot_history.specs.Standing.{AreBlank, IsAdded, IsLawfulUnder, IsSpent, Records, Stands, StandsUnder, WaitsAs}
+use Rattle.slot_history.specs.State.{IsHeld, Register, State}
 use Rattle.slot_history.specs.Writing.{WritesUnder}
 use Rattle.slot_history.proofs.MemberLemmas.{same_or_other}
-use Rattle.slot_history.proofs.StandLemmas.{lawful_still, spent_later, under_still}
-use Rattle.slot_data.specs.Bringing.{GoOn, with_gone}
+use Rattle.slot_history.proofs.StandLemmas.{lawful_still, spent_later}
+use Rattle.slot_data.specs.Bringing.{with_gone}
 use Rattle.slot_data.specs.Disks.{Disks}
 use Rattle.slot_data.specs.Holding.{Hands, Holding}
-use Rattle.slot_data.specs.Live.{IsComing}
 use Rattle.slot_data.specs.Moves.{LanesStand, with_trash}
-use Rattle.slot_data.specs.Standing.{AddsAreNamed, DataStands, RecordNames, RecordNamesId}
+use Rattle.slot_data.specs.Standing.{AddsAreNamed, DataStands}
 use Rattle.slot_data.proofs.CarryLemmas.{Carries, carried}
 use Rattle.slot_history.proofs.TakenLemmas.{none_there}
 

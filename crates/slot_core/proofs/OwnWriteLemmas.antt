@@ -1,5 +1,5 @@
 -- What lanes stand for after a change of a section's own was written over a register that was settled.
-use Rattle.std.proofs.Common.{◌≡◌, ◌⊎◌, ◌<◌, ◌≤◌, ◌∙◌, ℕ, List, [], Result, Ok, Err, Contains, sym, ap, subst, refl, inl, inr, arith}
+use Rattle.std.proofs.Common.{◌≡◌, ◌⊎◌, ◌<◌, ◌≤◌, ◌∙◌, ℕ, List, [], Ok, Err, Contains, sym, subst, inl, inr, arith}
 use Rattle.call_types.specs.declared.why.Why.{Why}
 use Rattle.drive_base.specs.Plan.{write_drives}
 use Rattle.drive_base.specs.declared.plan.SetPlan.{SetPlan}
@@ -10,7 +10,7 @@ use Rattle.vote_core.specs.Laws.{AboveLastIsFresh}
 use Rattle.vote_core.specs.Loops.{Stands as StandsOn}
 use Rattle.register_core.specs.Keeping.{MayPropose}
 use Rattle.register_caller.specs.Calling.{BothLeave}
-use Rattle.register_caller.specs.Leaving.{LeavesByResult, LeavesLanes, Written, written_of}
+use Rattle.register_caller.specs.Leaving.{LeavesByResult, LeavesLanes, written_of}
 use Rattle.slot_history.specs.Committing.{MayCommit}
 use Rattle.slot_history.specs.Laws.{IsMade, OnlyTheOld, OnlyTheOldOr, OwnIsFresh, OwnStands, with_waiting}
 use Rattle.slot_history.specs.Standing.{Flying, Records, Stands}

@@ -8,10 +8,10 @@ use Rattle.slot_data.specs.Disks.{Disks}
 use Rattle.slot_data.specs.Holding.{Hands, Holding}
 use Rattle.slot_history.specs.State.{State}
 use Rattle.slot_core.specs.Causes.{Completes, PeekCause}
-use Rattle.slot_core.specs.Turning.{Leaves, TurnLeaves}
+use Rattle.slot_core.specs.Turns.{Leaves, TurnLeaves}
 use Rattle.slot_core.specs.Views.{SlotNumbers}
-use Rattle.slot_core.specs.declared.fault.SlotFault.{SlotFault}
-use Rattle.slot_core.specs.declared.fault.SlotFault.TheVariants.{Quorum, Key, SeqSpent, AuditFailed, NoMemory, NotInFlight}
+use Rattle.slot_core.specs.declared.slot.SlotFault.{SlotFault}
+use Rattle.slot_core.specs.declared.slot.SlotFault.TheVariants.{Quorum, Key, SeqSpent, AuditFailed, NoMemory, NotInFlight}
 use Rattle.slot_core.specs.declared.stub.Stub.{Stub}
 use Rattle.slot_core.proofs.LaneLemmas.{stands_turned, with_turns}
 

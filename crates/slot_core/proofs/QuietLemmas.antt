@@ -1,5 +1,5 @@
 -- Sections that call no lane and write no entry leave what the lanes stand for.
-use Rattle.std.proofs.Common.{◌≡◌, ◌≢◌, ◌∙◌, ℕ, ◌+◌, ◌*◌, ◌^◌, ◌<◌, ◌≤◌, Bool, List, Option, None, Result, Ok, Err, Contains, map, inl, inr, refl, sym, subst, ap, arith}
+use Rattle.std.proofs.Common.{◌≡◌, ◌∙◌, ℕ, ◌+◌, ◌*◌, ◌^◌, ◌<◌, ◌≤◌, Bool, List, Option, None, map, inl, inr, refl, sym, subst, ap, arith}
 use Rattle.stamp_id.specs.declared.version.VersionId.{VersionId}
 use Rattle.audit_trail.specs.declared.entry.Entry.{Entry}
 use Rattle.call_types.specs.declared.names.Key.{Key}
@@ -13,7 +13,7 @@ use Rattle.slot_history.specs.Laws.{FlightsBegin, FlightsEnd}
 use Rattle.slot_history.specs.Standing.{Flying, Records, Stands}
 use Rattle.slot_history.specs.State.{State, TakesOut}
 use Rattle.slot_data.specs.Disks.{Disks}
-use Rattle.slot_data.specs.Holding.{Hands, Holding, Known, Pinned}
+use Rattle.slot_data.specs.Holding.{Hands, Holding, Pinned}
 use Rattle.slot_data.specs.Laws.{PinEnds, PutBegins, PutIsGivenUp, TrashIsTaken}
 use Rattle.slot_data.specs.Moves.{LanesStand, given_up, with_flight, with_pins, with_taken, with_trash}
 use Rattle.slot_data.specs.Rows.{PinsAreFound, pinned_of}
@@ -23,12 +23,12 @@ use Rattle.slot_core.proofs.CalmingLemmas.{none_calms}
 use Rattle.slot_core.proofs.TakingLemmas.{taken_of_first}
 use Rattle.slot_core.specs.Hands.{HandsStay}
 use Rattle.slot_core.specs.Numbers.{NumbersMove}
-use Rattle.slot_core.specs.Sections.{BeginsPut, MayGiveUp, MayLetGo, PinGoes, PutGoes, ShowsNoMore, TakesFirst, TakesInHand}
-use Rattle.slot_core.specs.Standing.{LanesHave, SlotStands}
+use Rattle.slot_core.specs.Sections.{BeginsPut, MayGiveUp, MayLetGo, PinGoes, PutGoes, ShowsNoMore, TakesFirst}
+use Rattle.slot_core.specs.Standing.{LanesHave}
 use Rattle.slot_core.specs.Stubs.{entry_of}
-use Rattle.slot_core.specs.Turning.{EntryMoves, Leaves, TurnLeaves}
+use Rattle.slot_core.specs.Turns.{EntryMoves, Leaves}
 use Rattle.slot_core.specs.Views.{SlotNumbers, last_of, quorum_of}
-use Rattle.slot_core.specs.declared.handles.Flight.{Flight}
+use Rattle.slot_core.specs.declared.holding.Flight.{Flight}
 use Rattle.slot_core.specs.declared.stub.Stub.{Stub}
 
 -- loose names that are still to come from an earlier number on are so from a later one on

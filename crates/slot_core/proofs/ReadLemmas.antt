@@ -27,12 +27,12 @@ use Rattle.slot_data.specs.Holding.{Pinned}
 use Rattle.slot_data.specs.Holding.Purpose.{ForRead}
 use Rattle.slot_data.specs.Rows.{pinned_of}
 use Rattle.slot_data.specs.declared.rows.PinRow.{PinRow}
-use Rattle.slot_core.specs.Reading.{AreEntries, IsFound, KnownRead, PlansRead, found_reply, read_entry}
-use Rattle.slot_core.specs.Settling.{SettledOn}
-use Rattle.slot_core.specs.declared.pen.Entries.{Entries}
-use Rattle.slot_core.specs.declared.reading.ReadPlan.{ReadPlan}
-use Rattle.slot_core.specs.declared.reading.ReadPlan.TheVariants.{Gives}
-use Rattle.slot_core.specs.declared.reading.ReadStart.{ReadStart}
+use Rattle.slot_core.specs.ReadSection.{AreEntries, IsFound, KnownRead, PlansRead, found_reply, read_entry}
+use Rattle.slot_core.specs.Settlement.{SettledOn}
+use Rattle.slot_core.specs.declared.audit_entry.Entries.{Entries}
+use Rattle.slot_core.specs.declared.read_plan.ReadPlan.{ReadPlan}
+use Rattle.slot_core.specs.declared.read_plan.ReadPlan.TheVariants.{Gives}
+use Rattle.slot_core.specs.declared.read_plan.ReadStart.{ReadStart}
 
 -- the answer of a place
 abbrev placed : ℕ → Result ℕ KeyRefusal

@@ -40,21 +40,21 @@ use Rattle.slot_rules.specs.Rules.{IsRead, longest_for, rule_for}
 use Rattle.slot_rules.specs.declared.site.Drawn.{Drawn}
 use Rattle.slot_rules.specs.declared.site.Site.{Site}
 use Rattle.slot_core.specs.Hands.{HandsStay}
-use Rattle.slot_core.specs.Peeking.{TurnsAt}
-use Rattle.slot_core.specs.Pen.{has_late}
-use Rattle.slot_core.specs.Looked.{CallsForward, late_of}
-use Rattle.slot_core.specs.Reading.{BeginsPlan, HasStub, IsFound, IsNewTicket, KnownRead, LooksForRead, PinIsListed, PlansRead, ReadCause, ReadGave, entries_of, found_reply, read_entry}
+use Rattle.slot_core.specs.PeekSection.{TurnsAt}
+use Rattle.slot_core.specs.AuditEntry.{has_late}
+use Rattle.slot_core.specs.RegisterLook.{CallsForward, late_of}
+use Rattle.slot_core.specs.ReadSection.{BeginsPlan, HasStub, IsFound, IsNewTicket, KnownRead, LooksForRead, PinIsListed, PlansRead, ReadCause, ReadGave, entries_of, found_reply, read_entry}
 use Rattle.slot_core.specs.Sections.{IsReadPin, ReadHolds, SaysRead, ShowsNoMore}
-use Rattle.slot_core.specs.Settling.{IsReady, Settled, numbers_at}
+use Rattle.slot_core.specs.Settlement.{IsReady, Settled, numbers_at}
 use Rattle.slot_core.specs.Stubs.{Says, completed_by, entry_of, late_in}
-use Rattle.slot_core.specs.Turning.{EntryMoves, TurnLeaves}
+use Rattle.slot_core.specs.Turns.{EntryMoves, TurnLeaves}
 use Rattle.slot_core.specs.Views.{SlotNumbers, last_of, quorum_of}
-use Rattle.slot_core.specs.declared.fault.SlotFault.{SlotFault}
-use Rattle.slot_core.specs.declared.fault.SlotFault.TheVariants.{Key as KeyFault}
-use Rattle.slot_core.specs.declared.finding.Planned.{Planned}
-use Rattle.slot_core.specs.declared.reading.ReadPlan.{ReadPlan}
-use Rattle.slot_core.specs.declared.reading.ReadPlan.TheVariants.{Gives, Refuses}
-use Rattle.slot_core.specs.declared.reading.ReadStart.{ReadStart}
+use Rattle.slot_core.specs.declared.slot.SlotFault.{SlotFault}
+use Rattle.slot_core.specs.declared.slot.SlotFault.TheVariants.{Key as KeyFault}
+use Rattle.slot_core.specs.declared.read_section.Planned.{Planned}
+use Rattle.slot_core.specs.declared.read_plan.ReadPlan.{ReadPlan}
+use Rattle.slot_core.specs.declared.read_plan.ReadPlan.TheVariants.{Gives, Refuses}
+use Rattle.slot_core.specs.declared.read_plan.ReadStart.{ReadStart}
 use Rattle.slot_core.specs.declared.stub.Stub.{Stub}
 use Rattle.slot_core.specs.declared.stub.Turn.{Turn}
 use Rattle.slot_core.proofs.CalmingLemmas.{look_calms}

@@ -1,58 +1,52 @@
 -- What a section leaves of lanes that stood for a state, once it completed what its look found pending.
 use Rattle.std.proofs.Common.{◌≡◌, ◌<◌, ◌≤◌, ◌+◌, ◌*◌, ◌^◌, ◌∙◌, ℕ, List, [], Option, None, Some, Result, Ok, Err, length, map, ap, subst, sym, refl, inl, inr, arith}
-use Rattle.std.specs.Prelude.{Bool, Contains, string_bytes}
+use Rattle.std.specs.Prelude.{Bool, string_bytes}
 use Rattle.std.specs.Result.{IfOk}
 use Rattle.std.proofs.lemmas.Bool.Decides.{nat_tests}
 use Rattle.call_types.specs.Good.{is_good}
 use Rattle.drive_base.specs.Files.{Files}
-use Rattle.drive_base.specs.Plan.{data_drives, write_drives}
+use Rattle.drive_base.specs.Plan.{write_drives}
 use Rattle.drive_base.specs.declared.plan.SetPlan.{SetPlan}
 use Rattle.stamp_id.specs.Rank.{change_of, rank_of}
 use Rattle.stamp_id.specs.declared.stamp.Ballot.{Ballot}
-use Rattle.stamp_id.specs.declared.stamp.ChangeId.{ChangeId}
 use Rattle.register_file.specs.declared.record.Base.{Base}
 use Rattle.register_file.specs.declared.record.Next.{Next}
-use Rattle.vote_core.specs.Lane.{Lane, Next as LaneNext}
+use Rattle.vote_core.specs.Lane.{Lane}
 use Rattle.vote_core.specs.Laws.{AboveLastIsFresh, DrawingKeeps, FreshIsCalm}
 use Rattle.vote_core.specs.Loops.{Stands as StandsOn}
 use Rattle.vote_core.specs.Row.{is_good as is_good_row}
 use Rattle.vote_core.specs.Sound.{HoldsValue}
 use Rattle.register_core.specs.Drafts.{IsDraftAfterLook, IsDraftOf}
 use Rattle.register_core.specs.Found.{content_of}
-use Rattle.register_core.specs.Keeping.{IsMarked, MarkMoves, MayPropose}
+use Rattle.register_core.specs.Keeping.{MarkMoves, MayPropose}
 use Rattle.register_core.specs.Loops.{KeepsDrives, TellsStay}
 use Rattle.register_core.specs.OnLanes.{AllTell, AreLanes, AreUnused}
 use Rattle.register_core.specs.Records.{again_of, base_of, marked_base, next_of}
 use Rattle.register_core.specs.Seen.{FindsValueOr, LookedSeen}
 use Rattle.register_core.specs.declared.drafts.Draft.{Draft}
 use Rattle.register_core.specs.declared.looked.Looked.{Looked}
-use Rattle.register_caller.specs.Calling.{BothLeave, StaysOrSteps, WroteBoth}
-use Rattle.register_caller.specs.Leaving.{LeavesLanes, written_of}
+use Rattle.register_caller.specs.Calling.{BothLeave, WroteBoth}
+use Rattle.register_caller.specs.Leaving.{written_of}
 use Rattle.register_caller.specs.Settling.{IsPending}
 use Rattle.register_caller.specs.Steps.{FilesStay}
 use Rattle.register_caller.proofs.CallingLemmas.{own_content}
 use Rattle.register_caller.proofs.SettlingLemmas.{forward_seen}
-use Rattle.slot_history.specs.Moving.{IsLast}
-use Rattle.slot_history.specs.Names.{part_name}
-use Rattle.slot_history.specs.Standing.{Records, Stands}
+use Rattle.slot_history.specs.Standing.{Records}
 use Rattle.slot_history.specs.State.{IsHeld, Register, Registers, State}
 use Rattle.slot_history.proofs.MemberLemmas.{nil_none}
 use Rattle.slot_history.proofs.NameLemmas.{bucket_not_part, key_not_part}
-use Rattle.slot_history.proofs.RestLemmas.{drawing_stands}
-use Rattle.slot_data.specs.Disks.{Disks}
-use Rattle.slot_data.specs.Holding.{Hands, Holding}
+use Rattle.slot_data.specs.Holding.{Holding}
 use Rattle.slot_data.specs.Moves.{LanesStand}
 use Rattle.slot_data.specs.Standing.{DataStands}
-use Rattle.slot_data.proofs.HandsLemmas.{numbers_are_drawn}
 use Rattle.slot_rules.specs.Owning.{base_after}
 use Rattle.slot_rules.specs.Rules.{IsRegisterName}
 use Rattle.slot_rules.specs.declared.ready.Ready.{Ready}
 use Rattle.slot_rules.specs.declared.site.Drawn.{Drawn}
 use Rattle.slot_rules.specs.declared.site.Site.{Site}
-use Rattle.slot_core.specs.Calming.{IsCalmUnder}
-use Rattle.slot_core.specs.Settling.{FirstIs, IsReady, Settled, SettledOn, SettlesAfter, numbers_at}
+use Rattle.slot_core.specs.Calm.{IsCalmUnder}
+use Rattle.slot_core.specs.Settlement.{FirstIs, IsReady, Settled, SettledOn, numbers_at}
 use Rattle.slot_core.specs.Standing.{LanesHave, SlotStands}
-use Rattle.slot_core.specs.Views.{SlotNumbers, last_of, quorum_of}
+use Rattle.slot_core.specs.Views.{SlotNumbers, last_of}
 use Rattle.slot_core.proofs.AgainLemmas.{Forwarded, WroteAgain, forwarded}
 use Rattle.slot_core.proofs.CalmingLemmas.{all_stays, wrote_stays}
 use Rattle.slot_core.proofs.LaneLemmas.{have_after_look, have_after_write, lanes_stay, with_lanes, with_lanes_writes}

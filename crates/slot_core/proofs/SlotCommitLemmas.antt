@@ -1,5 +1,5 @@
 -- A commit of a slot, by that of its lanes.
-use Rattle.std.proofs.Common.{◌≡◌, ◌≢◌, ◌⊎◌, ◌<◌, ◌≤◌, ◌∙◌, ℕ, suc, zero, List, [], ◌∷◌, ◌++◌, map, Option, None, Some, Result, Ok, Err, All, Contains, length, ap, subst, sym, refl, inl, inr, arith}
+use Rattle.std.proofs.Common.{◌≡◌, ◌≢◌, ◌⊎◌, ◌<◌, ◌∙◌, ℕ, suc, List, [], ◌∷◌, ◌++◌, map, Option, None, Some, Result, Ok, Err, length, ap, subst, sym, refl, inl, inr, arith}
 use Rattle.std.specs.Prelude.{Bool, MatchOption, slice_index_or}
 use Rattle.std.specs.List.{AllByRecursion}
 use Rattle.std.proofs.lemmas.List.{append-nil}
@@ -17,7 +17,6 @@ use Rattle.slot_history.specs.Contents.{NamedData, number_of_id}
 use Rattle.slot_history.specs.Standing.{Flying}
 use Rattle.slot_history.specs.State.{TakesOut}
 use Rattle.slot_history.proofs.TakenLemmas.{left_apart, taken_there}
-use Rattle.slot_data.specs.Bringing.{with_gone}
 use Rattle.slot_data.specs.Holding.{Holding, IsInFlight}
 use Rattle.slot_data.specs.Rows.{flying_of}
 use Rattle.slot_data.specs.declared.rows.FlightRow.{FlightRow}
@@ -25,16 +24,16 @@ use Rattle.slot_rules.specs.Deeds.{brings_of, name_of}
 use Rattle.slot_rules.specs.Fields.{AreApart}
 use Rattle.slot_rules.specs.declared.commit.Commit.{Commit}
 use Rattle.slot_rules.specs.declared.commit.Committed.{Committed}
-use Rattle.slot_core.specs.Carrying.{FitsPut, Lands, kept_with}
-use Rattle.slot_core.specs.CommitCauses.{CommitCause, FoundSo, IsOwnChangeOf, LookRefused, OwnAfterAgain, OwnAtOnce, OwnIsWritten, WroteSo}
-use Rattle.slot_core.specs.Committing.{ChecksFlight, CommitHolds, FitsFlight, FlightEnds, GoneByAnswer, NothingBegun}
-use Rattle.slot_core.specs.Landing.{ChecksLanding, FitsLanding, LandsPut, LandsRow, flight_put, handed, put_of}
+use Rattle.slot_core.specs.CommitOutcome.{Lands, kept_with}
+use Rattle.slot_core.specs.CommitCauses.{CommitCause, FoundSo, OwnIsWritten, WroteSo}
+use Rattle.slot_core.specs.Commits.{ChecksFlight, CommitHolds, FitsFlight, FlightEnds, GoneByAnswer, NothingBegun}
+use Rattle.slot_core.specs.PutEnds.{ChecksLanding, FitsLanding, LandsPut, LandsRow, flight_put, handed, put_of}
 use Rattle.slot_core.specs.Views.{SlotNumbers}
-use Rattle.slot_core.specs.declared.fault.SlotFault.{SlotFault}
-use Rattle.slot_core.specs.declared.fault.SlotFault.TheVariants.{Quorum, Key as KeyFault, SeqSpent, AuditFailed, NoMemory, NotInFlight}
-use Rattle.slot_core.specs.declared.handles.Flight.{Flight}
-use Rattle.slot_core.specs.declared.landing.Landing.{Landing}
-use Rattle.slot_core.specs.declared.landing.Landing.TheVariants.{Missing, Nothing, Put}
+use Rattle.slot_core.specs.declared.slot.SlotFault.{SlotFault}
+use Rattle.slot_core.specs.declared.slot.SlotFault.TheVariants.{Quorum, Key as KeyFault, SeqSpent, AuditFailed, NoMemory, NotInFlight}
+use Rattle.slot_core.specs.declared.holding.Flight.{Flight}
+use Rattle.slot_core.specs.declared.flights.Landing.{Landing}
+use Rattle.slot_core.specs.declared.flights.Landing.TheVariants.{Ended, Missing}
 use Rattle.slot_core.proofs.LaneLemmas.{with_turns}
 use Rattle.slot_core.proofs.TakingLemmas.{none_flies, taken_mapped}
 
@@ -55,8 +54,8 @@ apart_distinct (x ∷ xs) apart = (
 
 -- it ends, and no other has its number
 lands_put : (id : VersionId) (landing : Landing) (old new : List FlightRow) → AreApart old → LandsPut id landing old new → Lands (put_of landing) (map flying_of old) (map flying_of new)
-lands_put put Nothing old new apart lands = absurd lands
-lands_put put (Put id) old new apart lands =
+lands_put put (Ended None) old new apart lands = absurd lands
+lands_put put (Ended (Some id)) old new apart lands =
     let row : FlightRow = lands.1.0 in
     let taken = taken_mapped flying_of row old new lands.1.2 in (
       flying_of row,
@@ -76,8 +75,8 @@ lands_row (Some flight) landing old new apart lands = lands_put flight.id landin
 -- so the flight isn't listed any more
 ends_put : (put : VersionId) (landing : Landing) (old new : List FlightRow) → LandsPut put landing old new
     → ((f : Flying) × (f.id ≡ put) × TakesOut f (map flying_of old) (map flying_of new)) ⊎ ((IsInFlight (map flying_of old) put → ⊥) × (map flying_of new ≡ map flying_of old))
-ends_put put Nothing old new lands = absurd lands
-ends_put put (Put id) old new lands = inl (flying_of lands.1.0, lands.1.1 ∙ sym lands.0, taken_mapped flying_of lands.1.0 old new lands.1.2)
+ends_put put (Ended None) old new lands = absurd lands
+ends_put put (Ended (Some id)) old new lands = inl (flying_of lands.1.0, lands.1.1 ∙ sym lands.0, taken_mapped flying_of lands.1.0 old new lands.1.2)
 ends_put put (Missing id) old new lands = inr (
   (λ flying. none_flies old id lands.1.0 (subst (λ (x : VersionId). IsInFlight (map flying_of old) x) lands.0 flying)),
   ap (map flying_of) lands.1.1,
@@ -110,8 +109,8 @@ commit_holds_none flight landing rows new fault answer held kept listed lands to
 
 -- the put that was handed in
 handed_put : (put : VersionId) (landing : Landing) (old new : List FlightRow) → LandsPut put landing old new → handed landing ≡ Some put
-handed_put put Nothing old new lands = absurd lands
-handed_put put (Put id) old new lands = ap (λ (x : VersionId). Some x) (sym lands.0)
+handed_put put (Ended None) old new lands = absurd lands
+handed_put put (Ended (Some id)) old new lands = ap (λ (x : VersionId). Some x) (sym lands.0)
 handed_put put (Missing id) old new lands = ap (λ (x : VersionId). Some x) (sym lands.0)
 
 pub handed_flight : (flight : Option Flight) (landing : Landing) (old new : List FlightRow) → LandsRow flight landing old new → handed landing ≡ flight_put flight
@@ -121,21 +120,21 @@ handed_flight (Some flight) landing old new lands = handed_put flight.id landing
 -- ---- deeds that fit
 
 fits_none : (brings : Option NamedData) (flight : Option Flight) → flight ≡ None → MatchOption brings (flight ≡ None) (λ named. (f : Flight) × (flight ≡ Some f) × (f.id ≡ named.id))
-    → MatchOption brings (put_of Nothing ≡ None) (λ named. put_of Nothing ≡ Some named.id)
+    → MatchOption brings (put_of (Ended None) ≡ None) (λ named. put_of (Ended None) ≡ Some named.id)
 fits_none None flight none fits = refl
 fits_none (Some named) flight none fits = absurd (let clash : None ≡ Some fits.0 = sym none ∙ fits.1 in cc)
 
 fits_put : (brings : Option NamedData) (flight : Flight) (id : VersionId) → flight.id ≡ id
     → MatchOption brings (Some flight ≡ None) (λ named. (f : Flight) × (Some flight ≡ Some f) × (f.id ≡ named.id))
-    → MatchOption brings (put_of (Put id) ≡ None) (λ named. put_of (Put id) ≡ Some named.id)
+    → MatchOption brings (put_of (Ended (Some id)) ≡ None) (λ named. put_of (Ended (Some id)) ≡ Some named.id)
 fits_put None flight id is fits = absurd cc
 fits_put (Some named) flight id is fits =
     let same : flight ≡ fits.0 = (let both : Some flight ≡ Some fits.0 = fits.1 in cc) in
     ap (λ (x : VersionId). Some x) (sym is ∙ (ap (λ (f : Flight). f.id) same ∙ fits.2))
 
 fits_landed : (deed : Commit) (flight : Flight) (landing : Landing) (old new : List FlightRow) → FitsFlight deed (Some flight) → LandsPut flight.id landing old new → FitsLanding deed landing
-fits_landed deed flight Nothing old new fits lands = absurd lands
-fits_landed deed flight (Put id) old new fits lands = fits_put (brings_of deed) flight id lands.0 fits
+fits_landed deed flight (Ended None) old new fits lands = absurd lands
+fits_landed deed flight (Ended (Some id)) old new fits lands = fits_put (brings_of deed) flight id lands.0 fits
 fits_landed deed flight (Missing id) old new fits lands = tt
 
 pub fits_landing : (deed : Commit) (flight : Option Flight) (landing : Landing) (old new : List FlightRow) → FitsFlight deed flight → LandsRow flight landing old new
@@ -156,8 +155,8 @@ row_listed put id old new same taken = record {
 
 checks_put : (flight : Flight) (landing : Landing) (old new : List FlightRow) (held : Holding) (answer : Result Committed SlotFault) → held.flights ≡ map flying_of old
     → LandsPut flight.id landing old new → ChecksLanding landing answer → ChecksFlight (Some flight) held answer
-checks_put flight Nothing old new held answer listed lands checks = absurd lands
-checks_put flight (Put id) old new held answer listed lands checks = record {
+checks_put flight (Ended None) old new held answer listed lands checks = absurd lands
+checks_put flight (Ended (Some id)) old new held answer listed lands checks = record {
   unlisted = λ f is none.
       let same : flight ≡ f = (let both : Some flight ≡ Some f = is in cc) in
       absurd (none (subst (λ (l : List Flying). IsInFlight l f.id) (sym listed)
@@ -176,7 +175,7 @@ checks_put flight (Missing id) old new held answer listed lands checks = record 
 pub checks_flight : (flight : Option Flight) (landing : Landing) (old new : List FlightRow) (held : Holding) (answer : Result Committed SlotFault) → held.flights ≡ map flying_of old
     → LandsRow flight landing old new → ChecksLanding landing answer → ChecksFlight flight held answer
 checks_flight None landing old new held answer listed lands checks =
-    let nothing : ChecksLanding Nothing answer = subst (λ (l : Landing). ChecksLanding l answer) lands.0 checks in
+    let nothing : ChecksLanding (Ended None) answer = subst (λ (l : Landing). ChecksLanding l answer) lands.0 checks in
     record {
       unlisted = λ f is none. absurd (let clash : None ≡ Some f = is in cc);
       refused = λ x told. absurd (nothing x told);

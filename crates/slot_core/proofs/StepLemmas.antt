@@ -1,5 +1,5 @@
 -- What a step of a key leaves of its versions: those that it had, a marker, and the version of the data that its act brings.
-use Rattle.std.proofs.Common.{◌≡◌, ◌≢◌, ◌⊎◌, inl, inr, ℕ, Bool, List, [], ◌∷◌, ◌++◌, Option, Some, None, MatchOption, Contains, filter, find, refl, sym, subst, ap, ◌∙◌}
+use Rattle.std.proofs.Common.{◌≡◌, ◌≢◌, ◌⊎◌, inl, inr, ℕ, Bool, List, Option, Some, None, MatchOption, Contains, filter, find, refl, sym, subst}
 use Rattle.std.proofs.lemmas.List.Elements.{All-contains, All-contains_itself, All-filter}
 use Rattle.stamp_id.specs.declared.version.VersionId.{VersionId}
 use Rattle.call_types.specs.declared.names.Etag.{Etag}
@@ -8,12 +8,11 @@ use Rattle.call_types.specs.declared.names.Mode.TheVariants.{Never, Enabled, Sus
 use Rattle.call_types.specs.declared.names.Pick.TheVariants as pick
 use Rattle.call_types.specs.declared.version.Version.{Version}
 use Rattle.call_types.specs.declared.version.Upload.{Upload}
-use Rattle.call_types.specs.declared.version.What.{What}
 use Rattle.call_types.specs.declared.version.What.TheVariants.{Marker, Object}
 use Rattle.call_types.specs.declared.act.Act.{Act}
 use Rattle.call_types.specs.declared.act.Act.TheVariants as act
 use Rattle.call_types.specs.declared.reply.Reply.{Reply}
-use Rattle.call_types.specs.declared.reply.Reply.TheVariants.{Plain, Completed, Deleted, Stored}
+use Rattle.call_types.specs.declared.reply.Reply.TheVariants.{Plain, Completed}
 use Rattle.call_types.specs.declared.refusal.Refusal.TheVariants.{NoSuchUpload}
 use Rattle.version_list.specs.declared.state.KeyState.{KeyState}
 use Rattle.version_list.specs.Naming.{is_upload, still_open}

@@ -9,7 +9,7 @@ use Rattle.slot_history.specs.Contents.{number_of_id}
 use Rattle.slot_history.specs.Standing.{Flying}
 use Rattle.slot_history.specs.State.{TakesOut}
 use Rattle.slot_data.specs.Holding.{Holding, IsInFlight, IsPinned, Pinned}
-use Rattle.slot_data.specs.Moves.{TakesTrash, given_up, with_pins, with_trash}
+use Rattle.slot_data.specs.Moves.{TakesTrash, given_up, with_pins}
 use Rattle.slot_data.specs.Rows.{PinsAreFound, flying_of, is_id, pin_names, pinned_of}
 use Rattle.slot_data.specs.declared.rows.FlightRow.{FlightRow}
 use Rattle.slot_data.specs.declared.rows.PinRow.{PinRow}

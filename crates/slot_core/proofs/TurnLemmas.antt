@@ -24,18 +24,18 @@ use Rattle.slot_rules.specs.declared.site.Drawn.{Drawn}
 use Rattle.slot_rules.specs.declared.site.Site.{Site}
 use Rattle.slot_core.specs.Causes.{LookCause}
 use Rattle.slot_core.specs.Hands.{HandsStay}
-use Rattle.slot_core.specs.Looked.{CallsForward, WritesFirst}
-use Rattle.slot_core.specs.Peeking.{GivesBy, GivesOver, IsRefusal, KnownContent, TurnsAt}
-use Rattle.slot_core.specs.Pen.{WritesDown, has_late, kept_entry}
+use Rattle.slot_core.specs.RegisterLook.{CallsForward, WritesFirst}
+use Rattle.slot_core.specs.PeekSection.{GivesBy, GivesOver, IsRefusal, KnownContent, TurnsAt}
+use Rattle.slot_core.specs.AuditEntry.{WritesDown, has_late, kept_entry}
 use Rattle.slot_core.specs.Sections.{ShowsContent}
-use Rattle.slot_core.specs.Settling.{Settled, SettledOn, numbers_at}
+use Rattle.slot_core.specs.Settlement.{Settled, SettledOn, numbers_at}
 use Rattle.slot_core.specs.Standing.{SlotStands}
 use Rattle.slot_core.specs.Stubs.{AuditHas, entry_of}
-use Rattle.slot_core.specs.Turning.{EntryMoves, TurnLeaves}
+use Rattle.slot_core.specs.Turns.{EntryMoves, TurnLeaves}
 use Rattle.slot_core.specs.Views.{SlotNumbers, last_of, quorum_of}
-use Rattle.slot_core.specs.declared.fault.SlotFault.{SlotFault}
-use Rattle.slot_core.specs.declared.fault.SlotFault.TheVariants.{Key as KeyFault}
-use Rattle.slot_core.specs.declared.peeking.Peeked.{Peeked}
+use Rattle.slot_core.specs.declared.slot.SlotFault.{SlotFault}
+use Rattle.slot_core.specs.declared.slot.SlotFault.TheVariants.{Key as KeyFault}
+use Rattle.slot_core.specs.declared.peek_section.Peeked.{Peeked}
 use Rattle.slot_core.specs.declared.stub.Stub.{Stub}
 use Rattle.slot_core.proofs.CalmingLemmas.{look_calms, none_calms}
 use Rattle.slot_core.proofs.CauseLemmas.{writes_have_memory}

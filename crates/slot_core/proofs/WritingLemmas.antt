@@ -23,7 +23,7 @@ use Rattle.slot_data.specs.Holding.{Hands, Holding}
 use Rattle.slot_data.specs.Moves.{LanesStand}
 use Rattle.slot_data.specs.Standing.{DataStands}
 use Rattle.slot_rules.specs.Deeds.{call_of, name_of}
-use Rattle.slot_rules.specs.Owning.{IsOwnChange, own_seq}
+use Rattle.slot_rules.specs.Owning.{IsOwnChange, life_at, own_seq}
 use Rattle.slot_rules.specs.Planning.{IsGoneBy}
 use Rattle.slot_rules.specs.Plans.{IsTale}
 use Rattle.slot_rules.specs.declared.commit.Commit.TheVariants.{Key, MakeBucket, SetMode}
@@ -33,10 +33,10 @@ use Rattle.slot_rules.specs.declared.site.Drawn.{Drawn}
 use Rattle.slot_rules.specs.declared.site.Site.{Site}
 use Rattle.slot_rules.specs.declared.telling.Tale.{Tale}
 use Rattle.slot_rules.specs.declared.telling.Told.{Told}
-use Rattle.slot_core.specs.Carrying.{FitsPut, Lands, kept_with}
-use Rattle.slot_core.specs.CarryingOut.{IsOwnOver}
-use Rattle.slot_core.specs.Committing.{MayCommitData}
-use Rattle.slot_core.specs.Settling.{SettledOn, numbers_at}
+use Rattle.slot_core.specs.CommitOutcome.{FitsPut, Lands, kept_with}
+use Rattle.slot_core.specs.CommitWrite.{IsOwnOver}
+use Rattle.slot_core.specs.Commits.{MayCommitData}
+use Rattle.slot_core.specs.Settlement.{SettledOn, numbers_at}
 use Rattle.slot_core.specs.Views.{last_of}
 use Rattle.slot_core.proofs.DeedLemmas.{deed_brings, deed_commits}
 use Rattle.slot_core.proofs.DeemingLemmas.{Deeming, IsDeemed, NumberIs}
@@ -58,7 +58,7 @@ kept_gone holding rest gone old trash was added =
 
 -- the number of an own change, by how it was drawn
 own_drawn : (site : Site) (mid later : Drawn) (last : ℕ) (put : Option VersionId) (change : ChangeId) → mid.seq ≤ last → later.seq ≡ own_seq last put
-    → IsOwnChange site last put change → NumberIs (last_of (numbers_at site mid)) (last_of (numbers_at site later)) put change
+    → IsOwnChange (life_at site) last put change → NumberIs (last_of (numbers_at site mid)) (last_of (numbers_at site later)) put change
 own_drawn site mid later last None change low seq is = (
   subst (λ (t : ℕ). site.term * 2 ^ 64 + mid.seq < t * 2 ^ 64 + change.0.seq) (sym is.0) (let same = is.1 in omega arith),
   subst (λ (t : ℕ). t * 2 ^ 64 + change.0.seq ≤ site.term * 2 ^ 64 + later.seq) (sym is.0) (let same = is.1 in omega arith),
@@ -69,7 +69,7 @@ own_drawn site mid later last (Some id) change low seq is = is
 own_within : (site : Site) (mid : Drawn) (last : ℕ) (put : Option VersionId) (change : ChangeId) (ballot : ℕ) (flights rest : List Flying) → mid.seq ≤ last
     → ballot ≡ site.term * 2 ^ 64 + own_seq last put → Lands put flights rest
     → ((f : Flying) → Contains flights f → number_of_id f.id ≤ site.term * 2 ^ 64 + mid.seq)
-    → IsOwnChange site last put change → change_of change ≤ ballot
+    → IsOwnChange (life_at site) last put change → change_of change ≤ ballot
 own_within site mid last None change ballot flights rest low is lands drawn own =
     subst (λ (t : ℕ). t * 2 ^ 64 + change.0.seq ≤ ballot) (sym own.0) (let same = own.1 in omega arith)
 own_within site mid last (Some id) change ballot flights rest low is lands drawn own =

@@ -15,8 +15,8 @@ use Rattle.register_caller.specs.Settling.{WritesAgain}
 use Rattle.register_caller.specs.Steps.{FilesStay, LookIsRefused}
 use Rattle.slot_rules.specs.Rules.{longest_for, rule_for}
 use Rattle.slot_core.specs.Views.{SlotNumbers, quorum_of}
-use Rattle.slot_core.specs.declared.fault.SlotFault.{SlotFault}
-use Rattle.slot_core.specs.declared.fault.SlotFault.TheVariants.{Quorum, Key, SeqSpent, AuditFailed, NoMemory, NotInFlight}
+use Rattle.slot_core.specs.declared.slot.SlotFault.{SlotFault}
+use Rattle.slot_core.specs.declared.slot.SlotFault.TheVariants.{Quorum, Key, SeqSpent, AuditFailed, NoMemory, NotInFlight}
 
 -- what a section tells of what its look found pending, and which number it drew to complete it: its change, under one number more; none where nothing was
 abbrev pub Completes : SlotNumbers → SlotNumbers → Option Next → Option ChangeId → Type 0

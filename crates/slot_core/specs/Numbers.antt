@@ -1,5 +1,6 @@
 -- The numbers that a slot draws, and when they are spent.
 use Rattle.std.specs.Prelude.{◌≡◌, ◌⊎◌, ℕ, ◌+◌, ◌<◌, ◌≤◌}
+use Rattle.slot_rules.specs.declared.site.Drawn.{Drawn}
 use Rattle.slot_core.specs.Views.{SlotNumbers}
 
 -- a section one turn later: the slot's set, index and term stay, and its numbers only rise. It draws three at most: a ballot for
@@ -14,6 +15,13 @@ pub record NumbersMove (old new : SlotNumbers) : Type 0 where
   pub few_seq : new.seq ≤ old.seq + 3
   pub count : old.count ≤ new.count
   pub few_count : new.count ≤ old.count + 64
+
+-- so many numbers are drawn at most, and so many loose names used
+pub record Draws (numbers names : ℕ) (old new : Drawn) : Type 0 where
+  pub seq : old.seq ≤ new.seq
+  pub few_seq : new.seq ≤ old.seq + numbers
+  pub count : old.count ≤ new.count
+  pub few_count : new.count ≤ old.count + names
 
 -- the last sequence number at which a section may still begin, 2^62 - 16,384: no section draws more than 16,383
 abbrev pub last_seq : ℕ

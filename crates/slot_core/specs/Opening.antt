@@ -1,12 +1,11 @@
 -- What opening a slot leaves, and what trouble does to a lane.
-use Rattle.std.specs.Prelude.{◌≡◌, ◌≢◌, ℕ, ◌<◌, ◌≤◌, Bool, IsTrue, List, [], Option, None, length, replicate, slice_index_or, Result, Ok, Err}
+use Rattle.std.specs.Prelude.{◌≡◌, ◌≢◌, ℕ, ◌≤◌, Bool, IsTrue, List, [], Option, None, length, replicate, slice_index_or, Result, Ok, Err}
 use Rattle.drive_base.specs.Files.{Files}
 use Rattle.drive_base.specs.declared.plan.SetPlan.{SetPlan}
 use Rattle.vote_core.specs.Lane.{blank_lane}
 use Rattle.slot_history.specs.Standing.{Records, Stands}
 use Rattle.slot_history.specs.State.{State, no_state}
 use Rattle.audit_trail.specs.Entries.{CountsReserve, with_entry}
-use Rattle.audit_trail.specs.declared.audit.AuditFault.{AuditFault}
 use Rattle.audit_trail.specs.declared.entry.Deed.TheVariants.{Opened}
 use Rattle.audit_trail.specs.declared.entry.Entry.{Entry}
 use Rattle.slot_data.specs.Holding.{no_holding}

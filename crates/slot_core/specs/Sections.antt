@@ -25,10 +25,10 @@ use Rattle.slot_data.specs.Moves.{MayUnpin, given_up, with_flight, with_pins, wi
 use Rattle.slot_data.specs.Rows.{is_id, pin_names}
 use Rattle.slot_data.specs.declared.rows.PinRow.{PinRow}
 use Rattle.slot_core.specs.Views.{SlotNumbers}
-use Rattle.slot_core.specs.declared.fault.SlotFault.{SlotFault}
-use Rattle.slot_core.specs.declared.fault.SlotFault.TheVariants.{Quorum, Key as KeyFault, SeqSpent, AuditFailed, NoMemory, NotInFlight}
-use Rattle.slot_core.specs.declared.handles.Flight.{Flight}
-use Rattle.slot_core.specs.declared.reading.ReadStart.{ReadStart}
+use Rattle.slot_core.specs.declared.slot.SlotFault.{SlotFault}
+use Rattle.slot_core.specs.declared.slot.SlotFault.TheVariants.{Quorum, Key as KeyFault, SeqSpent, AuditFailed, NoMemory, NotInFlight}
+use Rattle.slot_core.specs.declared.holding.Flight.{Flight}
+use Rattle.slot_core.specs.declared.read_plan.ReadStart.{ReadStart}
 
 -- an entry is of this register, and says that its section did nothing of its own
 pub record SaysKept (name : List ℕ) (entry : Entry) : Type 0 where

@@ -5,8 +5,8 @@ use Rattle.stamp_id.specs.declared.stamp.ChangeId.{ChangeId}
 use Rattle.audit_trail.specs.Entries.{with_entry}
 use Rattle.audit_trail.specs.declared.entry.Entry.{Entry}
 use Rattle.slot_core.specs.Views.{SlotNumbers}
-use Rattle.slot_core.specs.declared.fault.SlotFault.{SlotFault}
-use Rattle.slot_core.specs.declared.fault.SlotFault.TheVariants.{Quorum, Key, SeqSpent, AuditFailed, NoMemory, NotInFlight}
+use Rattle.slot_core.specs.declared.slot.SlotFault.{SlotFault}
+use Rattle.slot_core.specs.declared.slot.SlotFault.TheVariants.{Quorum, Key, SeqSpent, AuditFailed, NoMemory, NotInFlight}
 use Rattle.slot_core.specs.declared.stub.Stub.{Stub}
 
 -- a stub is that of a section: it tells the slot, the section's ticket, its refusal, and its entry, if it wrote one

@@ -28,7 +28,7 @@ quorum_of numbers = write_drives numbers.set.drives numbers.set.parity
 module _ {D A : Type 0} where
   -- the numbers of a slot
   abbrev pub numbers_of : Slot D A → SlotNumbers
-  numbers_of slot = record { set = slot.set; index = slot.index; term = slot.term; turns = slot.turns; seq = slot.seq; count = slot.count }
+  numbers_of slot = record { set = slot.site.set; index = slot.site.index; term = slot.site.term; turns = slot.site.turns; seq = slot.drawn.seq; count = slot.drawn.count }
 
   -- what it keeps in memory
   abbrev pub holding_of : Slot D A → Holding

@@ -1,16 +1,18 @@
-//! Puts that begin and are given up.
+//! Puts that begin, are given up, and end with a commit.
 
-ghost use Rattle.std.specs.Prelude.{◌≡◌, ◌↔◌, ◌+◌, ◌*◌, ◌<◌, ◌^◌, IsUtf8, vec_capacity};
+ghost use Rattle.std.specs.Prelude.{◌≡◌, ◌↔◌, ◌+◌, ◌<◌, ◌^◌, IsUtf8, ◌≤◌, ℕ, All, vec_len};
 ghost use Rattle.slot_data.specs.declared.rows.FlightRow.{FlightRow};
 ghost use Rattle.slot_core.specs.Hands.{HandsStay};
 ghost use Rattle.slot_core.specs.Numbers.{AreSpent, with_seq};
 ghost use Rattle.slot_core.specs.Sections.{MayGiveUp, PutGoes, PutHolds, ShowsNoMore};
-ghost use Rattle.slot_core.specs.Turning.{Leaves, TurnsQuietly};
+ghost use Rattle.slot_core.specs.Turns.{Leaves, TurnsQuietly};
 ghost use Rattle.slot_core.specs.Views.{audit_of, holding_of, lanes_of, numbers_of};
+ghost use Rattle.slot_history.specs.Contents.{number_of_id};
+ghost use Rattle.slot_rules.specs.Fields.{AreApart};
+ghost use Rattle.slot_core.specs.PutEnds.{LandsPut, LandsRow};
 
-use crate::fault::SlotFault;
-use crate::handles::Flight;
-use crate::slot::Slot;
+use crate::holding::Flight;
+use crate::slot::{Slot, SlotFault};
 use crate::stub::{Stub, Turn};
 use audit_trail::Audit;
 use call_types::Key;
@@ -41,12 +43,12 @@ impl<D: Drive, A: Audit> Slot<D, A> {
         // The laws for the proof, that lanes and data go on to stand where a put begins. The calls do nothing.
         resting_laws();
         flight_laws();
-        let ticket = self.turns;
-        self.turns += 1;
+        let ticket = self.site.turns;
+        self.site.turns += 1;
         if self.is_spent() {
             return Turn {
                 answer: Err(SlotFault::SeqSpent),
-                stub: Some(Stub::refused(self.index, ticket, SlotFault::SeqSpent)),
+                stub: Some(Stub::refused(self.site.index, ticket, SlotFault::SeqSpent)),
             };
         }
         match self.list_put(alloc, at) {
@@ -76,9 +78,9 @@ impl<D: Drive, A: Audit> Slot<D, A> {
         let listed = Text::from_slice(alloc, full.as_bytes())?;
         self.flights.reserve(1)?;
         self.trash.reserve(self.flights.len() + 1)?;
-        let change = ChangeId(next_ballot(self.term, self.seq));
-        let id = VersionId::from_parts(change, self.index);
-        self.seq += 1;
+        let change = ChangeId(next_ballot(self.site.term, self.drawn.seq));
+        let id = VersionId::from_parts(change, self.site.index);
+        self.drawn.seq += 1;
         self.flights.push_reserved(FlightRow { id, name: listed });
         Ok(Flight { id, name })
     }
@@ -98,7 +100,7 @@ impl<D: Drive, A: Audit> Slot<D, A> {
         // The laws for the proof, that lanes and data go on to stand where a put is given up. The calls do nothing.
         resting_laws();
         flight_laws();
-        self.turns += 1;
+        self.site.turns += 1;
         self.give_up(flight.id);
         Turn {
             answer: Ok(()),
@@ -118,4 +120,41 @@ impl<D: Drive, A: Audit> Slot<D, A> {
         };
         self.trash.push_reserved(row.id);
     }
+}
+
+/// What became of the put that a commit was handed.
+#[derive(Clone, Copy)]
+pub(crate) enum Landing {
+    /// The put of this id was listed, and isn't any more; or none was handed in.
+    Ended(Option<VersionId>),
+    /// The put of this id wasn't listed.
+    Missing(VersionId),
+}
+
+/// Takes the put that a commit was handed off the list. It takes no memory.
+pub(crate) fn land(flights: &mut Vec<FlightRow>, flight: Option<Flight>) -> Landing
+    ensures lands { LandsRow flight result flights.old.items flights.new.items }
+    ensures at_most { vec_len flights.new ≤ vec_len flights.old }
+    ensures apart { AreApart flights.old.items → AreApart flights.new.items }
+    ensures drawn { (last : ℕ) → All (λ (row : FlightRow). number_of_id row.id ≤ last) flights.old.items
+        → All (λ (row : FlightRow). number_of_id row.id ≤ last) flights.new.items }
+{
+    match flight {
+        None => Landing::Ended(None),
+        Some(flight) => land_put(flights, flight.id),
+    }
+}
+
+/// Takes the put of this id off the list, if it is there.
+fn land_put(flights: &mut Vec<FlightRow>, id: VersionId) -> Landing
+    ensures lands { LandsPut id result flights.old.items flights.new.items }
+    ensures at_most { vec_len flights.new ≤ vec_len flights.old }
+    ensures apart { AreApart flights.old.items → AreApart flights.new.items }
+    ensures drawn { (last : ℕ) → All (λ (row : FlightRow). number_of_id row.id ≤ last) flights.old.items
+        → All (λ (row : FlightRow). number_of_id row.id ≤ last) flights.new.items }
+{
+    let Some(row) = take_flight(flights, id) else {
+        return Landing::Missing(id);
+    };
+    Landing::Ended(Some(row.id))
 }

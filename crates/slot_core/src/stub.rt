@@ -2,9 +2,9 @@
 
 ghost use Rattle.std.specs.Prelude.{◌≡◌, Option, MatchOption, None, Some};
 ghost use Rattle.audit_trail.specs.declared.entry.Entry.{Entry};
-ghost use Rattle.slot_core.specs.declared.fault.SlotFault.{SlotFault};
+ghost use Rattle.slot_core.specs.declared.slot.SlotFault.{SlotFault};
 
-use crate::fault::SlotFault;
+use crate::slot::SlotFault;
 use audit_trail::Entry;
 
 /// What a section leaves of itself: its slot, its ticket, its entry where it wrote one, and its refusal where it was refused. Sections alone make one.

@@ -1,3 +1,4 @@
+pub mod DeedRules
 pub mod Deeds
 pub mod Fields
 pub mod Owning

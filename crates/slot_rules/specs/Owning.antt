@@ -23,15 +23,24 @@ abbrev pub base_after : Base → Option Draft → Base
 base_after base None = base
 base_after base (Some draft) = draft.value
 
+-- a slot in one of its lives, from which numbers and ids are drawn
+pub record SlotLife : Type 0 where
+  pub index : ℕ
+  pub term : ℕ
+
+-- that in which a section is done
+abbrev pub life_at : Site → SlotLife
+life_at site = record { index = site.index; term = site.term }
+
 -- a section's own change is that of the put which it ends, or the next number of the slot after so many
-abbrev pub IsOwnChange : Site → ℕ → Option VersionId → ChangeId → Type 0
-IsOwnChange site last None change = (change.0.term ≡ site.term) × (change.0.seq ≡ last + 1)
-IsOwnChange site last (Some id) change = change ≡ id.change
+abbrev pub IsOwnChange : SlotLife → ℕ → Option VersionId → ChangeId → Type 0
+IsOwnChange life last None change = (change.0.term ≡ life.term) × (change.0.seq ≡ last + 1)
+IsOwnChange life last (Some id) change = change ≡ id.change
 
 -- its id in the slot
-pub record IsOwnId (site : Site) (last : ℕ) (put : Option VersionId) (id : VersionId) : Type 0 where
-  pub change : IsOwnChange site last put id.change
-  pub slot : id.slot ≡ site.index
+pub record IsOwnId (life : SlotLife) (last : ℕ) (put : Option VersionId) (id : VersionId) : Type 0 where
+  pub change : IsOwnChange life last put id.change
+  pub slot : id.slot ≡ life.index
 
 -- the sequence number of its ballot, which is drawn after it
 abbrev pub own_seq : ℕ → Option VersionId → ℕ
@@ -63,7 +72,7 @@ pub record IsOwnOf (site : Site) (last : ℕ) (ready : Ready) (deed : Commit) (p
   pub next : Next
   pub drafted : IsOwnDraft ready.looked ready.first next own.draft
   pub parent : next.parent ≡ (base_after ready.looked.base ready.first).change
-  pub change : IsOwnChange site last put next.change
+  pub change : IsOwnChange (life_at site) last put next.change
   pub change_is : own.change ≡ next.change
   pub term : next.ballot.term ≡ site.term
   pub seq : next.ballot.seq ≡ own_seq last put

@@ -11,6 +11,7 @@
 #![tactic(auto)]
 
 mod commit;
+mod deed_rule;
 mod flights;
 mod numbers;
 mod owning;
@@ -24,14 +25,15 @@ mod telling;
 mod trash;
 
 pub use commit::{Commit, Committed};
+pub use deed_rule::{DeedRule, plan_deed, rule_of_deed};
 pub use flights::take_flight;
 pub use numbers::next_ballot;
 pub use owning::{Own, OwnIds, id_over, last_over, own_ids};
 pub use pins::take_pin;
-pub use planning::{Planned, plan_bucket, plan_key};
+pub use planning::Planned;
 pub use plans::{Plan, plan_of};
 pub use ready::Ready;
 pub use rules::{BUCKET_BYTES, BucketRule, KEY_BYTES, KeyRule, LookRule};
-pub use site::{Drawn, Site};
+pub use site::{Ask, Drawn, Site};
 pub use telling::{Tale, Told};
 pub use trash::{add_gone, first_free, leave_out};

@@ -6,7 +6,7 @@ ghost use Rattle.sealed_record.specs.Fields.{IfThere};
 ghost use Rattle.register_core.specs.Found.{content_of};
 ghost use Rattle.register_file.specs.Record.{AddsPrint, IsCanonicalNext};
 ghost use Rattle.slot_rules.specs.Deeds.{call_of, name_of};
-ghost use Rattle.slot_rules.specs.Owning.{IsDraftable, IsOwnChange, IsOwnDraft, IsOwnId, IsOwnOf, again_takes, id_over, own_seq};
+ghost use Rattle.slot_rules.specs.Owning.{IsDraftable, IsOwnChange, IsOwnDraft, IsOwnId, IsOwnOf, again_takes, id_over, life_at, own_seq};
 ghost use Rattle.slot_rules.specs.Planning.{DoesOver, act_adds, adds_of, most_for};
 ghost use Rattle.slot_rules.specs.Owning.{base_after};
 
@@ -44,12 +44,9 @@ pub struct OwnIds {
 
 /// The ids that a section's own change may have: that of the put which it ends, or of the slot's next two numbers.
 pub fn own_ids(site: &Site, drawn: &Drawn, put: Option<VersionId>) -> OwnIds
-    requires index { site.now.index < 64 }
-    requires counts { 1 ≤ site.now.term }
-    requires term { site.now.term < 2 ^ 48 }
     requires seq { drawn.now.seq + 2 < 2 ^ 62 }
-    ensures alone { IsOwnId site.now drawn.now.seq put result.alone }
-    ensures after { IsOwnId site.now (drawn.now.seq + 1) put result.after }
+    ensures alone { IsOwnId (life_at site.now) drawn.now.seq put result.alone }
+    ensures after { IsOwnId (life_at site.now) (drawn.now.seq + 1) put result.after }
 {
     OwnIds {
         alone: own_id(site, drawn.seq, put),
@@ -59,11 +56,8 @@ pub fn own_ids(site: &Site, drawn: &Drawn, put: Option<VersionId>) -> OwnIds
 
 /// The id of a section's own change, where the last number drawn is this one.
 fn own_id(site: &Site, last: u64, put: Option<VersionId>) -> VersionId
-    requires index { site.now.index < 64 }
-    requires counts { 1 ≤ site.now.term }
-    requires term { site.now.term < 2 ^ 48 }
     requires seq { last + 1 < 2 ^ 62 }
-    ensures { IsOwnId site.now last put result }
+    ensures { IsOwnId (life_at site.now) last put result }
 {
     match put {
         None => VersionId::from_parts(ChangeId(next_ballot(site.term, last)), site.index),
@@ -198,10 +192,9 @@ pub(crate) fn own_of(
     id: VersionId,
     content: Bytes,
 ) -> Result<Own, NoMemory>
-    requires term { site.now.term < 2 ^ 48 }
     requires seq { last + 2 < 2 ^ 62 }
     requires draftable { IsDraftable ready.now.looked ready.now.first }
-    requires id { IsOwnId site.now last put id }
+    requires id { IsOwnId (life_at site.now) last put id }
     requires short { length content ≤ most_for deed.now }
     requires within { most_for deed.now ≤ ready.now.looked.longest }
     ensures change { IfOk result (λ own. own.change ≡ id.change) }

@@ -2,7 +2,7 @@
 
 ghost use Rattle.std.specs.Prelude.{◌≡◌, ◌+◌, ◌<◌, ◌≤◌, ◌^◌, IfOk};
 ghost use Rattle.register_core.specs.Found.{content_of};
-ghost use Rattle.slot_rules.specs.Owning.{IsDraftable, IsOwnId};
+ghost use Rattle.slot_rules.specs.Owning.{IsDraftable, IsOwnId, life_at};
 ghost use Rattle.slot_rules.specs.Planning.{IsPlanned, most_for};
 ghost use Rattle.slot_rules.specs.Plans.{IsPlan};
 
@@ -10,7 +10,7 @@ use crate::commit::Commit;
 use crate::owning::{Own, own_of};
 use crate::planning::Planned;
 use crate::ready::Ready;
-use crate::site::Site;
+use crate::site::Ask;
 use crate::telling::{Tale, tale_of};
 use fault_base::NoMemory;
 use stamp_id::VersionId;
@@ -30,22 +30,19 @@ pub struct Plan {
 /// The plan of a deed that does this under this id, where the last number drawn is this one.
 pub fn plan_of(
     alloc: Global,
-    site: &Site,
+    ask: &Ask,
     last: u64,
     ready: &Ready,
     deed: &Commit,
-    put: Option<VersionId>,
     id: VersionId,
-    now: u64,
     planned: Planned,
 ) -> Result<Plan, NoMemory>
-    requires term { site.now.term < 2 ^ 48 }
     requires seq { last + 2 < 2 ^ 62 }
     requires draftable { IsDraftable ready.now.looked ready.now.first }
-    requires id { IsOwnId site.now last put id }
+    requires id { IsOwnId (life_at ask.now.site) last ask.now.put id }
     requires within { most_for deed.now ≤ ready.now.looked.longest }
-    requires planned { IsPlanned deed.now now id (content_of ready.now.looked.base ready.now.looked.pending) planned }
-    ensures { IfOk result (λ plan. IsPlan site.now last ready.now deed.now put now plan) }
+    requires planned { IsPlanned deed.now ask.now.moment id (content_of ready.now.looked.base ready.now.looked.pending) planned }
+    ensures { IfOk result (λ plan. IsPlan ask.now.site last ready.now deed.now ask.now.put ask.now.moment plan) }
 {
     let Planned {
         reply,
@@ -55,7 +52,7 @@ pub fn plan_of(
     } = planned;
     match content {
         None => {
-            let tale = tale_of(alloc, deed, None, now, reply, refused)?;
+            let tale = tale_of(alloc, deed, None, ask.moment, reply, refused)?;
             Ok(Plan {
                 tale,
                 own: None,
@@ -63,14 +60,14 @@ pub fn plan_of(
             })
         }
         Some(content) => {
-            let own = match own_of(alloc, site, last, ready, deed, put, id, content) {
+            let own = match own_of(alloc, &ask.site, last, ready, deed, ask.put, id, content) {
                 Ok(own) => own,
                 Err(why) => {
                     drop(reply);
                     return Err(why);
                 }
             };
-            match tale_of(alloc, deed, Some(id.change), now, reply, refused) {
+            match tale_of(alloc, deed, Some(id.change), ask.moment, reply, refused) {
                 Ok(tale) => Ok(Plan {
                     tale,
                     own: Some(own),

@@ -2,7 +2,7 @@ use Rattle.std.proofs.Common.{◌≢◌, ◌∙◌, ℕ, List, Some, subst, sym}
 use Rattle.stamp_id.specs.declared.stamp.ChangeId.{ChangeId}
 use Rattle.register_core.specs.Found.{content_of}
 use Rattle.slot_rules.specs.Deeds.{call_of, name_of}
-use Rattle.slot_rules.specs.Owning.{IsOwnChange}
+use Rattle.slot_rules.specs.Owning.{IsOwnChange, life_at}
 use Rattle.slot_rules.specs.Planning.{DoesOver}
 use Rattle.slot_rules.proofs.owning.own_of.Goals as goal
 
@@ -17,7 +17,7 @@ returns-clause-own c now reply does changed =
         next = next;
         drafted = c.in_ok-draft.ensures;
         parent = made.parent ∙ c.parent_of-parent.ensures;
-        change = subst (λ (x : ChangeId). IsOwnChange c.args.site.now c.args.last c.args.put x) (sym made.change) c.requires.id.change;
+        change = subst (λ (x : ChangeId). IsOwnChange (life_at c.args.site.now) c.args.last c.args.put x) (sym made.change) c.requires.id.change;
         change_is = sym made.change;
         term = made.term;
         seq = made.seq ∙ c.ballot_seq-seq.ensures;

@@ -17,7 +17,7 @@ returns-in-Ok-clause-leaves g c =
     ShowsNoMore HandsStay c.list_put.ensures.lanes
     (begin_leaves g.D.Drive.tells g.D.Drive.files (numbers_of old) (numbers_of new) c.args.at.now c.in-Ok.flight (holding_of old) (holding_of new) (lanes_of old) None
     c.resting_laws.ensures.begin c.flight_laws.ensures.begin
-    (moves_by (numbers_of old) (numbers_of new) new.seq (omega arith) (omega arith) c.list_put.ensures.numbers) begins refl)
+    (moves_by (numbers_of old) (numbers_of new) new.drawn.seq (omega arith) (omega arith) c.list_put.ensures.numbers) begins refl)
 
 pub returns-in-Err-clause-leaves : goal.returns-in-Err-clause-leaves
 returns-in-Err-clause-leaves g c =
@@ -28,4 +28,4 @@ returns-in-Err-clause-leaves g c =
     leaves_on g.D.Drive.tells g.D.Drive.files (numbers_of old) (numbers_of new) (holding_of old) (holding_of new) (lanes_of old) (lanes_of new) None
     ShowsNoMore HandsStay c.list_put.ensures.lanes
     (nothing_leaves g.D.Drive.tells g.D.Drive.files (numbers_of old) (numbers_of new) (holding_of old) (holding_of new) (lanes_of old) None HandsStay
-    (moves_by (numbers_of old) (numbers_of new) new.seq (omega arith) (omega arith) c.list_put.ensures.numbers) h.0 h.1 refl (λ disks hands after may. may))
+    (moves_by (numbers_of old) (numbers_of new) new.drawn.seq (omega arith) (omega arith) c.list_put.ensures.numbers) h.0 h.1 refl (λ disks hands after may. may))

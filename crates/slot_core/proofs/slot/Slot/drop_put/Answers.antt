@@ -12,5 +12,5 @@ returns-clause-leaves g c =
     ShowsNoMore (MayGiveUp c.args.flight.id) c.give_up.ensures.lanes
     (drop_leaves g.D.Drive.tells g.D.Drive.files (numbers_of old) (numbers_of new) c.args.flight.id (holding_of old) (holding_of new) (lanes_of old) None
     c.resting_laws.ensures.end c.flight_laws.ensures.given_up
-    (moves_by (numbers_of old) (numbers_of new) old.seq (omega arith) (omega arith) c.give_up.ensures.numbers)
+    (moves_by (numbers_of old) (numbers_of new) old.drawn.seq (omega arith) (omega arith) c.give_up.ensures.numbers)
     (ap (λ (n : SlotNumbers). n.seq) c.give_up.ensures.numbers) c.give_up.ensures.holds refl)

@@ -11,4 +11,4 @@ returns-clause-holds g c =
 pub returns-clause-leaves : goal.returns-clause-leaves
 returns-clause-leaves g c =
     pin_leaves g.D.Drive.tells g.D.Drive.files (numbers_of c.args.self.now) _ c.args.pin.ticket (holding_of c.args.self.now) _ (lanes_of c.args.self.now) None
-    c.pin_laws.ensures.end (moves_by (numbers_of c.args.self.now) _ c.args.self.now.seq (omega arith) (omega arith) refl) refl (returns-clause-holds g c) refl
+    c.pin_laws.ensures.end (moves_by (numbers_of c.args.self.now) _ c.args.self.now.drawn.seq (omega arith) (omega arith) refl) refl (returns-clause-holds g c) refl

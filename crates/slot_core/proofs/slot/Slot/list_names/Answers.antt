@@ -7,9 +7,9 @@ use Rattle.slot_history.specs.State.{State}
 use Rattle.slot_core.proofs.KeptLemmas.{kept_leaves, read_leaves}
 use Rattle.slot_core.proofs.ListedLemmas.{stands_listed}
 use Rattle.slot_core.proofs.QuietLemmas.{leaves_with, moves_by, nothing_leaves}
-use Rattle.slot_core.specs.Entering.{nothing_at}
+use Rattle.slot_core.specs.EmptyEntry.{nothing_at}
 use Rattle.slot_core.specs.Hands.{HandsStay}
-use Rattle.slot_core.specs.Listing.{AreShownNames, NamesAreListed, ShowsNames}
+use Rattle.slot_core.specs.NameList.{AreShownNames, NamesAreListed, ShowsNames}
 use Rattle.slot_core.specs.Sections.{ShowsNoMore}
 use Rattle.slot_core.specs.Views.{SlotNumbers, holding_of, lanes_of, numbers_of}
 use Rattle.slot_core.proofs.slot.Slot.list_names.Goals as goal
@@ -18,13 +18,13 @@ pub returns-in-Err-Failed-clause-leaves : goal.returns-in-Err-Failed-clause-leav
 returns-in-Err-Failed-clause-leaves g c =
     let old = c.args.self.now in
     nothing_leaves g.D.Drive.tells g.D.Drive.files (numbers_of old) _ (holding_of old) (holding_of old) (lanes_of old) _ HandsStay
-    (moves_by (numbers_of old) _ old.seq (omega arith) (omega arith) refl) refl refl c.refused.ensures.entry (λ disks hands after may. may)
+    (moves_by (numbers_of old) _ old.drawn.seq (omega arith) (omega arith) refl) refl refl c.refused.ensures.entry (λ disks hands after may. may)
 
 pub returns-in-Err-NoMemory-clause-leaves : goal.returns-in-Err-NoMemory-clause-leaves
 returns-in-Err-NoMemory-clause-leaves g c =
     let old = c.args.self.now in
     nothing_leaves g.D.Drive.tells g.D.Drive.files (numbers_of old) _ (holding_of old) (holding_of old) (lanes_of old) None HandsStay
-    (moves_by (numbers_of old) _ old.seq (omega arith) (omega arith) refl) refl refl refl (λ disks hands after may. may)
+    (moves_by (numbers_of old) _ old.drawn.seq (omega arith) (omega arith) refl) refl refl refl (λ disks hands after may. may)
 
 pub returns-in_default-clause-leaves : goal.returns-in_default-clause-leaves
 returns-in_default-clause-leaves g c =
@@ -32,7 +32,7 @@ returns-in_default-clause-leaves g c =
     let new = c.ask_lanes.new.self in
     let asked = c.ask_lanes.ensures in
     read_leaves g.D.Drive.tells g.D.Drive.files g.D.Drive.count (numbers_of old) (numbers_of new) (holding_of old) (holding_of new) (lanes_of old) (lanes_of new) None
-    ShowsNoMore (moves_by (numbers_of old) (numbers_of new) old.seq (omega arith) (omega arith) asked.numbers) (ap (λ (n : SlotNumbers). n.seq) asked.numbers)
+    ShowsNoMore (moves_by (numbers_of old) (numbers_of new) old.drawn.seq (omega arith) (omega arith) asked.numbers) (ap (λ (n : SlotNumbers). n.seq) asked.numbers)
     asked.holding asked.long asked.files asked.tells refl
 
 pub returns-then-good-read_quorum-clause-leaves : goal.returns-then-good-read_quorum-clause-leaves
@@ -45,13 +45,13 @@ returns-then-good-read_quorum-clause-leaves g c =
     leaves_with g.D.Drive.tells g.D.Drive.files (numbers_of old) (numbers_of new) (holding_of old) (holding_of new) (lanes_of old) (lanes_of mid) (lanes_of new)
     (Some c.enter_nothing.result) ShowsNoMore HandsStay c.enter_nothing.ensures.lanes
     (kept_leaves g.D.Drive.tells g.D.Drive.files g.D.Drive.count (numbers_of old) (numbers_of new) (holding_of old) (holding_of new) (lanes_of old) (lanes_of mid)
-    (Some c.enter_nothing.result) (nothing_at old.turns) ShowsNoMore
-    (moves_by (numbers_of old) (numbers_of new) old.seq (omega arith) (omega arith) numbers) (ap (λ (n : SlotNumbers). n.seq) numbers)
+    (Some c.enter_nothing.result) (nothing_at old.site.turns) ShowsNoMore
+    (moves_by (numbers_of old) (numbers_of new) old.drawn.seq (omega arith) (omega arith) numbers) (ap (λ (n : SlotNumbers). n.seq) numbers)
     (c.enter_nothing.ensures.holding ∙ asked.holding) asked.long asked.files asked.tells c.enter_nothing.ensures.entry refl refl (λ records state standing. tt))
 
 -- the names are listed
 listed : (g : _) (c : goal.After-enter_nothing-2 g)
-    → NamesAreListed g.D.Drive.tells g.D.Drive.files g.D.Drive.count c.args.self.now.set c.args.from.now c.args.most (map string_bytes c.from_vec.result)
+    → NamesAreListed g.D.Drive.tells g.D.Drive.files g.D.Drive.count c.args.self.now.site.set c.args.from.now c.args.most (map string_bytes c.from_vec.result)
     (lanes_of c.args.self.now) (lanes_of c.ask_lanes.new.self)
 listed g c =
     let shown = c.in-Ok-ask_lanes.shown in
@@ -75,8 +75,8 @@ returns-clause-leaves g c =
     leaves_with g.D.Drive.tells g.D.Drive.files (numbers_of old) (numbers_of new) (holding_of old) (holding_of new) (lanes_of old) (lanes_of mid) (lanes_of new)
     (Some c.enter_nothing-2.result) Shows HandsStay c.enter_nothing-2.ensures.lanes
     (kept_leaves g.D.Drive.tells g.D.Drive.files g.D.Drive.count (numbers_of old) (numbers_of new) (holding_of old) (holding_of new) (lanes_of old) (lanes_of mid)
-    (Some c.enter_nothing-2.result) (nothing_at old.turns) Shows
-    (moves_by (numbers_of old) (numbers_of new) old.seq (omega arith) (omega arith) numbers) (ap (λ (n : SlotNumbers). n.seq) numbers)
+    (Some c.enter_nothing-2.result) (nothing_at old.site.turns) Shows
+    (moves_by (numbers_of old) (numbers_of new) old.drawn.seq (omega arith) (omega arith) numbers) (ap (λ (n : SlotNumbers). n.seq) numbers)
     (c.enter_nothing-2.ensures.holding ∙ asked.holding) asked.long asked.files asked.tells c.enter_nothing-2.ensures.entry refl refl
     (λ records state standing. λ name held made listable. stands_listed g.D.Drive.tells g.D.Drive.files g.D.Drive.count (numbers_of old) (holding_of old).flights
     (lanes_of old) (lanes_of mid) records state c.args.from.now c.args.most (map string_bytes c.from_vec.result) standing (listed g c) name held made listable))

@@ -1,0 +1,169 @@
+//! The section that commits a change of a key or of a bucket.
+
+ghost use Rattle.std.specs.Prelude.{◌≡◌, ◌+◌, ◌<◌, ◌≤◌, ◌^◌, Err, length, vec_capacity, vec_len};
+ghost use Rattle.stamp_id.specs.declared.version.VersionId.{VersionId};
+ghost use Rattle.drive_base.specs.View.{AllOnlyRead, views};
+ghost use Rattle.drive_base.specs.declared.drive.TheConstants.{LONGEST_NAME};
+ghost use Rattle.register_core.specs.Loops.{CountsRise, TellsStay};
+ghost use Rattle.version_list.specs.State.{IsMoment};
+ghost use Rattle.slot_rules.specs.Deeds.{IsLawfulDeed, IsNamedDeed, name_of};
+ghost use Rattle.slot_rules.specs.declared.site.Drawn.{Drawn};
+ghost use Rattle.slot_core.specs.CommitCauses.{CommitCause, deed_in};
+ghost use Rattle.slot_core.specs.CommitSection.{IsMissed, LandedLeaves};
+ghost use Rattle.slot_core.specs.Commits.{ChecksFlight, CommitHolds, FitsFlight, MayCommitData, SaysCommit, ShowsTrash, TrashGrows};
+ghost use Rattle.slot_core.specs.Deeds.{MayCommit};
+ghost use Rattle.slot_core.specs.Numbers.{Draws};
+ghost use Rattle.slot_core.specs.PeekSection.{TurnsAt};
+ghost use Rattle.slot_core.specs.PutEnds.{flight_put};
+ghost use Rattle.slot_core.specs.Settlement.{numbers_at};
+ghost use Rattle.slot_core.specs.Stubs.{Says, entry_of};
+ghost use Rattle.slot_core.specs.Turns.{Leaves, Turns};
+ghost use Rattle.slot_core.specs.Views.{audit_of, holding_of, lanes_of, numbers_of};
+ghost use Rattle.slot_core.specs.declared.slot.SlotFault.TheVariants.{NotInFlight};
+
+use crate::audit_entry::{refuse, spent_turn};
+use crate::commit_entry::{Opening, conclude, open_entry, unreserved};
+use crate::commit_plan::commit_register;
+use crate::flights::{Landing, land};
+use crate::holding::Flight;
+use crate::slot::{Slot, SlotFault};
+use crate::stub::Turn;
+use audit_trail::Audit;
+use drive_base::Drive;
+use slot_data::{flight_laws, hands_laws};
+use slot_history::resting_laws;
+use slot_rules::{Ask, Commit, Committed, Drawn, Site};
+use stamp_id::VersionId;
+use std::alloc::Global;
+
+impl<D: Drive, A: Audit> Slot<D, A> {
+    /// Commits a change of a key or of a bucket: looks at its register, completes what is pending there, and does the deed. `Ok` tells what the call is
+    /// replied; its change is acknowledged then, where it made one. A deed that brings data comes with the flight of its put, which ends on every answer.
+    ///
+    /// `NotInFlight` where that flight isn't listed, before anything is looked at; `Key` where the state of the key refuses the act; `Quorum` where the
+    /// register refuses the look, the completion of what is pending, or the deed's own writes: then the change may have taken effect, or may take effect
+    /// later. `SeqSpent`, `AuditFailed` and `NoMemory` change nothing but the flight.
+    pub fn commit(
+        &mut self,
+        alloc: Global,
+        disks: &mut [D],
+        deed: &Commit,
+        flight: Option<Flight>,
+        now: u64,
+    ) -> Turn<Committed>
+        requires turns { (numbers_of self.old).turns + 1 < 2 ^ 64 }
+        requires disks { length disks.old ≡ (numbers_of self.old).set.drives }
+        requires lawful { IsLawfulDeed deed.now }
+        requires named { IsNamedDeed deed.now }
+        requires short { length (name_of deed.now) ≤ LONGEST_NAME }
+        requires moment { IsMoment now }
+        ensures turns { Turns (numbers_of self.old) (numbers_of self.new) (A.entries (audit_of self.old)) (A.entries (audit_of self.new))
+            (A.count (audit_of self.old)) (A.count (audit_of self.new)) result.answer result.stub }
+        ensures says { Says result.stub (SaysCommit deed.now now result.answer) }
+        ensures holds { CommitHolds flight result.answer (holding_of self.old) (holding_of self.new) }
+        ensures checks { ChecksFlight flight (holding_of self.old) result.answer }
+        ensures leaves { FitsFlight deed.now flight → Leaves D.tells D.files (numbers_of self.old) (numbers_of self.new) (holding_of self.old) (holding_of self.new)
+            (lanes_of self.old) (lanes_of self.new) result.stub (ShowsTrash deed.now result.answer (holding_of self.old).trash (holding_of self.new).trash)
+            (MayCommitData deed.now (holding_of self.new)) }
+        ensures cause { CommitCause D.tells D.files D.count (numbers_of self.old) (numbers_of self.new) deed.now (flight_put flight) now result.answer
+            (deed_in (entry_of result.stub)) (lanes_of self.old) (lanes_of self.new) disks.old disks.new }
+        ensures tells { TellsStay D.tells D.files D.count (lanes_of self.old) (lanes_of self.new) }
+        ensures counts { CountsRise D.tells D.files D.count (lanes_of self.old) (lanes_of self.new) }
+        ensures disks_read { AllOnlyRead (views D.Drive disks.old) (views D.Drive disks.new) }
+    {
+        // The laws for the proof, that lanes and data go on to stand where a put ends. The calls do nothing.
+        resting_laws();
+        flight_laws();
+        hands_laws();
+        let site = self.site;
+        let mut drawn = self.drawn;
+        self.site.turns += 1;
+        let landing = land(&mut self.flights, flight);
+        if self.is_spent() {
+            return spent_turn(&site);
+        }
+        let put = match landing {
+            Landing::Missing(id) => {
+                return commit_missing(alloc, &mut self.audit, &site, deed, id);
+            }
+            Landing::Ended(put) => put,
+        };
+        let ask = Ask {
+            site,
+            put,
+            moment: now,
+            spare: self.flights.len(),
+        };
+        let turn = commit_landed(
+            alloc,
+            self.lanes.as_mut_slice(),
+            &mut self.audit,
+            &mut self.trash,
+            disks,
+            &ask,
+            deed,
+            &mut drawn,
+        );
+        self.drawn = drawn;
+        turn
+    }
+}
+
+/// A commit, once the put that it ends is off the list.
+fn commit_landed<D: Drive, A: Audit>(
+    alloc: Global,
+    lanes: &mut [D],
+    audit: &mut A,
+    trash: &mut Vec<VersionId>,
+    disks: &mut [D],
+    ask: &Ask,
+    deed: &Commit,
+    drawn: &mut Drawn,
+) -> Turn<Committed>
+    requires may { MayCommit ask.now.site.set deed.now drawn.old lanes.old disks.old }
+    requires room { vec_len trash.old + ask.now.spare ≤ vec_capacity trash.old }
+    ensures turns { TurnsAt (numbers_at ask.now.site drawn.old) (A.entries audit.old) (A.entries audit.new) (A.count audit.old) (A.count audit.new)
+        result.answer result.stub }
+    ensures says { Says result.stub (SaysCommit deed.now ask.now.moment result.answer) }
+    ensures checks { (id : VersionId) → result.answer ≡ Err (NotInFlight id) → ⊥ }
+    ensures leaves { LandedLeaves D.tells D.files ask.now drawn.old drawn.new deed.now result trash.old.items trash.new.items lanes.old lanes.new }
+    ensures cause { CommitCause D.tells D.files D.count (numbers_at ask.now.site drawn.old) (numbers_at ask.now.site drawn.new) deed.now ask.now.put
+        ask.now.moment result.answer (deed_in (entry_of result.stub)) lanes.old lanes.new disks.old disks.new }
+    ensures gone { TrashGrows result.answer trash.old.items trash.new.items }
+    ensures room_stays { vec_len trash.new + ask.now.spare ≤ vec_capacity trash.new }
+    ensures draws { Draws 3 64 drawn.old drawn.new }
+    ensures tells { TellsStay D.tells D.files D.count lanes.old lanes.new }
+    ensures counts { CountsRise D.tells D.files D.count lanes.old lanes.new }
+    ensures disks_read { AllOnlyRead (views D.Drive disks.old) (views D.Drive disks.new) }
+{
+    // The laws for the proof, that lanes and data go on to stand where a put ends. The calls do nothing.
+    resting_laws();
+    flight_laws();
+    hands_laws();
+    let Opening { name, entries } = match open_entry(alloc, audit, &ask.site, deed) {
+        Ok(opening) => opening,
+        Err(why) => return unreserved(&ask.site, why),
+    };
+    let outcome = commit_register(alloc, lanes, disks, ask, name.as_str(), deed, drawn, trash);
+    conclude(audit, &ask.site, entries, outcome)
+}
+
+/// The refusal of a put that is not in flight.
+fn commit_missing<A: Audit>(
+    alloc: Global,
+    audit: &mut A,
+    site: &Site,
+    deed: &Commit,
+    id: VersionId,
+) -> Turn<Committed>
+    requires named { IsNamedDeed deed.now }
+    ensures turns { (drawn : Drawn)
+        → TurnsAt (numbers_at site.now drawn) (A.entries audit.old) (A.entries audit.new) (A.count audit.old) (A.count audit.new) result.answer result.stub }
+    ensures missed { IsMissed site.now (name_of deed.now) id result }
+{
+    let entries = match open_entry(alloc, audit, site, deed) {
+        Ok(opening) => opening.entries,
+        Err(why) => return unreserved(site, why),
+    };
+    refuse(audit, site, entries, None, SlotFault::NotInFlight(id))
+}
