@@ -23,11 +23,11 @@ use Rattle.slot_rules.specs.Planning.{IsBucketDeed}
 use Rattle.slot_rules.specs.declared.commit.Commit.{Commit}
 use Rattle.slot_rules.specs.declared.commit.Committed.{Committed}
 use Rattle.slot_core.specs.CommitCauses.{CommitCause, FoundSo, WroteSo, deed_in, own_deed}
-use Rattle.slot_core.specs.Committing.{SaysCommit}
+use Rattle.slot_core.specs.Commits.{SaysCommit}
 use Rattle.slot_core.specs.Stubs.{IsStub, Says, StubOfEntry, Writes, WritesNone, entry_of}
 use Rattle.slot_core.specs.Views.{SlotNumbers}
-use Rattle.slot_core.specs.declared.fault.SlotFault.{SlotFault}
-use Rattle.slot_core.specs.declared.fault.SlotFault.TheVariants.{AuditFailed, Key, NoMemory, NotInFlight, Quorum, SeqSpent}
+use Rattle.slot_core.specs.declared.slot.SlotFault.{SlotFault}
+use Rattle.slot_core.specs.declared.slot.SlotFault.TheVariants.{AuditFailed, Key, NoMemory, NotInFlight, Quorum, SeqSpent}
 use Rattle.slot_core.specs.declared.stub.Stub.{Stub}
 use Rattle.receipts.specs.Bucketing.{BucketActOwes, bucket_target}
 use Rattle.receipts.specs.Committing.{MakesChange, RefusesChange}

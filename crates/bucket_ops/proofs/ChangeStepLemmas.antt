@@ -13,9 +13,9 @@ use Rattle.drive_base.specs.declared.plan.SetPlan.{SetPlan}
 use Rattle.slot_rules.specs.declared.commit.Commit.{Commit}
 use Rattle.slot_rules.specs.declared.commit.Committed.{Committed}
 use Rattle.slot_core.specs.CommitCauses.{CommitCause, deed_in}
-use Rattle.slot_core.specs.Committing.{FitsFlight}
+use Rattle.slot_core.specs.Commits.{FitsFlight}
 use Rattle.slot_core.specs.Stubs.{entry_of}
-use Rattle.slot_core.specs.declared.fault.SlotFault.{SlotFault}
+use Rattle.slot_core.specs.declared.slot.SlotFault.{SlotFault}
 use Rattle.slot_core.specs.declared.stub.Stub.{Stub}
 use Rattle.receipts.specs.Events.{Log}
 use Rattle.receipts.specs.Events.Event.{BarredFrom}

@@ -10,7 +10,7 @@ use Rattle.drive_base.specs.declared.drive.Drive.{Ghosts}
 use Rattle.drive_base.specs.declared.plan.SetPlan.{SetPlan}
 use Rattle.slot_core.specs.Sections.{SaysKept}
 use Rattle.slot_core.specs.Stubs.{Says}
-use Rattle.slot_core.specs.declared.fault.SlotFault.{SlotFault}
+use Rattle.slot_core.specs.declared.slot.SlotFault.{SlotFault}
 use Rattle.slot_core.specs.declared.stub.Stub.{Stub}
 use Rattle.receipts.specs.Events.{Log}
 use Rattle.receipts.specs.Events.Event.{BarredFrom, Turned}

@@ -17,7 +17,7 @@ use Rattle.s3_docs.specs.declared.prologue.Root.TheVariants.{VersioningConfigura
 use Rattle.slot_rules.specs.declared.commit.Commit.TheVariants.{MakeBucket, SetMode}
 use Rattle.slot_rules.specs.declared.commit.Commit.{Commit}
 use Rattle.slot_rules.specs.declared.commit.Committed.{Committed}
-use Rattle.slot_core.specs.declared.fault.SlotFault.{SlotFault}
+use Rattle.slot_core.specs.declared.slot.SlotFault.{SlotFault}
 use Rattle.receipts.specs.declared.barred.Barred.{Barred}
 use Rattle.receipts.specs.declared.barred.Barred.TheVariants as barred
 use Rattle.receipts.specs.Events.{IsUntold, Log, body_of, cuts_of, sections_of}

@@ -13,7 +13,7 @@ use Rattle.desk_base.specs.Answering.{Task}
 use Rattle.desk_base.specs.declared.call.Call.{Call}
 use Rattle.desk_base.specs.declared.call.Call.TheVariants.{HeadBucket, GetVersioning}
 use Rattle.drive_base.specs.declared.plan.SetPlan.{SetPlan}
-use Rattle.slot_core.specs.declared.fault.SlotFault.{SlotFault}
+use Rattle.slot_core.specs.declared.slot.SlotFault.{SlotFault}
 use Rattle.receipts.specs.declared.barred.Barred.{Barred}
 use Rattle.receipts.specs.declared.barred.Barred.TheVariants as barred
 use Rattle.receipts.specs.Events.{Log}

@@ -8,7 +8,7 @@ use Rattle.call_types.specs.declared.refusal.Refusal.{Refusal}
 use Rattle.call_types.specs.declared.refusal.Refusal.TheVariants.{SeqSpent}
 use Rattle.call_types.specs.declared.reply.BucketRow.{BucketRow}
 use Rattle.call_types.specs.declared.reply.Reply.TheVariants.{Buckets, Refused}
-use Rattle.slot_core.specs.declared.fault.SlotFault.{SlotFault}
+use Rattle.slot_core.specs.declared.slot.SlotFault.{SlotFault}
 use Rattle.receipts.specs.Looks.{IsOfSection}
 use Rattle.receipts.specs.Registers.{bucket_register, bucket_slot}
 use Rattle.receipts.specs.declared.barred.Barred.{Barred}

@@ -17,8 +17,8 @@ use Rattle.drive_base.specs.declared.plan.SetPlan.{SetPlan}
 use Rattle.slot_core.specs.Sections.{SaysKept}
 use Rattle.slot_core.specs.Stubs.{IsStub, Says, StubOfEntry, Writes, WritesNone}
 use Rattle.slot_core.specs.Views.{SlotNumbers}
-use Rattle.slot_core.specs.declared.fault.SlotFault.{SlotFault}
-use Rattle.slot_core.specs.declared.fault.SlotFault.TheVariants.{AuditFailed, Key, NoMemory, NotInFlight, Quorum, SeqSpent}
+use Rattle.slot_core.specs.declared.slot.SlotFault.{SlotFault}
+use Rattle.slot_core.specs.declared.slot.SlotFault.TheVariants.{AuditFailed, Key, NoMemory, NotInFlight, Quorum, SeqSpent}
 use Rattle.slot_core.specs.declared.stub.Stub.{Stub}
 use Rattle.receipts.specs.Events.{IsUntold, Log, Section, Shown, body_of, cuts_of, sections_of}
 use Rattle.receipts.specs.Events.Event.{BarredFrom, Turned}

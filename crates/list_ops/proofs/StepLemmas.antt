@@ -18,11 +18,11 @@ use Rattle.drive_base.specs.declared.drive.Drive.{Ghosts}
 use Rattle.drive_base.specs.declared.drive.TheConstants.{LONGEST_NAME}
 use Rattle.drive_base.specs.declared.plan.SetPlan.{SetPlan}
 use Rattle.list_page.specs.Laws.{FirstIsFirst, FirstIsInRange, PageOnTime}
-use Rattle.slot_core.specs.Listing.{ListsNames}
+use Rattle.slot_core.specs.NameList.{ListsNames}
 use Rattle.slot_core.specs.Sections.{SaysKept}
 use Rattle.slot_core.specs.Stubs.{Says, StubOfEntry}
 use Rattle.slot_core.specs.Views.{SlotNumbers}
-use Rattle.slot_core.specs.declared.fault.SlotFault.{SlotFault}
+use Rattle.slot_core.specs.declared.slot.SlotFault.{SlotFault}
 use Rattle.slot_core.specs.declared.stub.Stub.{Stub}
 use Rattle.receipts.specs.Events.{Log, Note, Section as SectionSeen, Shown}
 use Rattle.receipts.specs.Events.Event.{BarredFrom, Turned}

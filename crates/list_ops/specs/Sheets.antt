@@ -8,7 +8,7 @@ use Rattle.call_types.specs.declared.refusal.Refusal.TheVariants.{SeqSpent}
 use Rattle.call_types.specs.declared.reply.Reply.TheVariants.{Refused}
 use Rattle.call_types.specs.declared.reply.VersionRow.{VersionRow}
 use Rattle.drive_base.specs.Names.{byte_order}
-use Rattle.slot_core.specs.declared.fault.SlotFault.{SlotFault}
+use Rattle.slot_core.specs.declared.slot.SlotFault.{SlotFault}
 use Rattle.version_list.specs.Spelling.{spelling}
 use Rattle.version_list.specs.State.{IsCanonical}
 use Rattle.version_list.specs.declared.state.KeyState.{KeyState}

@@ -30,7 +30,7 @@ use Rattle.slot_rules.proofs.SizeLemmas.{bucket_short, content_short}
 use Rattle.slot_rules.specs.declared.commit.Commit.TheVariants.{Key as KeyDeed, MakeBucket, SetMode}
 use Rattle.slot_rules.specs.declared.commit.Commit.{Commit}
 use Rattle.slot_rules.specs.declared.rules.TheConstants.{BUCKET_BYTES, KEY_BYTES}
-use Rattle.slot_core.specs.CommitCauses.{IsRuleOf, site_of}
+use Rattle.slot_core.specs.CommitCauses.{IsRuleOf, life_of}
 use Rattle.slot_data.specs.Disks.{IsPartName}
 use Rattle.slot_core.specs.Views.{SlotNumbers, last_of}
 
@@ -160,7 +160,7 @@ IsListedPut flights (Some id) = (f : Flying) × Contains flights f × (f.id ≡ 
 
 -- the id of a section's own change isn't spent
 own_unspent : (numbers : SlotNumbers) (flights : List Flying) (drawn : ℕ) (put : Option VersionId) (id : VersionId) → numbers.seq ≤ drawn
-    → IsListedPut flights put → IsOwnId (site_of numbers) drawn put id → IsSpent (last_of numbers) flights (number_of_id id) → ⊥
+    → IsListedPut flights put → IsOwnId (life_of numbers) drawn put id → IsSpent (last_of numbers) flights (number_of_id id) → ⊥
 own_unspent numbers flights drawn None id up listed own spent =
     let term = own.change.0 in
     let seq = own.change.1 in

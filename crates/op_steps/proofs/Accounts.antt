@@ -20,17 +20,17 @@ use Rattle.slot_data.specs.Holding.{IsInFlight}
 use Rattle.slot_rules.specs.Deeds.{name_of}
 use Rattle.slot_rules.specs.Rules.{longest_for, rule_for}
 use Rattle.slot_rules.specs.declared.commit.Commit.{Commit}
-use Rattle.slot_core.specs.Calming.{HasMade}
+use Rattle.slot_core.specs.Calm.{HasMade}
 use Rattle.slot_core.specs.Causes.{LookCause}
 use Rattle.slot_core.specs.CommitCauses.{LookRefused, WroteSo}
-use Rattle.slot_core.specs.Listing.{TooFewAnswered}
+use Rattle.slot_core.specs.NameList.{TooFewAnswered}
 use Rattle.slot_core.specs.Numbers.{AreSpent}
 use Rattle.slot_core.specs.Numbers.{NumbersMove}
 use Rattle.receipts.specs.Events.{Note, Shown}
 use Rattle.op_steps.specs.Causes.{IsPutOf, SaysIdle, SaysRefused}
 use Rattle.op_steps.specs.ChangeLetters.{ChangeLetters}
 use Rattle.op_steps.specs.Claims.{Claim}
-use Rattle.op_steps.specs.Moves.{ClaimMoves, TurnLeaves}
+use Rattle.op_steps.specs.Moves.{ClaimMoves, TurnLeaves, ClaimGains}
 use Rattle.op_steps.specs.Notes.{AuditCounts, AuditHas, IsNoted, entry_in}
 use Rattle.op_steps.specs.Store.{LanesStand, SlotSeen}
 
@@ -104,6 +104,7 @@ module _ {D : Type 0} (ghosts : Ghosts D) where
     pub audit : AuditHas note was.entries now.entries
     pub faults : AuditCounts note was.faults now.faults
     pub claims : ClaimMoves was.numbers.index claim later
+    pub gains : ClaimGains was.numbers now.numbers was.holding now.holding claim later
     pub read : AllOnlyRead disks_old disks_new
     pub account : TurnAccount ghosts note was now claim disks_old disks_new
     pub letters : (name : List ℕ) (change : ChangeId) → HasMade (entry_in note) name change → ChangeLetters ghosts was now name change

@@ -6,7 +6,7 @@ use Rattle.drive_base.specs.declared.drive.Drive.{Ghosts}
 use Rattle.slot_core.specs.Sections.{SaysKept}
 use Rattle.slot_core.specs.Stubs.{Says, StubOfEntry}
 use Rattle.slot_core.specs.Views.{SlotNumbers}
-use Rattle.slot_core.specs.declared.fault.SlotFault.{SlotFault}
+use Rattle.slot_core.specs.declared.slot.SlotFault.{SlotFault}
 use Rattle.slot_core.specs.declared.stub.Stub.{Stub}
 use Rattle.receipts.specs.Bucketing.{BucketIsThere}
 use Rattle.receipts.specs.Events.Event.{Turned}

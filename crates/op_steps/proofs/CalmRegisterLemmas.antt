@@ -22,10 +22,10 @@ use Rattle.slot_history.specs.State.{State}
 use Rattle.slot_history.proofs.NameLemmas.{bucket_not_part, key_not_part}
 use Rattle.slot_data.specs.Disks.{IsPartName}
 use Rattle.slot_rules.specs.Rules.{IsRegisterName, longest_for, rule_for}
-use Rattle.slot_core.specs.Calming.{IsCalmUnder, OnlyLooked}
+use Rattle.slot_core.specs.Calm.{IsCalmUnder, OnlyLooked}
 use Rattle.slot_core.specs.Causes.{Concluded, LookCause}
 use Rattle.slot_core.specs.Views.{last_of, quorum_of}
-use Rattle.slot_core.specs.declared.fault.SlotFault.TheVariants.{Quorum}
+use Rattle.slot_core.specs.declared.slot.SlotFault.TheVariants.{Quorum}
 use Rattle.slot_core.proofs.SettlingLemmas.{name_held}
 use Rattle.receipts.specs.Events.{Note, Shown}
 use Rattle.op_steps.specs.Claims.{Claim}

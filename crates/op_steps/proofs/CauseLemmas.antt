@@ -18,14 +18,14 @@ use Rattle.slot_rules.specs.declared.commit.Commit.{Commit}
 use Rattle.slot_rules.specs.declared.commit.Committed.{Committed}
 use Rattle.slot_core.specs.Causes.{LookCause, PeekCause}
 use Rattle.slot_core.specs.CommitCauses.{CommitCause, LookRefused, WroteSo, deed_in}
-use Rattle.slot_core.specs.Committing.{SaysCommit}
-use Rattle.slot_core.specs.Listing.{ListsNames, SaysNothing}
+use Rattle.slot_core.specs.Commits.{SaysCommit}
+use Rattle.slot_core.specs.NameList.{ListsNames, SaysNothing}
 use Rattle.slot_core.specs.Numbers.{AreSpent}
 use Rattle.slot_core.specs.Sections.{SaysKept}
 use Rattle.slot_core.specs.Stubs.{AuditCounts, Says, StubOfEntry, Writes, WritesNone, completed_by, entry_of, late_in}
 use Rattle.slot_core.specs.Views.{SlotNumbers}
-use Rattle.slot_core.specs.declared.fault.SlotFault.{SlotFault}
-use Rattle.slot_core.specs.declared.fault.SlotFault.TheVariants.{AuditFailed, Key, NoMemory, NotInFlight, Quorum, SeqSpent}
+use Rattle.slot_core.specs.declared.slot.SlotFault.{SlotFault}
+use Rattle.slot_core.specs.declared.slot.SlotFault.TheVariants.{AuditFailed, Key, NoMemory, NotInFlight, Quorum, SeqSpent}
 use Rattle.slot_core.specs.declared.stub.Stub.{Stub}
 use Rattle.op_steps.specs.Causes.{IsPutOf, SaysIdle, SaysRefused}
 use Rattle.op_steps.specs.Claims.{Claim}

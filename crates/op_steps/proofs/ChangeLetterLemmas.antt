@@ -37,14 +37,14 @@ use Rattle.slot_rules.specs.Deeds.{call_of, name_of}
 use Rattle.slot_rules.specs.declared.commit.Commit.{Commit}
 use Rattle.slot_rules.specs.declared.commit.Committed.{Committed}
 use Rattle.slot_history.specs.Moving.{drawn_by}
-use Rattle.slot_core.specs.Calming.{HasMade, MadeIn, OnlyLooked}
+use Rattle.slot_core.specs.Calm.{HasMade, MadeIn, OnlyLooked}
 use Rattle.slot_core.specs.CommitCauses.{CommitCause, FoundSo, OwnAfterAgain, OwnAtOnce, WroteSo, deed_in}
-use Rattle.slot_core.specs.Committing.{CommitDeed, SaysCommit}
+use Rattle.slot_core.specs.Commits.{CommitDeed, SaysCommit}
 use Rattle.slot_core.specs.Sections.{SaysKept}
 use Rattle.slot_core.specs.Stubs.{Says, entry_of}
 use Rattle.slot_core.specs.declared.stub.Stub.{Stub}
-use Rattle.slot_core.specs.declared.fault.SlotFault.{SlotFault}
-use Rattle.slot_core.specs.declared.fault.SlotFault.TheVariants.{AuditFailed, Key, NoMemory, NotInFlight, Quorum, SeqSpent}
+use Rattle.slot_core.specs.declared.slot.SlotFault.{SlotFault}
+use Rattle.slot_core.specs.declared.slot.SlotFault.TheVariants.{AuditFailed, Key, NoMemory, NotInFlight, Quorum, SeqSpent}
 use Rattle.slot_core.proofs.CalmingLemmas.{looked_not_made}
 use Rattle.slot_core.proofs.WritingLemmas.{drawn_own}
 use Rattle.op_steps.specs.ChangeLetters.{ChangeLetters, KeepsBaseOf, LaneLetter}

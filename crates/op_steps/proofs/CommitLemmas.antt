@@ -14,12 +14,12 @@ use Rattle.slot_data.specs.Standing.{IsListed}
 use Rattle.slot_rules.specs.Deeds.{brings_of}
 use Rattle.slot_rules.specs.declared.commit.Commit.{Commit}
 use Rattle.slot_rules.specs.declared.commit.Committed.{Committed}
-use Rattle.slot_core.specs.Committing.{CommitHolds, FitsFlight, MayCommitData, ShowsTrash}
+use Rattle.slot_core.specs.Commits.{CommitHolds, FitsFlight, MayCommitData, ShowsTrash}
 use Rattle.slot_core.specs.Stubs.{entry_of}
-use Rattle.slot_core.specs.Turning.{EntryMoves}
+use Rattle.slot_core.specs.Turns.{EntryMoves}
 use Rattle.slot_core.specs.Views.{last_of, quorum_of}
-use Rattle.slot_core.specs.declared.fault.SlotFault.{SlotFault}
-use Rattle.slot_core.specs.declared.handles.Flight.{Flight}
+use Rattle.slot_core.specs.declared.slot.SlotFault.{SlotFault}
+use Rattle.slot_core.specs.declared.holding.Flight.{Flight}
 use Rattle.slot_core.specs.declared.stub.Stub.{Stub}
 use Rattle.receipts.specs.Events.Shown.{NoneShown}
 use Rattle.drive_base.specs.View.{DriveView}
@@ -34,6 +34,7 @@ use Rattle.op_steps.proofs.ChangeLetterLemmas.{commit_letters}
 use Rattle.op_steps.proofs.DataLemmas.{data_read, last_rises}
 use Rattle.op_steps.proofs.MovesLemmas.{turn_moves}
 use Rattle.op_steps.proofs.NoteLemmas.{audit_noted, calm_noted, entry_counts, entry_noted, same_entry}
+use Rattle.op_steps.proofs.ClaimLemmas.{nothing_gained}
 
 -- nothing is shown of the states
 moves_bare : (slot : ℕ) (entry : Option Entry) (Shows : State → State → Type 0) (records after : Records) (state now : State)
@@ -129,6 +130,7 @@ module _ {D : Type 0} (ghosts : Ghosts D) where
         audit = audit_noted stub was.entries now.entries x.turns.audit;
         faults = entry_counts was.numbers answer stub was.faults now.faults x.turns.stub_is x.turns.faults;
         claims = record { slot = refl; elsewhere = λ other. refl };
+        gains = nothing_gained was.numbers now.numbers was.holding now.holding claim;
         read = x.read;
         account = commit_turn_cause ghosts was now claim old new deed None at tt answer stub x.turns.stub_is x.says x.turns.spent.0 x.turns.faults
             (λ id is. absurd (none-some (x.checks.refused id is).0.0 (x.checks.refused id is).0.1)) (λ fault is id none. absurd (none-some id none)) x.cause;

@@ -1,19 +1,19 @@
 -- The data of a slot goes on to hold where data drives are only read, or trouble befalls them, and other claims change elsewhere.
-use Rattle.std.proofs.Common.{◌≡◌, ◌≢◌, ◌<◌, ◌≤◌, ◌+◌, ◌*◌, ◌∙◌, ◌^◌, ◌==◌, ℕ, None, Some, Bool, true, false, IsTrue, List, ◌∷◌, ◌++◌, Contains, bit_and, cond, ext_get_or, length, inl, inr, refl, sym, ap, ap₂, subst, subst₂, arith}
+use Rattle.std.proofs.Common.{◌≡◌, ◌≢◌, ◌<◌, ◌≤◌, ◌+◌, ◌*◌, ◌∙◌, ◌^◌, ◌==◌, ℕ, None, Some, Bool, true, false, IsTrue, List, Contains, bit_and, cond, ext_get_or, length, inl, inr, refl, sym, ap, ap₂, subst, subst₂, arith}
 use Rattle.std.specs.Int.{IsBitSet}
-use Rattle.std.proofs.lemmas.Bool.{cases_eq, eqb-true}
+use Rattle.std.proofs.lemmas.Bool.{eqb-true}
 use Rattle.std.proofs.lemmas.Bool.Decides.{eqb_tells}
-use Rattle.std.proofs.lemmas.List.Elements.{filter-append}
 use Rattle.std.proofs.lemmas.List.FromFn.{get_or-map-range_with_len, length-map-range_with_len}
 use Rattle.drive_base.specs.Calls.{MadeCall, WasMade}
 use Rattle.drive_base.specs.Files.{Files, LooseFile, Named}
 use Rattle.drive_base.specs.View.{AllOnlyRead, DriveView, view_at}
 use Rattle.drive_base.specs.declared.plan.SetPlan.{SetPlan}
-use Rattle.drive_base.proofs.HonestLemmas.{calls_keep_honesty, honest_after}
+use Rattle.drive_base.specs.HonestDamage.{KeepsHonesty}
+use Rattle.drive_base.proofs.HonestLemmas.{calls_keep_honesty}
 use Rattle.stamp_id.specs.declared.version.VersionId.{VersionId}
 use Rattle.body_print.specs.Names.{manifest_name}
 use Rattle.put_stage.specs.Cells.{data_of}
-use Rattle.put_stage.specs.Working.{HasNoneLoose}
+use Rattle.put_stage.specs.Work.{HasNoneLoose}
 use Rattle.slot_history.specs.Standing.{Records}
 use Rattle.slot_history.specs.State.{State}
 use Rattle.slot_data.specs.Disks.{Disks}
@@ -21,9 +21,17 @@ use Rattle.slot_data.specs.Holding.{Holding}
 use Rattle.slot_data.specs.Standing.{DataStands}
 use Rattle.slot_core.specs.Numbers.{NumbersMove}
 use Rattle.slot_core.specs.Views.{SlotNumbers, last_of}
-use Rattle.op_steps.specs.Claims.{AllApart, Claim, DataHolds, DisksTell, HasHonestManifests, IsExpected, IsMet, IsUnsealed, among, claims_at, counted_on, disks_of, hands_of, is_at}
-use Rattle.op_steps.specs.Moves.{ClaimMoves}
+use Rattle.op_steps.specs.Claims.{AllApart, Claim, DataHolds, DisksTell, HasHonestManifests, IsExpected, IsMet, IsUnsealed, ShowsNoOther, claims_at, counted_on, disks_of, hands_of}
 use Rattle.op_steps.specs.Troubles.{DisksTroubled, IsTroubled}
+
+-- a change of files that keeps honesty shows no other bytes where none were shown
+pub no_other_stays : (IsDamaged : List ℕ → Type 0) (name : List ℕ) (old new : Files) → KeepsHonesty name old new → ShowsNoOther IsDamaged name old
+    → ShowsNoOther IsDamaged name new
+no_other_stays IsDamaged name old new (inl same) honest bytes shown = inl (sym same ∙ shown)
+no_other_stays IsDamaged name old new (inr stays) honest bytes shown = elim (honest bytes (sym stays.1 ∙ shown)) [
+  | inl kept ↦ inl (stays.0 ∙ kept)
+  | inr damaged ↦ inr damaged
+]
 
 -- over a call of one drive, and none of another, damage of the manifests of each drive in use stays honest
 pub honest_called : (set : SetPlan) (k : ℕ) (made : MadeCall) (old new : List DriveView) → DisksTell set old → k < set.drives → (IsBitSet set.out k → ⊥)
@@ -31,7 +39,7 @@ pub honest_called : (set : SetPlan) (k : ℕ) (made : MadeCall) (old new : List 
     → (j : ℕ) → j < set.drives → (IsBitSet set.out j → ⊥) → HasHonestManifests (view_at new j).files
 honest_called set k made old new tells inside in_use was_made others j within used = elim (eqb_tells j k) [
   | inl here ↦ subst (λ i. HasHonestManifests (view_at new i).files) (sym here.1)
-      (λ id. honest_after IsUnsealed (manifest_name id) (view_at old k).files (view_at new k).files
+      (λ id. no_other_stays IsUnsealed (manifest_name id) (view_at old k).files (view_at new k).files
       (calls_keep_honesty (manifest_name id) made.call (view_at old k) (view_at new k) (tells.tell k inside in_use) was_made.model)
       (tells.honest k inside in_use id))
   | inr apart ↦ subst (λ (v : DriveView). HasHonestManifests v.files) (sym (others j apart.1)) (tells.honest j within used)
@@ -143,26 +151,6 @@ pub data_read : (numbers : SlotNumbers) (holding : Holding) (unseen : Disks) (ol
     → DataHolds numbers holding unseen old claims records state → DataHolds numbers holding unseen new later records state
 data_read numbers holding unseen old new claims later records state read same x =
     data_troubled numbers holding unseen old new claims later records state (read_is_trouble numbers.set old new x.tell read) same x
-
--- a claim of another slot isn't among a slot's
-skips : (slot : ℕ) (claim : Claim) (rest : List Claim) → claim.slot ≢ slot → claims_at slot (claim ∷ rest) ≡ claims_at slot rest
-skips slot claim rest other = elim (eqb_tells claim.slot slot) [
-  | inl same ↦ absurd (other same.1)
-  | inr differs ↦ ap (λ b. cond b (claim ∷ claims_at slot rest) (claims_at slot rest)) differs.0
-]
-
--- what an op changes of its claim at one slot leaves the claims of another
-pub claims_elsewhere : (slot index : ℕ) (front rest : List Claim) (claim later : Claim) → slot ≢ index → ClaimMoves index claim later
-    → claims_at slot (among front later rest) ≡ claims_at slot (among front claim rest)
-claims_elsewhere slot index front rest claim later other moves = elim (cases_eq claim.slot index) [
-  | inl own ↦
-      let not_there : claim.slot ≢ slot = λ same. other (sym same ∙ own) in
-      let nor_later : later.slot ≢ slot = λ same. not_there (sym moves.slot ∙ same) in
-      filter-append (is_at slot) front (later ∷ rest)
-      ∙ (ap (λ l. claims_at slot front ++ l) (skips slot later rest nor_later ∙ sym (skips slot claim rest not_there))
-      ∙ sym (filter-append (is_at slot) front (claim ∷ rest)))
-  | inr elsewhere ↦ ap (λ c. claims_at slot (among front c rest)) (moves.elsewhere elsewhere)
-]
 
 -- the last number that was drawn only rises
 pub last_rises : (old new : SlotNumbers) → NumbersMove old new → last_of old ≤ last_of new

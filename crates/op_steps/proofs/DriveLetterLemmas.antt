@@ -34,7 +34,7 @@ use Rattle.seal_file.specs.Sealing.{IsDamage}
 use Rattle.seal_file.specs.declared.damage.Damage.{Damage}
 use Rattle.seal_file.proofs.SealedLemmas.{no_damage, sealed-injective}
 use Rattle.slot_rules.specs.Rules.{longest_for}
-use Rattle.slot_core.specs.Listing.{NamesLetter}
+use Rattle.slot_core.specs.NameList.{NamesLetter}
 use Rattle.slot_core.specs.Views.{SlotNumbers}
 use Rattle.op_steps.specs.Causes.{BreaksRule, of_lanes}
 use Rattle.op_steps.specs.Claims.{Claim}

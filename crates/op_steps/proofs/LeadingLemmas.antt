@@ -1,6 +1,5 @@
 -- Entries run with what their sections showed, those of one log after those of another; and so slots are led by them.
-use Rattle.std.proofs.Common.{◌∙◌, ℕ, List, [], ◌∷◌, ◌++◌, Option, Some, None, inl, inr, refl, sym, subst}
-use Rattle.std.proofs.lemmas.Grind.{flat_map-append}
+use Rattle.std.proofs.Common.{◌∙◌, ℕ, List, [], ◌∷◌, ◌++◌, Option, Some, None, inl, inr, refl}
 use Rattle.audit_trail.specs.declared.entry.Deed.{Deed}
 use Rattle.audit_trail.specs.declared.entry.Entry.{Entry}
 use Rattle.drive_base.specs.Plan.{write_drives}
@@ -12,13 +11,13 @@ use Rattle.slot_history.specs.Standing.{Records}
 use Rattle.slot_history.specs.State.{State}
 use Rattle.slot_history.specs.Waiting.{Lates}
 use Rattle.slot_history.proofs.RunLemmas.{runs_join}
-use Rattle.slot_core.specs.Calming.{IsCalmUnder, SectionCalms}
-use Rattle.slot_core.specs.Turning.{EntryMoves}
+use Rattle.slot_core.specs.Calm.{IsCalmUnder, SectionCalms}
+use Rattle.slot_core.specs.Turns.{EntryMoves}
 use Rattle.slot_core.specs.Views.{quorum_of}
 use Rattle.slot_core.proofs.CalmingLemmas.{calm_by_entry}
-use Rattle.receipts.specs.Events.{Log, Note, Shown}
+use Rattle.receipts.specs.Events.{Note, Shown}
 use Rattle.op_steps.specs.Claims.{Claim}
-use Rattle.op_steps.specs.Leading.{AllLead, Entered, IsCalmAfter, IsCalmBy, LeadsTo, RunsShowing, ShowingJoins, ShowingParts, ShowingRuns, Standing, entered_at, entered_by, entered_in}
+use Rattle.op_steps.specs.Leading.{Entered, IsCalmAfter, IsCalmBy, LeadsTo, RunsShowing, Standing, entered_by}
 use Rattle.op_steps.specs.Moves.{ShowsBy, TurnLeaves}
 use Rattle.op_steps.specs.Notes.{entry_in}
 use Rattle.op_steps.specs.Store.{SlotSeen}
@@ -34,22 +33,11 @@ lates_first slot (e ∷ run) old mid new first (before, after, lates, moves, sho
     (before, after, lates_join slot old mid before first lates, moves, shows, rest)
 
 -- runs join
-pub showing_joins : ShowingJoins
+pub showing_joins : (slot : ℕ) (first second : List Entered) (old mid new : State) → RunsShowing slot first old mid → RunsShowing slot second mid new
+    → RunsShowing slot (first ++ second) old new
 showing_joins slot [] second old mid new first runs = lates_first slot second old mid new first runs
 showing_joins slot (e ∷ run) second old mid new (before, after, lates, moves, shows, rest) runs =
     (before, after, lates, moves, shows, showing_joins slot run second after mid new rest runs)
-
--- and part
-pub showing_parts : ShowingParts
-showing_parts slot [] e second old new runs = runs
-showing_parts slot (x ∷ first) e second old new (before, after, lates, moves, shows, rest) =
-    let part = showing_parts slot first e second after new rest in
-    (part.0, part.1, (before, after, lates, moves, shows, part.2), part.3, part.4, part.5)
-
--- their entries alone run
-pub showing_runs : ShowingRuns
-showing_runs slot [] old new lates = lates
-showing_runs slot (e ∷ run) old new (before, after, lates, moves, shows, rest) = (before, after, lates, moves, showing_runs slot run after new rest)
 
 -- a refused change that took effect is a late step after its deed
 own_lates : (deed : Deed) (after new : State) → OwnStep deed after new → Lates after new
@@ -97,12 +85,6 @@ leads_join set slot one two was mid now first second = record {
       second.calm name (calm_so two name (IsCalmBy one name (IsCalmUnder w was.records was.state name)) (IsCalmUnder w mid.records mid.state name) (first.calm name)
       (calm_joined one two name (IsCalmUnder w was.records was.state name) calm));
 }
-
--- so it is of each slot, over one log and then another
-pub all_lead_join : (set : SetPlan) (one two : Log) (at mid later : ℕ → Standing) → AllLead set one at mid → AllLead set two mid later → AllLead set (one ++ two) at later
-all_lead_join set one two at mid later first second slot =
-    subst (λ (run : List Entered). LeadsTo set slot run (at slot) (later slot)) (sym (flat_map-append (entered_in slot) one two))
-    (leads_join set slot (entered_at slot one) (entered_at slot two) (at slot) (mid slot) (later slot) (first slot) (second slot))
 
 module _ {D : Type 0} (ghosts : Ghosts D) where
   -- what a section leaves

@@ -15,8 +15,8 @@ use Rattle.slot_history.specs.Standing.{Records}
 use Rattle.slot_history.specs.State.{State}
 use Rattle.slot_core.specs.Sections.{SaysKept, ShowsContent}
 use Rattle.slot_core.specs.Stubs.{entry_of}
-use Rattle.slot_core.specs.Turning.{EntryMoves}
-use Rattle.slot_core.specs.declared.fault.SlotFault.{SlotFault}
+use Rattle.slot_core.specs.Turns.{EntryMoves}
+use Rattle.slot_core.specs.declared.slot.SlotFault.{SlotFault}
 use Rattle.slot_core.specs.declared.stub.Stub.{Stub}
 use Rattle.op_steps.specs.Calls.{MayCall}
 use Rattle.op_steps.specs.Claims.{Claim, among}
@@ -30,6 +30,7 @@ use Rattle.op_steps.proofs.DataLemmas.{data_read}
 use Rattle.op_steps.proofs.MovesLemmas.{turn_moves}
 use Rattle.op_steps.proofs.NoteLemmas.{audit_noted, entry_counts, entry_noted}
 use Rattle.op_steps.proofs.StayLemmas.{Stays, stays_leave}
+use Rattle.op_steps.proofs.ClaimLemmas.{claim_stays, nothing_gained}
 
 -- what was shown is so of the register that the entry names
 shows_by : (answer : Result (List ℕ) SlotFault) (name : List ℕ) (entry : Entry) (before after : State) → entry.name ≡ name
@@ -65,6 +66,7 @@ module _ {D : Type 0} (ghosts : Ghosts D) where
         audit = audit_noted stub was.entries now.entries x.turns.audit;
         faults = entry_counts was.numbers answer stub was.faults now.faults x.turns.stub_is x.turns.faults;
         claims = record { slot = refl; elsewhere = λ other. refl };
+        gains = nothing_gained was.numbers now.numbers was.holding now.holding claim;
         read = x.read;
         account = look_turn_cause ghosts was now claim old new name answer stub x.turns.stub_is x.says x.turns.spent.0 x.turns.faults x.cause;
         letters = λ other change made. absurd (kept_none name stub x.says other change made);
@@ -137,7 +139,7 @@ read_is_call set k made old new claim x =
       may = reading_may claim made.call x.reading;
       long = x.long;
       others = x.others;
-      slot = refl;
+      claims = claim_stays claim;
       written = λ unseen front rest own says at mine. reads_other made.call made.before made.after says.0 x.reading says.1;
       holds = λ unseen front rest own s at mine kept.
           data_read s.numbers s.holding unseen old new (among front claim rest) (among front claim rest) s.records s.state

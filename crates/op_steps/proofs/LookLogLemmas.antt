@@ -9,8 +9,8 @@ use Rattle.call_types.specs.declared.reply.Reply.TheVariants.{Refused as Refused
 use Rattle.slot_core.specs.Sections.{SaysKept}
 use Rattle.slot_core.specs.Stubs.{IsStub, Says, StubOfEntry, Writes, WritesNone}
 use Rattle.slot_core.specs.Views.{SlotNumbers}
-use Rattle.slot_core.specs.declared.fault.SlotFault.{SlotFault}
-use Rattle.slot_core.specs.declared.fault.SlotFault.TheVariants.{AuditFailed, Key, NoMemory as NoMemoryFault, NotInFlight, Quorum, SeqSpent}
+use Rattle.slot_core.specs.declared.slot.SlotFault.{SlotFault}
+use Rattle.slot_core.specs.declared.slot.SlotFault.TheVariants.{AuditFailed, Key, NoMemory as NoMemoryFault, NotInFlight, Quorum, SeqSpent}
 use Rattle.slot_core.specs.declared.stub.Stub.{Stub}
 use Rattle.receipts.specs.Bucketing.{BucketIsThere}
 use Rattle.receipts.specs.Events.{Shown, sections_of}

@@ -30,6 +30,7 @@ turn_moves ghosts was now note shown claim later disks_old disks_new x = record 
   audit = x.audit;
   faults = x.faults;
   claims = x.claims;
+  gains = x.gains;
   read = x.read;
   cause = cause_by ghosts was now claim disks_old disks_new x.read.long note x.account;
   complete = turn_complete ghosts was now note shown claim later disks_old disks_new x;

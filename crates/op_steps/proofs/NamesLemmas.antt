@@ -6,10 +6,10 @@ use Rattle.drive_base.specs.declared.drive.Drive.{Ghosts}
 use Rattle.drive_base.proofs.ViewLemmas.{untouched_are_only_read}
 use Rattle.slot_history.specs.Standing.{Records}
 use Rattle.slot_history.specs.State.{State}
-use Rattle.slot_core.specs.Listing.{ShowsNames}
+use Rattle.slot_core.specs.NameList.{ShowsNames}
 use Rattle.slot_core.specs.Stubs.{entry_of}
-use Rattle.slot_core.specs.Turning.{EntryMoves}
-use Rattle.slot_core.specs.declared.fault.SlotFault.{SlotFault}
+use Rattle.slot_core.specs.Turns.{EntryMoves}
+use Rattle.slot_core.specs.declared.slot.SlotFault.{SlotFault}
 use Rattle.op_steps.specs.Notes.{noted}
 use Rattle.op_steps.specs.Moves.{ShowsBy}
 use Rattle.op_steps.specs.Naming.{NamesIsTurn, names_by}
@@ -18,6 +18,7 @@ use Rattle.op_steps.proofs.CauseLemmas.{names_turn_cause}
 use Rattle.op_steps.proofs.MovesLemmas.{turn_moves}
 use Rattle.op_steps.proofs.NoteLemmas.{audit_noted, entry_counts, entry_noted}
 use Rattle.op_steps.proofs.StayLemmas.{stays_leave}
+use Rattle.op_steps.proofs.ClaimLemmas.{nothing_gained}
 
 -- what was shown is so of the state before
 shows_names : {Y : Type 0} (from : List ℕ) (most : ℕ) (answer : Result (List (String Y)) SlotFault) (entry : Entry) (before after : State)
@@ -41,6 +42,7 @@ module _ {D : Type 0} (ghosts : Ghosts D) where
         audit = audit_noted stub was.entries now.entries x.turns.audit;
         faults = entry_counts was.numbers answer stub was.faults now.faults x.turns.stub_is x.turns.faults;
         claims = record { slot = refl; elsewhere = λ other. refl };
+        gains = nothing_gained was.numbers now.numbers was.holding now.holding claim;
         read = untouched_are_only_read disks;
         account = names_turn_cause ghosts was now claim {Y = Y} disks from most answer stub x.turns.stub_is x.says x.turns.faults x.lists;
         letters = λ other change made. absurd (kept_none [] stub x.says other change made);

@@ -14,7 +14,7 @@ use Rattle.slot_rules.specs.Owning.{IsOwnId}
 use Rattle.slot_rules.specs.Rules.{key_fault, longest_for, rule_for}
 use Rattle.slot_rules.specs.declared.commit.Commit.TheVariants.{Key as KeyDeed, MakeBucket, SetMode}
 use Rattle.slot_rules.specs.declared.commit.Commit.{Commit}
-use Rattle.slot_core.specs.CommitCauses.{IsRuleOf, site_of}
+use Rattle.slot_core.specs.CommitCauses.{IsRuleOf, life_of}
 use Rattle.slot_core.specs.Views.{SlotNumbers}
 use Rattle.op_steps.specs.Causes.{BreaksRule, IsNextId, IsPutOf}
 use Rattle.op_steps.specs.Claims.{Claim}
@@ -26,7 +26,7 @@ look_breaks numbers claim name content place broken plain canonical = absurd (no
 
 -- the id of a section's own change is one that it may have
 next_id : (numbers : SlotNumbers) (claim : Claim) (last : ℕ) (put : Option VersionId) (id : VersionId) → numbers.seq ≤ last → IsPutOf claim put
-    → IsOwnId (site_of numbers) last put id → IsNextId numbers claim id
+    → IsOwnId (life_of numbers) last put id → IsNextId numbers claim id
 next_id numbers claim last None id up own is = record {
   slot = is.slot;
   change = inr (is.change.0, let seq = is.change.1 in omega (arith, seq, up));

@@ -1,5 +1,5 @@
 -- Logs of steps, one behind another.
-use Rattle.std.proofs.Common.{◌∙◌, ℕ, List, [], ◌∷◌, ◌++◌, Option, append-nil, append_assoc, ap, inl, inr, refl, subst, sym}
+use Rattle.std.proofs.Common.{◌≡◌, ◌∙◌, ℕ, List, [], ◌∷◌, ◌++◌, Option, append-nil, append_assoc, ap, inl, inr, refl, subst, sym}
 use Rattle.desk_base.specs.Telling.{Effect}
 use Rattle.drive_base.specs.View.{DriveView}
 use Rattle.drive_base.specs.declared.plan.SetPlan.{SetPlan}
@@ -9,11 +9,13 @@ use Rattle.receipts.specs.Events.Event.{Called, Fed, Told}
 use Rattle.receipts.specs.declared.barred.Barred.{Barred}
 use Rattle.receipts.proofs.JoinLemmas.{notes_join}
 use Rattle.op_steps.specs.Claims.{Claim}
-use Rattle.op_steps.specs.Going.{AddsNotes, RanSoOver}
+use Rattle.op_steps.specs.Going.{AddsNotes, OneStep, RanSoOver}
 use Rattle.op_steps.specs.Notes.{notes_by}
 use Rattle.op_steps.specs.Steps.{RanOver}
 use Rattle.op_steps.specs.Store.{FeedSeen, StoreOver, TellerSeen, store_of}
 use Rattle.op_steps.specs.Words.{CallsSo, FeedsSo, TellsSo}
+use Rattle.op_steps.specs.declared.next.OpNext.{OpNext}
+use Rattle.op_steps.specs.declared.next.OpNext.TheVariants.{Data, Feed, Tell}
 
 -- the notes of two logs, one behind another, are those of both
 pub notes_more : (log more : Log) (s t u : List Stub) → AddsNotes log s t → AddsNotes more t u → AddsNotes (log ++ more) s u
@@ -49,49 +51,54 @@ module _ {S T : Type 0} (turns : ℕ → Option Note → Shown → StoreOver S T
         notes_more one.1 two.1 s t u one.4 two.4,
       )
 
+  -- a step is a log
+  pub any_step : (next : OpNext) (Old New : Claim → Log → Type 0) (old new : Claim → StoreOver S T) (s t : List Stub)
+      → RanSoOver (OneStep next Leads) Old New old new s t → RanSoOver Leads Old New old new s t
+  any_step next Old New old new s t steps claim log holds = let one = steps claim log holds in (one.0, one.1, one.2, one.3.1, one.4)
+
   -- a step at data drives is one call, or nothing was done
-  pub called_so : (Old New : Claim → Log → Type 0) (slots : S) (old new : List DriveView) (feed : FeedSeen) (teller : TellerSeen T) (stubs : List Stub)
-      → CallsSo Old New set old new → RanSoOver Leads Old New (λ claim. store_of slots old claim feed teller)
+  pub called_so : (next : OpNext) (Old New : Claim → Log → Type 0) (slots : S) (old new : List DriveView) (feed : FeedSeen) (teller : TellerSeen T) (stubs : List Stub)
+      → next ≡ Data → CallsSo Old New set old new → RanSoOver (OneStep next Leads) Old New (λ claim. store_of slots old claim feed teller)
       (λ claim. store_of slots new claim feed teller) stubs stubs
-  called_so Old New slots old new feed teller stubs calls claim log holds = elim (calls claim log holds) [
+  called_so next Old New slots old new feed teller stubs due calls claim log holds = elim (calls claim log holds) [
     | inl one ↦ (
       one.0,
       Called one.1 one.2 ∷ [],
       one.3,
-      (store_of slots new one.0 feed teller, record { moves = one.4; leaves = refl }, refl),
+      ((due, refl), (store_of slots new one.0 feed teller, record { moves = one.4; leaves = refl }, refl)),
       sym (append-nil (notes_by stubs)),
     )
     | inr none ↦ (
       claim,
       [],
       subst (λ l. New claim l) (sym (append-nil log)) none.0,
-      ap (λ (disks : List DriveView). store_of slots disks claim feed teller) none.1,
+      (due, ap (λ (disks : List DriveView). store_of slots disks claim feed teller) none.1),
       sym (append-nil (notes_by stubs)),
     )
   ]
 
   -- bytes taken of the body are one step
-  pub fed_so : (Old New : Claim → Log → Type 0) (slots : S) (disks : List DriveView) (old new : FeedSeen) (teller : TellerSeen T) (stubs : List Stub)
-      → FeedsSo Old New old new → RanSoOver Leads Old New (λ claim. store_of slots disks claim old teller)
+  pub fed_so : (next : OpNext) (Old New : Claim → Log → Type 0) (slots : S) (disks : List DriveView) (old new : FeedSeen) (teller : TellerSeen T) (stubs : List Stub)
+      → next ≡ Feed → FeedsSo Old New old new → RanSoOver (OneStep next Leads) Old New (λ claim. store_of slots disks claim old teller)
       (λ claim. store_of slots disks claim new teller) stubs stubs
-  fed_so Old New slots disks old new teller stubs feeds claim log holds =
+  fed_so next Old New slots disks old new teller stubs due feeds claim log holds =
       let one = feeds claim log holds in (
         claim,
         Fed one.0 one.1 ∷ [],
         one.2,
-        (store_of slots disks claim new teller, record { moves = one.3; leaves = refl }, refl),
+        ((due, refl), (store_of slots disks claim new teller, record { moves = one.3; leaves = refl }, refl)),
         sym (append-nil (notes_by stubs)),
       )
 
   -- and so is a telling
-  pub told_so : (Old New : Claim → Log → Type 0) (slots : S) (disks : List DriveView) (feed : FeedSeen) (old new : TellerSeen T) (stubs : List Stub)
-      → TellsSo takes breaks Old New old new → RanSoOver Leads Old New (λ claim. store_of slots disks claim feed old)
+  pub told_so : (next : OpNext) (Old New : Claim → Log → Type 0) (slots : S) (disks : List DriveView) (feed : FeedSeen) (old new : TellerSeen T) (stubs : List Stub)
+      → next ≡ Tell → TellsSo takes breaks Old New old new → RanSoOver (OneStep next Leads) Old New (λ claim. store_of slots disks claim feed old)
       (λ claim. store_of slots disks claim feed new) stubs stubs
-  told_so Old New slots disks feed old new stubs tells claim log holds =
+  told_so next Old New slots disks feed old new stubs due tells claim log holds =
       let one = tells claim log holds in (
         claim,
         Told one.0 one.1 ∷ [],
         one.2,
-        (store_of slots disks claim feed new, record { moves = one.3; leaves = refl }, refl),
+        ((due, refl), (store_of slots disks claim feed new, record { moves = one.3; leaves = refl }, refl)),
         sym (append-nil (notes_by stubs)),
       )

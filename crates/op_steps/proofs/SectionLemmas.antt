@@ -37,9 +37,9 @@ use Rattle.slot_data.specs.Holding.{Holding}
 use Rattle.slot_rules.specs.Rules.{longest_for, rule_for}
 use Rattle.slot_core.specs.Causes.{LookCause}
 use Rattle.slot_core.specs.CommitCauses.{IsRuleOf, OwnIsWritten}
-use Rattle.slot_core.specs.Listing.{NamesLetter}
+use Rattle.slot_core.specs.NameList.{NamesLetter}
 use Rattle.slot_core.specs.Views.{last_of}
-use Rattle.slot_core.specs.declared.fault.SlotFault.TheVariants.{Quorum}
+use Rattle.slot_core.specs.declared.slot.SlotFault.TheVariants.{Quorum}
 use Rattle.slot_core.proofs.SettlingLemmas.{name_held}
 use Rattle.receipts.specs.Events.{Note, Shown}
 use Rattle.op_steps.specs.Claims.{Claim, DataHolds, HoldsAt, counted_on, disks_of}

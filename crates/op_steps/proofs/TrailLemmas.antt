@@ -1,11 +1,11 @@
 -- The calls of a data drive in a log are the calls that were made of it.
-use Rattle.std.proofs.Common.{◌≡◌, ℕ, List, [], ◌∷◌, Option, cond, length, inl, inr, ap, subst, sym}
+use Rattle.std.proofs.Common.{◌≡◌, ℕ, List, [], ◌∷◌, Option, cond, length, inl, inr, ap, subst, sym, ◌≤◌, ◌∙◌, arith}
 use Rattle.std.proofs.lemmas.Bool.{cases_lt}
 use Rattle.std.proofs.lemmas.Bool.Decides.{eqb_tells}
 use Rattle.desk_base.specs.Telling.{Effect}
 use Rattle.drive_base.specs.Calls.{MadeCall}
 use Rattle.drive_base.specs.Trail.{GrewByReadings}
-use Rattle.drive_base.specs.View.{AllOnlyRead, DriveView, view_at}
+use Rattle.drive_base.specs.View.{AllOnlyRead, DriveView, view_at, blank_view}
 use Rattle.drive_base.specs.declared.drive.Drive.{Ghosts}
 use Rattle.drive_base.specs.declared.plan.SetPlan.{SetPlan}
 use Rattle.receipts.specs.Events.{Event, Log, Note, Shown}
@@ -14,7 +14,11 @@ use Rattle.receipts.specs.declared.barred.Barred.{Barred}
 use Rattle.op_steps.specs.Steps.{Calls, IsBarred, RanOver, StepOver, Turns}
 use Rattle.op_steps.specs.Store.{Store, StoreOver}
 use Rattle.op_steps.specs.Trails.{AddsCalls, LeadsTrail, LogsAreTrails}
-use Rattle.op_steps.proofs.FileLemmas.{past_same}
+use Rattle.std.proofs.lemmas.List.{get_or_past}
+
+-- behind the last drive there is none before and after
+pub past_same : (old new : List DriveView) (k : ℕ) → length new ≡ length old → length old ≤ k → view_at new k ≡ view_at old k
+past_same old new k long past = get_or_past new k blank_view (omega (arith, long, past)) ∙ sym (get_or_past old k blank_view past)
 
 -- what was done to drives that were only read is readings
 pub read_trail : (old new : List DriveView) (k : ℕ) → AllOnlyRead old new → GrewByReadings (view_at old k).trail (view_at new k).trail

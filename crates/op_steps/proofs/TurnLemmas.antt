@@ -13,7 +13,7 @@ use Rattle.receipts.specs.Events.{Log, Shown}
 use Rattle.receipts.specs.Events.Event.{BarredFrom, Turned}
 use Rattle.receipts.specs.declared.barred.Barred.{Barred}
 use Rattle.op_steps.specs.Claims.{Claim}
-use Rattle.op_steps.specs.Going.{AddsNotes, RanSo}
+use Rattle.op_steps.specs.Going.{AddsNotes, StepsSo}
 use Rattle.op_steps.specs.Moves.{BarCause}
 use Rattle.op_steps.specs.Notes.{note_of, noted, notes_by}
 use Rattle.op_steps.specs.Steps.{IsSlotAt}
@@ -67,26 +67,29 @@ module _ {D A : Type 0} (entries : A → Option (List Entry)) (count : A → ℕ
 
 module _ {D T : Type 0} (ghosts : Ghosts D) (takes breaks : Effect T) where
   -- a section is one step, with its note
-  pub turn_steps : (Old New : Claim → Log → Type 0) (plan : SetPlan) (k : ℕ) (stub : Option Stub) (old new : List (SlotSeen D)) (old_disks new_disks : List DriveView)
-      (stubs later : List Stub) → SectionsSo ghosts Old New k stub old new old_disks new_disks → later ≡ stubs ++ option_to_list stub
-      → (feed : FeedSeen) (teller : TellerSeen T) → RanSo ghosts takes breaks Old New plan (λ claim. store_of old old_disks claim feed teller)
+  pub turn_steps : (Old New : Claim → Log → Type 0) (plan : SetPlan) (next : OpNext) (k : ℕ) (stub : Option Stub) (old new : List (SlotSeen D)) (old_disks new_disks : List DriveView)
+      (stubs later : List Stub) → next ≡ Section k → SectionsSo ghosts Old New k stub old new old_disks new_disks
+      → later ≡ stubs ++ option_to_list stub → (feed : FeedSeen) (teller : TellerSeen T) → StepsSo ghosts takes breaks next Old New plan (λ claim. store_of old old_disks claim feed teller)
       (λ claim. store_of new new_disks claim feed teller) stubs later
-  turn_steps Old New plan k stub old new old_disks new_disks stubs later sections kept feed teller claim log holds =
+  turn_steps Old New plan next k stub old new old_disks new_disks stubs later at sections kept feed teller claim log holds =
       let got = sections claim log holds in (
         got.0,
         Turned k (noted stub) got.1 ∷ [],
         got.4,
         (
-          store_of new new_disks got.0 feed teller,
-          record {
-            was = got.2;
-            now = got.3;
-            is = got.5;
-            disks = new_disks;
-            moves = got.7;
-            leaves = ap (λ slots. store_of slots new_disks got.0 feed teller) got.6;
-          },
-          refl,
+          (at, refl),
+          (
+            store_of new new_disks got.0 feed teller,
+            record {
+              was = got.2;
+              now = got.3;
+              is = got.5;
+              disks = new_disks;
+              moves = got.7;
+              leaves = ap (λ slots. store_of slots new_disks got.0 feed teller) got.6;
+            },
+            refl,
+          ),
         ),
         subst (λ l. AddsNotes (Turned k (noted stub) got.1 ∷ []) stubs l) (sym kept) (notes_kept stubs stub k got.1),
       )
@@ -94,12 +97,12 @@ module _ {D T : Type 0} (ghosts : Ghosts D) (takes breaks : Effect T) where
   -- a section that could not be done is one step, without a note
   pub bar_steps : (Old New : Claim → Log → Type 0) (plan : SetPlan) (next : OpNext) (k : ℕ) (why : Barred) (was : SlotSeen D) (slots : List (SlotSeen D)) (disks : List DriveView)
       (stubs later : List Stub) → IsSlotAt slots k was → BarCause why was.numbers → next ≡ Section k → BarredSo Old New next why → later ≡ stubs
-      → (feed : FeedSeen) (teller : TellerSeen T) → RanSo ghosts takes breaks Old New plan (λ claim. store_of slots disks claim feed teller)
+      → (feed : FeedSeen) (teller : TellerSeen T) → StepsSo ghosts takes breaks next Old New plan (λ claim. store_of slots disks claim feed teller)
       (λ claim. store_of slots disks claim feed teller) stubs later
   bar_steps Old New plan next k why was slots disks stubs later is cause at barred kept feed teller claim log holds = (
     claim,
     BarredFrom k why ∷ [],
     barred claim log k at holds,
-    (store_of slots disks claim feed teller, record { was = was; is = is; cause = cause; leaves = refl }, refl),
+    ((at, refl), (store_of slots disks claim feed teller, record { was = was; is = is; cause = cause; leaves = refl }, refl)),
     ap notes_by kept ∙ sym (append-nil (notes_by stubs)),
   )

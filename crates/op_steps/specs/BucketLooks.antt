@@ -5,7 +5,7 @@ use Rattle.call_types.specs.declared.refusal.Refusal.TheVariants.{NoSuchBucket}
 use Rattle.call_types.specs.declared.reply.Reply.TheVariants.{Refused as RefusedReply}
 use Rattle.drive_base.specs.declared.drive.Drive.{Ghosts}
 use Rattle.drive_base.specs.View.{DriveView}
-use Rattle.slot_core.specs.declared.fault.SlotFault.{SlotFault}
+use Rattle.slot_core.specs.declared.slot.SlotFault.{SlotFault}
 use Rattle.receipts.specs.Bucketing.{BucketIsThere}
 use Rattle.receipts.specs.Events.{Log, Shown, sections_of}
 use Rattle.receipts.specs.Events.Event.{Turned}

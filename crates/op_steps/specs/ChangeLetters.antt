@@ -6,7 +6,6 @@ use Rattle.call_types.specs.declared.why.FileKind.TheVariants.{Format, Manifest,
 use Rattle.call_types.specs.declared.why.Why.{Why}
 use Rattle.call_types.specs.declared.why.Why.TheVariants.{Behind, Damaged, Failed, Good, Lacks}
 use Rattle.drive_base.specs.declared.drive.Drive.{Ghosts}
-use Rattle.fault_base.specs.Counts.{Rose}
 use Rattle.file_access.specs.Reading.{FailedWhile}
 use Rattle.stamp_id.specs.Rank.{change_of}
 use Rattle.stamp_id.specs.declared.stamp.ChangeId.{ChangeId}
@@ -45,10 +44,3 @@ module _ {D : Type 0} (ghosts : Ghosts D) where
     pub enough : quorum_of was.numbers ≤ good_count whys
     pub marked : (records : Records) (state : State) → LanesStand ghosts.tells ghosts.files was records state → (k : ℕ) (d : D) → k < was.numbers.set.drives
         → letter_at whys k ≡ Good → KeepsBaseOf (change_of change) ((ghosts.files (slice_index_or now.lanes k d)).kept name)
-
-  -- so where a section made a change, each lane that is in use, tells and had no fault in it keeps the change as its base
-  abbrev pub HealthyLanesKeep : Type 0
-  HealthyLanesKeep = (was now : SlotSeen D) (name : List ℕ) (change : ChangeId) (records : Records) (state : State) → ChangeLetters was now name change
-      → LanesStand ghosts.tells ghosts.files was records state → (k : ℕ) (d : D) → k < was.numbers.set.drives → (IsBitSet was.numbers.set.out k → ⊥)
-      → IsTrue (ghosts.tells (slice_index_or was.lanes k d)) → (Rose (ghosts.count (slice_index_or was.lanes k d)) (ghosts.count (slice_index_or now.lanes k d)) → ⊥)
-      → KeepsBaseOf (change_of change) ((ghosts.files (slice_index_or now.lanes k d)).kept name)

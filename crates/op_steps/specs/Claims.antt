@@ -3,12 +3,11 @@ use Rattle.std.specs.Prelude.{◌≡◌, ◌⊎◌, ℕ, ◌<◌, ◌^◌, ◌==
 use Rattle.std.specs.Int.{IsBitSet}
 use Rattle.std.specs.List.{flat_map, range_with_len}
 use Rattle.drive_base.specs.Files.{Files, Named}
-use Rattle.drive_base.specs.HonestDamage.{IsHonestAt}
 use Rattle.drive_base.specs.View.{DriveView, view_at}
 use Rattle.drive_base.specs.declared.plan.SetPlan.{SetPlan}
 use Rattle.manifest_file.specs.Spelling.{manifest_kind}
 use Rattle.put_stage.specs.Cells.{DataCells, data_of}
-use Rattle.put_stage.specs.Working.{HasNoneLoose, Keeps}
+use Rattle.put_stage.specs.Work.{HasNoneLoose, Keeps}
 use Rattle.seal_file.specs.Sealing.{IsDamage}
 use Rattle.seal_file.specs.declared.damage.Damage.{Damage}
 use Rattle.stamp_id.specs.declared.version.VersionId.{VersionId}
@@ -77,13 +76,17 @@ pub record AllApart (claims : List Claim) : Type 0 where
   pub flights : AreDistinct (flights_in claims)
   pub pins : AreDistinct (pins_in claims)
 
--- bytes that are no sealed file of a manifest, whatever is kept
-abbrev pub IsUnsealed : Option (List ℕ) → List ℕ → Type 0
-IsUnsealed kept bytes = (damage : Damage) × IsDamage manifest_kind bytes damage
+-- bytes that are no sealed file of a manifest
+abbrev pub IsUnsealed : List ℕ → Type 0
+IsUnsealed bytes = (damage : Damage) × IsDamage manifest_kind bytes damage
 
--- damage of manifests is honest: under the name of each the files show what is kept, or bytes that are no sealed file of a manifest
+-- under a name files show no bytes but those that are kept, or such that a rule calls damaged; nothing may be shown of what is kept
+abbrev pub ShowsNoOther : (List ℕ → Type 0) → List ℕ → Files → Type 0
+ShowsNoOther IsDamaged name files = (bytes : List ℕ) → files.shown name ≡ Some bytes → (files.kept name ≡ Some bytes) ⊎ IsDamaged bytes
+
+-- damage of manifests is honest: under the name of each the files show no bytes but those that are kept, or such that are no sealed file of a manifest
 abbrev pub HasHonestManifests : Files → Type 0
-HasHonestManifests files = (id : VersionId) → IsHonestAt IsUnsealed (manifest_name id) files
+HasHonestManifests files = (id : VersionId) → ShowsNoOther IsUnsealed (manifest_name id) files
 
 -- each drive of a set that is in use tells what it holds, and damage of its manifests is honest
 pub record DisksTell (set : SetPlan) (disks : List DriveView) : Type 0 where

@@ -1,5 +1,5 @@
--- Where the entries of a log lead the slots of a store, with what their sections showed.
-use Rattle.std.specs.Prelude.{◌≡◌, ◌⊎◌, ℕ, List, [], ◌∷◌, ◌++◌, if◌then◌else◌, map, nat_eq, Option, Some, None}
+-- Where the entries of a log lead a slot, with what their sections showed, and how a slot goes on by them.
+use Rattle.std.specs.Prelude.{◌≡◌, ◌⊎◌, ℕ, List, [], ◌∷◌, ◌++◌, if◌then◌else◌, map, nat_eq, Option, Some, None, Bool, option_map}
 use Rattle.std.specs.Int.{IsBitSet}
 use Rattle.std.specs.List.{flat_map}
 use Rattle.audit_trail.specs.declared.entry.Entry.{Entry}
@@ -7,15 +7,17 @@ use Rattle.drive_base.specs.Plan.{write_drives}
 use Rattle.drive_base.specs.declared.plan.SetPlan.{SetPlan}
 use Rattle.stamp_id.specs.declared.stamp.ChangeId.{ChangeId}
 use Rattle.vote_core.specs.Lane.{lane_at}
-use Rattle.slot_history.specs.Moving.{Moves, Runs}
+use Rattle.slot_history.specs.Moving.{Moves}
 use Rattle.slot_history.specs.Standing.{Records}
 use Rattle.slot_history.specs.State.{State}
 use Rattle.slot_history.specs.Waiting.{Lates}
-use Rattle.slot_core.specs.Calming.{HasBegun, HasMade, IsCalmUnder}
+use Rattle.slot_core.specs.Calm.{HasBegun, HasMade, IsCalmUnder}
 use Rattle.receipts.specs.Events.{Event, Log, Shown}
 use Rattle.receipts.specs.Events.Event.{BarredFrom, Called, Fed, Told, Turned}
 use Rattle.op_steps.specs.Moves.{ShowsBy}
 use Rattle.op_steps.specs.Notes.{entry_in}
+use Rattle.drive_base.specs.Files.{Files}
+use Rattle.op_steps.specs.Store.{LanesStand, SlotSeen}
 
 -- an entry of a slot, with what its section showed
 pub record Entered : Type 0 where
@@ -73,21 +75,21 @@ pub record LeadsTo (set : SetPlan) (slot : ℕ) (run : List Entered) (was now : 
   pub calm : (name : List ℕ) → IsCalmBy run name (IsCalmUnder (write_drives set.drives set.parity) was.records was.state name)
       → IsCalmUnder (write_drives set.drives set.parity) now.records now.state name
 
--- each slot is led so by its entries in a log
-abbrev pub AllLead : SetPlan → Log → (ℕ → Standing) → (ℕ → Standing) → Type 0
-AllLead set log at later = (slot : ℕ) → LeadsTo set slot (entered_at slot log) (at slot) (later slot)
+-- what an audit has, told or not, and these entries more
+abbrev pub with_entries : Option (List Entry) → List Entry → Option (List Entry)
+with_entries entries more = option_map (λ before. before ++ more) entries
 
--- where entries run with what their sections showed, they run
-abbrev pub ShowingRuns : Type 0
-ShowingRuns = (slot : ℕ) (run : List Entered) (old new : State) → RunsShowing slot run old new → Runs slot (entries_of run) old new
+module _ {D : Type 0} (tells : D → Bool) (files : D → Files) where
+  -- the lanes of a slot stand for something to which these entries lead
+  pub record RunsTo (slot : ℕ) (now : SlotSeen D) (run : List Entered) (at : Standing) : Type 0 where
+    pub later : Standing
+    pub stands : LanesStand tells files now later.records later.state
+    pub leads : LeadsTo now.numbers.set slot run at later
 
--- such runs join
-abbrev pub ShowingJoins : Type 0
-ShowingJoins = (slot : ℕ) (first second : List Entered) (old mid new : State) → RunsShowing slot first old mid → RunsShowing slot second mid new
-    → RunsShowing slot (first ++ second) old new
-
--- and each section of one showed what was so between those before it and those after it
-abbrev pub ShowingParts : Type 0
-ShowingParts = (slot : ℕ) (first : List Entered) (e : Entered) (second : List Entered) (old new : State) → RunsShowing slot (first ++ e ∷ second) old new
-    → (before after : State) × RunsShowing slot first old before × Moves slot e.entry before after × ShowsBy (Some e.entry) e.shown before after
-    × RunsShowing slot second after new
+  -- a slot went on by these entries: its set and term stay, its audit has got exactly them, and where its lanes stood for something they stand for what
+  -- these lead to
+  pub record WentOn (slot : ℕ) (was now : SlotSeen D) (run : List Entered) : Type 0 where
+    pub set : now.numbers.set ≡ was.numbers.set
+    pub term : now.numbers.term ≡ was.numbers.term
+    pub audit : now.entries ≡ with_entries was.entries (entries_of run)
+    pub runs : (at : Standing) → LanesStand tells files was at.records at.state → RunsTo slot now run at

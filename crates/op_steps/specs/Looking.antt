@@ -10,8 +10,8 @@ use Rattle.slot_core.specs.Causes.{PeekCause}
 use Rattle.slot_core.specs.Hands.{HandsStay}
 use Rattle.slot_core.specs.Sections.{SaysKept, ShowsContent}
 use Rattle.slot_core.specs.Stubs.{Says, completed_by}
-use Rattle.slot_core.specs.Turning.{Leaves, Turns}
-use Rattle.slot_core.specs.declared.fault.SlotFault.{SlotFault}
+use Rattle.slot_core.specs.Turns.{Leaves, Turns}
+use Rattle.slot_core.specs.declared.slot.SlotFault.{SlotFault}
 use Rattle.slot_core.specs.declared.stub.Stub.{Stub}
 use Rattle.receipts.specs.Events.{Shown}
 use Rattle.receipts.specs.Events.Shown.{ContentShown, NoneShown}

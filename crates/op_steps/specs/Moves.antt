@@ -1,5 +1,5 @@
 -- What one step does to what it works on.
-use Rattle.std.specs.Prelude.{◌≡◌, ◌≢◌, ◌⊎◌, ℕ, ◌<◌, ◌≤◌, List, length, Option, Some, None, MatchOption}
+use Rattle.std.specs.Prelude.{◌≡◌, ◌≢◌, ◌⊎◌, ℕ, ◌<◌, ◌≤◌, List, Contains, length, Option, Some, None, MatchOption, IsTrue}
 use Rattle.std.specs.Int.{IsBitSet}
 use Rattle.audit_trail.specs.declared.entry.Entry.{Entry}
 use Rattle.body_print.specs.Names.{loose_manifest_name, loose_shard_name, manifest_name, shard_name}
@@ -11,25 +11,25 @@ use Rattle.drive_base.specs.Calls.{MadeCall, Tells, WasMade}
 use Rattle.drive_base.specs.Calls.Seen.{Unwritten}
 use Rattle.drive_base.specs.Files.{Files}
 use Rattle.drive_base.specs.declared.drive.Drive.{Ghosts}
-use Rattle.drive_base.specs.View.{AllOnlyRead, DriveView, view_at}
+use Rattle.drive_base.specs.View.{AllOnlyRead, DriveView, view_at, GoesOn}
 use Rattle.drive_base.specs.declared.plan.SetPlan.{SetPlan}
 use Rattle.fault_base.specs.Counts.{Rose}
 use Rattle.stamp_id.specs.declared.stamp.ChangeId.{ChangeId}
 use Rattle.stamp_id.specs.declared.version.VersionId.{VersionId}
 use Rattle.vote_core.specs.Lane.{lane_at}
-use Rattle.slot_history.specs.Standing.{Records, Stands}
+use Rattle.slot_history.specs.Contents.{number_of_id}
+use Rattle.slot_history.specs.Standing.{Flying, Records, Stands}
 use Rattle.slot_history.specs.State.{IsHeld, State}
 use Rattle.slot_data.specs.Disks.{Disks}
-use Rattle.slot_data.specs.Holding.{Holding}
-use Rattle.slot_core.specs.Calming.{HasMade, SectionCalms}
-use Rattle.slot_core.specs.Listing.{IsGiven, IsListable}
+use Rattle.slot_data.specs.Holding.{Holding, Pinned}
+use Rattle.slot_core.specs.Calm.{HasMade, SectionCalms}
+use Rattle.slot_core.specs.NameList.{IsGiven, IsListable}
 use Rattle.slot_core.specs.Numbers.{NumbersMove}
-use Rattle.slot_core.specs.Turning.{EntryMoves}
+use Rattle.slot_core.specs.Turns.{EntryMoves}
 use Rattle.slot_core.specs.Views.{SlotNumbers, last_of, quorum_of}
 use Rattle.receipts.specs.Events.{Note, Shown}
 use Rattle.receipts.specs.Events.Shown.{ContentShown, NamesShown, NoneShown}
 use Rattle.receipts.specs.declared.barred.Barred.{Barred}
-use Rattle.receipts.specs.declared.barred.Barred.TheVariants as barred
 use Rattle.op_steps.specs.Calls.{MayCall}
 use Rattle.op_steps.specs.Causes.{TurnCause}
 use Rattle.op_steps.specs.ChangeLetters.{ChangeLetters}
@@ -37,6 +37,7 @@ use Rattle.op_steps.specs.Claims.{Claim, DataHolds, among}
 use Rattle.op_steps.specs.Notes.{AuditCounts, AuditHas, IsNoted, entry_in}
 use Rattle.op_steps.specs.Serving.{TurnComplete}
 use Rattle.op_steps.specs.Store.{FeedSeen, LanesStand, SlotSeen, TellerSeen}
+use Rattle.receipts.specs.declared.barred.Barred.TheVariants as barred
 
 -- what a section showed is so of the state before its deed: the content is that of its entry's register; of the registers that are held and that some
 -- change made each is named that is in the stretch of the names
@@ -45,6 +46,18 @@ ShowsBy entry NoneShown before after = Unit {0}
 ShowsBy entry (ContentShown content) before after = MatchOption entry ⊥ (λ made. content ≡ (before.registers made.name).content)
 ShowsBy entry (NamesShown from most names) before after = (name : List ℕ) → IsHeld before.registers name → (before.registers name).change ≢ 0
     → IsListable from name → IsGiven most names name
+
+-- a put began in a section: its number was drawn there, and the slot lists it
+pub record IsBegun (was now : SlotNumbers) (after : Holding) (f : Flying) : Type 0 where
+  pub above : last_of was < number_of_id f.id
+  pub within : number_of_id f.id ≤ last_of now
+  pub listed : Contains after.flights f
+
+-- what an op holds after a section it held before: but a put that began there, a pin that was made there and is listed, and ids that were trash and are none now
+pub record ClaimGains (was now : SlotNumbers) (before after : Holding) (claim later : Claim) : Type 0 where
+  pub flight : (f : Flying) → later.flight ≡ Some f → (claim.flight ≡ Some f) ⊎ IsBegun was now after f
+  pub pin : (p : Pinned) → later.pin ≡ Some p → (claim.pin ≡ Some p) ⊎ ((p.ticket ≡ was.turns) × Contains after.pins p)
+  pub taken : (id : VersionId) → Contains later.taken id → Contains claim.taken id ⊎ (Contains before.trash id × (Contains after.trash id → ⊥))
 
 -- a section changes what its op holds of its own slot alone
 pub record ClaimMoves (index : ℕ) (claim later : Claim) : Type 0 where
@@ -74,6 +87,7 @@ module _ {D : Type 0} (ghosts : Ghosts D) where
     pub audit : AuditHas note was.entries now.entries
     pub faults : AuditCounts note was.faults now.faults
     pub claims : ClaimMoves was.numbers.index claim later
+    pub gains : ClaimGains was.numbers now.numbers was.holding now.holding claim later
     pub read : AllOnlyRead disks_old disks_new
     pub cause : TurnCause ghosts note was now claim disks_old disks_new
     pub complete : TurnComplete ghosts note was now claim disks_old disks_new
@@ -103,6 +117,12 @@ pub record KeepsOthers (old new : Files) : Type 0 where
   pub shown : (name : List ℕ) → (IsDataName name → ⊥) → new.shown name ≡ old.shown name
   pub loose : (name : List ℕ) → (IsLooseName name → ⊥) → new.loose name ≡ old.loose name
 
+-- data drives go on, and those that tell keep what is no data
+pub record DrivesKeep (old new : List DriveView) : Type 0 where
+  pub long : length new ≡ length old
+  pub goes_on : (k : ℕ) → GoesOn (view_at old k) (view_at new k)
+  pub keeps : (k : ℕ) → IsTrue (view_at old k).tells → KeepsOthers (view_at old k).files (view_at new k).files
+
 -- a drive keeps no longer what it kept under one of the two names of an id
 abbrev pub LosesFile : VersionId → Files → Files → Type 0
 LosesFile id old new = ((bytes : List ℕ) × (old.kept (manifest_name id) ≡ Some bytes) × (new.kept (manifest_name id) ≢ Some bytes))
@@ -125,6 +145,13 @@ pub record KeepsData (set : SetPlan) (unseen : Disks) (disks : List DriveView) (
   pub stands : RecordsStand slot.numbers slot.holding slot.records slot.state
   pub holds : DataHolds slot.numbers slot.holding unseen disks claims slot.records slot.state
 
+-- a call leaves an op its put and its pin, and gives it no ids to remove
+pub record ClaimStays (claim later : Claim) : Type 0 where
+  pub slot : later.slot ≡ claim.slot
+  pub flight : later.flight ≡ claim.flight
+  pub pin : later.pin ≡ claim.pin
+  pub taken : (id : VersionId) → Contains later.taken id → Contains claim.taken id
+
 -- one call of a data drive in use, and none of another, which the op may make (`MayCall`). Where the data of the op's own slot holds, no drive tells that
 -- nothing is being written under a loose name, and whatever other ops hold, the data of each slot goes on to hold
 pub record CallMoves (set : SetPlan) (k : ℕ) (made : MadeCall) (claim later : Claim) (old new : List DriveView) : Type 0 where
@@ -134,7 +161,7 @@ pub record CallMoves (set : SetPlan) (k : ℕ) (made : MadeCall) (claim later : 
   pub may : MayCall claim made.call
   pub long : length new ≡ length old
   pub others : (other : ℕ) → other ≢ k → view_at new other ≡ view_at old other
-  pub slot : later.slot ≡ claim.slot
+  pub claims : ClaimStays claim later
   pub written : (unseen : Disks) (front rest : List Claim) (own : SlotKept) → SaysUnwritten made → own.numbers.index ≡ claim.slot
       → KeepsData set unseen old (among front claim rest) own → ⊥
   pub holds : (unseen : Disks) (front rest : List Claim) (own slot : SlotKept) → own.numbers.index ≡ claim.slot

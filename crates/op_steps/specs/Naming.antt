@@ -3,10 +3,10 @@ use Rattle.std.specs.Prelude.{◌≡◌, ℕ, List, map, Option, Result, Ok, Err
 use Rattle.drive_base.specs.View.{DriveView}
 use Rattle.drive_base.specs.declared.drive.Drive.{Ghosts}
 use Rattle.slot_core.specs.Hands.{HandsStay}
-use Rattle.slot_core.specs.Listing.{ListsNames, SaysNothing, ShowsNames}
+use Rattle.slot_core.specs.NameList.{ListsNames, SaysNothing, ShowsNames}
 use Rattle.slot_core.specs.Stubs.{Says}
-use Rattle.slot_core.specs.Turning.{Leaves, TurnsUnspent}
-use Rattle.slot_core.specs.declared.fault.SlotFault.{SlotFault}
+use Rattle.slot_core.specs.Turns.{Leaves, TurnsUnspent}
+use Rattle.slot_core.specs.declared.slot.SlotFault.{SlotFault}
 use Rattle.slot_core.specs.declared.stub.Stub.{Stub}
 use Rattle.receipts.specs.Events.{Shown}
 use Rattle.receipts.specs.Events.Shown.{NamesShown, NoneShown}

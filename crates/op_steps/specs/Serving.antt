@@ -21,9 +21,9 @@ use Rattle.slot_history.specs.Standing.{Records}
 use Rattle.slot_history.specs.State.{State}
 use Rattle.slot_data.specs.Disks.{Disks, IsPartName}
 use Rattle.slot_rules.specs.Rules.{IsRegisterName}
-use Rattle.slot_core.specs.Calming.{IsCalmUnder, OnlyLooked}
+use Rattle.slot_core.specs.Calm.{IsCalmUnder, OnlyLooked}
 use Rattle.slot_core.specs.Views.{quorum_of}
-use Rattle.slot_core.specs.declared.fault.SlotFault.TheVariants.{Quorum}
+use Rattle.slot_core.specs.declared.slot.SlotFault.TheVariants.{Quorum}
 use Rattle.receipts.specs.Events.{Note}
 use Rattle.op_steps.specs.Claims.{Claim, DataHolds}
 use Rattle.op_steps.specs.Notes.{refusal_by}

@@ -53,6 +53,10 @@ module _ {D : Type 0} (ghosts : Ghosts D) where
 abbrev pub LetsGo : Claim → Log → Type 0
 LetsGo claim log = (claim ≡ no_claim claim.slot) ⊎ ((claim.taken ≡ []) × ((why : Barred) × Contains log (BarredFrom claim.slot why)))
 
+-- an op that has ended may have this log, and then it holds nothing but where a section could not be done
+abbrev pub HasEnded : (Claim → Log → Type 0) → Log → Type 0
+HasEnded Stands log = (claim : Claim) × Stands claim log × LetsGo claim log
+
 -- a section that could not be done is told with its reason
 abbrev pub BarredSo : (Claim → Log → Type 0) → (Claim → Log → Type 0) → OpNext → Barred → Type 0
 BarredSo Old New next why = (claim : Claim) (log : Log) (k : ℕ) → next ≡ Section k → Old claim log → New claim (log ++ BarredFrom k why ∷ [])

@@ -7,10 +7,9 @@
 //! nothing of one another.
 //!
 //! [`run_op`] does the steps of any op, over data drives and whoever gives the sections of 64 slots ([`Turns`]), and [`call_op`] serves a call by it. [`turn`]
-//! is a section of a store that an op has for itself, and `Ran` a log of steps on one. The laws say of any log of steps that the
-//! histories of the slots run by its entries, that each data drive was called as the log says, that each step keeps the data of every slot, and that where
-//! enough lanes and data drives serve no section and no read is refused for want of them. The crate stands on `receipts` for what is owed, on `slot_core`,
-//! `slot_history` and `slot_data` for slots and their data, on `put_stage` for the names of an id's files, and on `desk_base` for calls and tellers.
+//! is a section of a store that an op has for itself, and `Ran` a log of steps on one. The laws give an op the steps that leave whatever it claims. What any log
+//! leaves of a store is said in `log_laws`. The crate stands on `receipts` for what is owed, on `slot_core`, `slot_history` and `slot_data` for slots and their
+//! data, on `put_stage` for the names of an id's files, and on `desk_base` for calls and tellers.
 #![tactic(auto)]
 
 mod laws;
@@ -22,11 +21,7 @@ mod run;
 mod turning;
 mod turns;
 
-pub use laws::{
-    call_law, calls_law, calm_law, cause_law, claim_laws, commit_law, data_law, get_law,
-    history_law, lanes_law, live_law, look_law, names_law, own_files_law, read_law, request_law,
-    requests_law, showing_laws, trouble_law,
-};
+pub use laws::{commit_law, look_law, names_law, own_files_law, read_law};
 pub use looking::{Look, Looked, look_at_bucket};
 pub use next::OpNext;
 pub use op::Op;

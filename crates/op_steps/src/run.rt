@@ -6,7 +6,7 @@ ghost use Rattle.drive_base.specs.View.{views};
 ghost use Rattle.receipts.specs.Events.{Log};
 ghost use Rattle.receipts.specs.Paying.{Pays};
 ghost use Rattle.op_steps.specs.Claims.{Claim, no_claim};
-ghost use Rattle.op_steps.specs.Going.{IsFeedAt, OpLed, PaysFor, RanSoOver};
+ghost use Rattle.op_steps.specs.Going.{IsFeedAt, OneStep, OpLed, PaysFor, RanSoOver};
 ghost use Rattle.op_steps.specs.Steps.{RanOver};
 ghost use Rattle.op_steps.specs.Store.{store_of, teller_of};
 ghost use Rattle.op_steps.specs.Words.{LetsGo};
@@ -21,7 +21,7 @@ use drive_base::Drive;
 use slot_core::Stub;
 use std::alloc::Global;
 
-/// Does the step of an op that comes next.
+/// Does the step of an op that comes next, and no other.
 pub fn step_op<O: Op, D: Drive, P: Turns<D>, F: Feed, T: Teller>(
     turns: &P,
     alloc: Global,
@@ -43,7 +43,7 @@ pub fn step_op<O: Op, D: Drive, P: Turns<D>, F: Feed, T: Teller>(
     ensures holds { P.holds slots.new ≡ P.holds slots.old }
     ensures disks { length disks.new ≡ length disks.old }
     ensures feed { IsFeedAt (O.stated (O.asked op.old)) (O.taken op.new) (F.seen feed.new) }
-    ensures steps { RanSoOver (RanOver (P.gives (O.set op.old) T) (P.bars T) T.takes T.breaks (O.set op.old)) (O.stands op.old) (O.stands op.new)
+    ensures steps { RanSoOver (OneStep (O.step op.old) (RanOver (P.gives (O.set op.old) T) (P.bars T) T.takes T.breaks (O.set op.old))) (O.stands op.old) (O.stands op.new)
         (λ claim. store_of (P.seen slots.old) (views D.Drive disks.old) claim
         (record { view = F.seen feed.old; faults = F.faults feed.old }) (teller_of teller.old (T.faults teller.old)))
         (λ claim. store_of (P.seen slots.new) (views D.Drive disks.new) claim
@@ -76,6 +76,9 @@ pub fn run_op<O: Op, D: Drive, P: Turns<D>, F: Feed, T: Teller>(
     requires fits { P.fits turns.now (O.set op.old) slots.old }
     requires disks { length disks.old ≡ (O.set op.old).drives }
     requires feed { IsFeedAt (O.stated (O.asked op.old)) (O.taken op.old) (F.seen feed.old) }
+    ensures set { O.set op.new ≡ O.set op.old }
+    ensures asked { O.asked op.new ≡ O.asked op.old }
+    ensures done { O.step op.new ≡ Done }
     ensures owed { (claim : Claim) (log : Log) → O.stands op.new claim log → O.owed (O.set op.old) (O.asked op.old) (O.cut_at op.new) log }
     ensures ends { (claim : Claim) (log : Log) → O.stands op.new claim log → LetsGo claim log }
     ensures fits { P.fits turns.now (O.set op.old) slots.new }

@@ -2,7 +2,7 @@
 
 ghost use Rattle.std.specs.Prelude.{◌≡◌, ◌+◌, ◌<◌, ◌≤◌, ◌++◌, ◌^◌, length, option_to_list, slice_index_or, vec_capacity, vec_len};
 ghost use Rattle.drive_base.specs.View.{views};
-ghost use Rattle.op_steps.specs.Going.{RanSo};
+ghost use Rattle.op_steps.specs.Going.{StepsSo};
 ghost use Rattle.op_steps.specs.Store.{AreInOrder, FeedSeen, slots_seen, store_of, TellerSeen};
 ghost use Rattle.slot_core.specs.Views.{numbers_of};
 ghost use Rattle.slot_core.specs.declared.slot.Slot.{Slot};
@@ -68,7 +68,7 @@ pub fn turn<O: Op, D: Drive, A: Audit, T: Teller>(
     ensures left { O.left op.new < O.left op.old }
     ensures taken { O.taken op.new ≡ O.taken op.old }
     ensures order { AreInOrder (O.set op.old) (slots_seen A.entries A.count slots.new) (views D.Drive disks.new) }
-    ensures steps { (feed : FeedSeen) (teller : TellerSeen T) → RanSo D.Drive T.takes T.breaks (O.stands op.old) (O.stands op.new) (O.set op.old)
+    ensures steps { (feed : FeedSeen) (teller : TellerSeen T) → StepsSo D.Drive T.takes T.breaks (O.step op.old) (O.stands op.old) (O.stands op.new) (O.set op.old)
         (λ claim. store_of (slots_seen A.entries A.count slots.old) (views D.Drive disks.old) claim feed teller)
         (λ claim. store_of (slots_seen A.entries A.count slots.new) (views D.Drive disks.new) claim feed teller) stubs.old.items stubs.new.items }
 {

@@ -5,7 +5,7 @@ ghost use Rattle.drive_base.specs.View.{views};
 ghost use Rattle.drive_base.specs.declared.plan.SetPlan.{SetPlan};
 ghost use Rattle.receipts.specs.Events.{Note, Shown};
 ghost use Rattle.receipts.specs.declared.barred.Barred.{Barred};
-ghost use Rattle.op_steps.specs.Going.{RanSoOver};
+ghost use Rattle.op_steps.specs.Going.{OneStep, RanSoOver};
 ghost use Rattle.op_steps.specs.Steps.{RanOver};
 ghost use Rattle.op_steps.specs.Store.{FeedSeen, StoreOver, TellerSeen, store_of};
 
@@ -65,7 +65,7 @@ pub trait Turns<D: Drive> {
         ensures holds { holds slots.new ≡ holds slots.old }
         ensures disks { length disks.new ≡ length disks.old }
         ensures steps { (feed : FeedSeen) (teller : TellerSeen T)
-            → RanSoOver (RanOver (gives (O.set op.old) T) (bars T) T.takes T.breaks (O.set op.old)) (O.stands op.old) (O.stands op.new)
+            → RanSoOver (OneStep (O.step op.old) (RanOver (gives (O.set op.old) T) (bars T) T.takes T.breaks (O.set op.old))) (O.stands op.old) (O.stands op.new)
             (λ claim. store_of (seen slots.old) (views D.Drive disks.old) claim feed teller)
             (λ claim. store_of (seen slots.new) (views D.Drive disks.new) claim feed teller) stubs.old.items stubs.new.items };
 

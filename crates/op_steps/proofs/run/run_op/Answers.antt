@@ -4,7 +4,7 @@ use Rattle.op_steps.specs.Going.{IsFeedAt, RanSoOver}
 use Rattle.op_steps.specs.Steps.{RanOver}
 use Rattle.op_steps.specs.Store.{store_of, teller_of}
 use Rattle.op_steps.specs.declared.next.OpNext.TheVariants.{Done}
-use Rattle.op_steps.proofs.RunLemmas.{so_more, so_none}
+use Rattle.op_steps.proofs.RunLemmas.{any_step, so_more, so_none}
 use Rattle.op_steps.proofs.run.run_op.Goals as goal
 
 pub loop-alloc-init : goal.loop-alloc-init
@@ -55,7 +55,10 @@ loop-alloc-preserved g c =
           (λ claim. store_of (g.P.Turns.seen c.step_op.new.slots) (views g.D.Drive c.step_op.new.disks) claim
           (record { view = g.F.Feed.seen c.step_op.new.feed; faults = g.F.Feed.faults c.step_op.new.feed })
           (teller_of c.step_op.new.teller (g.T.Teller.faults c.step_op.new.teller)))
-          c.loop-alloc.stubs.items c.step_op.new.stubs.items) kept.set step.steps);
+          c.loop-alloc.stubs.items c.step_op.new.stubs.items) kept.set
+          (any_step (g.P.Turns.gives (g.O.Op.set c.loop-alloc.op) _) (g.P.Turns.bars _) g.T.Teller.takes g.T.Teller.breaks (g.O.Op.set c.loop-alloc.op)
+          (g.O.Op.step c.loop-alloc.op) (g.O.Op.stands c.loop-alloc.op) (g.O.Op.stands c.step_op.new.op) _ _
+          c.loop-alloc.stubs.items c.step_op.new.stubs.items step.steps));
     }
 
 pub returns-clause-owed : goal.returns-clause-owed

@@ -35,7 +35,7 @@ returns-then-is_err-clause-steps g c =
 
 pub returns-clause-steps : goal.returns-clause-steps
 returns-clause-steps g c = turn_steps g.D.Drive g.T.Teller.takes g.T.Teller.breaks (g.O.Op.stands c.args.op.now) (g.O.Op.stands c.section_at-stub.new.op)
-    (g.O.Op.set c.args.op.now) c.args.index c.section_at-stub.result (slots_seen g.A.Audit.entries g.A.Audit.count c.args.slots.now)
+    (g.O.Op.set c.args.op.now) (g.O.Op.step c.args.op.now) c.args.index c.section_at-stub.result (slots_seen g.A.Audit.entries g.A.Audit.count c.args.slots.now)
     (slots_seen g.A.Audit.entries g.A.Audit.count c.section_at-stub.new.slots) (views g.D.Drive c.args.disks.now)
-    (views g.D.Drive c.section_at-stub.new.disks) c.args.stubs.now.items c.keep.new.stubs.items c.section_at-stub.ensures.sections
+    (views g.D.Drive c.section_at-stub.new.disks) c.args.stubs.now.items c.keep.new.stubs.items c.requires.next c.section_at-stub.ensures.sections
     (c.keep.ensures ∙ ap (λ items. items ++ option_to_list c.section_at-stub.result) c.reserve.ensures.items)

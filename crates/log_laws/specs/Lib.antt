@@ -1,0 +1,13 @@
+pub mod Calling
+pub mod CalmRegisters
+pub mod Coming
+pub mod Getting
+pub mod HealthyLanes
+pub mod Keeping
+pub mod Laws
+pub mod LiveFiles
+pub mod Reads
+pub mod Refusing
+pub mod Requests
+pub mod Showing
+pub mod StoreTroubles

@@ -1,8 +1,0 @@
-use Rattle.op_steps.proofs.HoldingLemmas.{claims_come, claims_go}
-use Rattle.op_steps.proofs.laws.claim_laws.Goals as goal
-
-pub returns-clause-come : goal.returns-clause-come
-returns-clause-come g c = claims_come g.D.Drive.tells g.D.Drive.files
-
-pub returns-clause-go : goal.returns-clause-go
-returns-clause-go g c = claims_go g.D.Drive.tells g.D.Drive.files

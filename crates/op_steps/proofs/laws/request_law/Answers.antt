@@ -1,6 +1,0 @@
-use Rattle.op_steps.proofs.CompleteLemmas.{request_complete}
-use Rattle.op_steps.proofs.laws.request_law.Goals as goal
-
-pub returns : goal.returns
-returns g c = request_complete g.D.Drive g.T.Teller.takes g.T.Teller.breaks
-    c.manifest_laws.ensures.lengths

@@ -1,5 +1,0 @@
-use Rattle.op_steps.proofs.CompleteLemmas.{calls_complete}
-use Rattle.op_steps.proofs.laws.requests_law.Goals as goal
-
-pub returns : goal.returns
-returns g c set = calls_complete g.D.Drive c.manifest_laws.ensures.lengths set
