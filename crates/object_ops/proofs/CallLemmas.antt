@@ -16,11 +16,10 @@ use Rattle.drive_base.specs.declared.fault.DriveFault.{DriveFault}
 use Rattle.drive_base.specs.declared.fault.DriveFault.TheVariants.{Absent, Failed, NoMemory}
 use Rattle.drive_base.proofs.ViewLemmas.{length-views, view_at-views}
 use Rattle.op_steps.specs.Moves.{SaysUnwritten}
-use Rattle.object_ops.specs.Clearing.{RemovesOne}
+use Rattle.object_ops.specs.Clearing.{RemovesOne, FileOn, RemoveCall, drives_below, files_of, of_drives}
 use Rattle.object_ops.specs.DataNames.{name_by}
-use Rattle.object_ops.specs.Removing.{FileOn, RemoveCall, drives_below, files_of, of_drives}
-use Rattle.object_ops.specs.declared.removal.DataFile.{DataFile}
-use Rattle.object_ops.specs.declared.removal.Removal.{Removal}
+use Rattle.object_ops.specs.declared.data_files.DataFile.{DataFile}
+use Rattle.object_ops.specs.declared.data_files.Removal.{Removal}
 
 -- it tells that nothing was being written under a loose name
 abbrev pub IsUnwritten : Seen → Type 0

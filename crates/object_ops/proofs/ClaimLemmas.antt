@@ -15,8 +15,8 @@ use Rattle.slot_data.specs.Moves.{with_taken as hands_with}
 use Rattle.slot_data.specs.Standing.{DataStands}
 use Rattle.slot_data.proofs.HandsLemmas.{hands_are_freed}
 use Rattle.op_steps.specs.Claims.{AllApart, Claim, among, claims_at, hands_of}
-use Rattle.op_steps.proofs.DataLemmas.{claims_elsewhere}
-use Rattle.op_steps.proofs.LiveFileLemmas.{own_in_hand}
+use Rattle.op_steps.proofs.ClaimLemmas.{claims_elsewhere}
+use Rattle.op_steps.proofs.ClaimLemmas.{own_in_hand}
 use Rattle.object_ops.specs.Clearing.{with_taken}
 
 -- what is in a list with an item in its midst is that item, or is there with another item in its place

@@ -18,11 +18,11 @@ use Rattle.desk_base.specs.Telling.Telling.{Head as TheHead}
 use Rattle.drive_base.specs.declared.plan.SetPlan.{SetPlan}
 use Rattle.slot_rules.specs.declared.commit.Committed.{Committed}
 use Rattle.slot_core.specs.CommitCauses.{deed_in}
-use Rattle.slot_core.specs.Committing.{SaysCommit}
+use Rattle.slot_core.specs.Commits.{SaysCommit}
 use Rattle.slot_core.specs.Stubs.{Says, StubOfEntry, entry_of}
 use Rattle.slot_core.specs.Views.{SlotNumbers}
-use Rattle.slot_core.specs.declared.fault.SlotFault.{SlotFault}
-use Rattle.slot_core.specs.declared.fault.SlotFault.TheVariants.{Key as KeyFault}
+use Rattle.slot_core.specs.declared.slot.SlotFault.{SlotFault}
+use Rattle.slot_core.specs.declared.slot.SlotFault.TheVariants.{Key as KeyFault}
 use Rattle.slot_core.specs.declared.stub.Stub.{Stub}
 use Rattle.receipts.specs.Deleting.{DeedOwes}
 use Rattle.receipts.specs.Events.{IsQuiet, Log, Note, Shown, body_of}
@@ -46,10 +46,10 @@ use Rattle.op_steps.proofs.TellLemmas.{cuts_after, told_pays}
 use Rattle.object_ops.specs.Deeds.{AfterCommit, AfterLook, HasDone, barred_state, call_of, deed_task, key_deed}
 use Rattle.object_ops.specs.KeyDeeds.{IsServed}
 use Rattle.object_ops.specs.Reading.{HasFound, IsFresh}
-use Rattle.object_ops.specs.declared.deed_state.DeedState.{DeedState}
-use Rattle.object_ops.specs.declared.deed_state.DeedState.TheVariants.{Committing, Looking, Telling, Told}
+use Rattle.object_ops.specs.declared.deed_op.DeedState.{DeedState}
+use Rattle.object_ops.specs.declared.deed_op.DeedState.TheVariants.{Committing, Looking, Telling, Told}
 use Rattle.object_ops.proofs.DueLemmas.{DoneSo}
-use Rattle.object_ops.proofs.KeyCommitLemmas.{RefusedSo, changes_so, ends_so, refused_commit}
+use Rattle.object_ops.proofs.KeyCommitLemmas.{RefusedSo, changes_so, ends_so, looked_of, refused_commit}
 use Rattle.object_ops.proofs.ReadingBars.{bar_fresh, key_bars}
 use Rattle.object_ops.proofs.ReadingLook.{AfterLook as LogAfterLook, bars, looks}
 use Rattle.object_ops.proofs.ReadingTell.{fresh_pays, one_all, quiet_fresh}
@@ -142,7 +142,7 @@ module _ (set : SetPlan) (at : Key) (act : Act) (now : ℕ) (served : IsServed a
   done_commit mode numbers made stub log own found x says done =
       subst (λ (s : Option Stub). HasDone set at act task (Telling made.done) (log ++ Turned numbers.index (noted s) NoneShown ∷ [])) (sym x.1)
       (ready_so mode made.done log numbers.index (Some (note_of x.0)) found
-      (inr (inl (ends_so at mode now (λ done. done ≡ act) made.done log numbers.index x.0 found
+      (inr (inl (ends_so at mode now (λ done. done ≡ act) made.done log numbers.index x.0 (looked_of at.bucket mode log found)
       (inl (changes_so at mode act now numbers own made.done (Ok made) None stub x says done))))))
 
   -- it was refused
@@ -160,7 +160,7 @@ module _ (set : SetPlan) (at : Key) (act : Act) (now : ℕ) (served : IsServed a
       subst (λ (t : DeedState). HasDone set at act task t (log ++ Turned numbers.index (noted stub) NoneShown ∷ [])) (sym told)
       (subst (λ (s : Option Stub). HasDone set at act task (Telling (Refused why)) (log ++ Turned numbers.index (noted s) NoneShown ∷ [])) (sym some)
       (ready_so mode (Refused why) log numbers.index (Some (note_of made)) found
-      (inr (inl (ends_so at mode now (λ done. done ≡ act) (Refused why) log numbers.index made found ends)))))
+      (inr (inl (ends_so at mode now (λ done. done ≡ act) (Refused why) log numbers.index made (looked_of at.bucket mode log found) ends)))))
 
   -- either
   abbrev pub CommitDue : Mode → SlotNumbers → Result Committed SlotFault → Option Stub → Type 0

@@ -1,5 +1,6 @@
 -- The steps of a deed, as an op does them.
-use Rattle.std.proofs.Common.{◌≡◌, ◌<◌, ◌∙◌, ℕ, List, [], ◌∷◌, ◌++◌, Option, None, Result, Ok, Err, IfOk, inl, refl, sym, ap, subst}
+use Rattle.std.proofs.Common.{◌≡◌, ◌<◌, ◌∙◌, ◌==◌, ℕ, Bool, true, false, List, [], ◌∷◌, ◌++◌, Option, None, Result, Ok, Err, IfOk, length, inl, refl, sym, ap, subst}
+use Rattle.std.specs.Prelude.{if◌then◌else◌}
 use Rattle.call_types.specs.declared.act.Act.{Act}
 use Rattle.call_types.specs.declared.feed.Cut.{Cut}
 use Rattle.call_types.specs.declared.names.Key.{Key}
@@ -16,7 +17,7 @@ use Rattle.slot_rules.specs.declared.commit.Commit.{Commit}
 use Rattle.slot_rules.specs.declared.commit.Committed.{Committed}
 use Rattle.slot_core.specs.CommitCauses.{CommitCause, deed_in}
 use Rattle.slot_core.specs.Stubs.{entry_of}
-use Rattle.slot_core.specs.declared.fault.SlotFault.{SlotFault}
+use Rattle.slot_core.specs.declared.slot.SlotFault.{SlotFault}
 use Rattle.slot_core.specs.declared.stub.Stub.{Stub}
 use Rattle.receipts.specs.Events.{Log}
 use Rattle.receipts.specs.Events.Event.{BarredFrom, Called, Turned}
@@ -34,16 +35,15 @@ use Rattle.op_steps.specs.Words.{BarredSo, CallsSo, IsSection, TellsSo, TurnsSo}
 use Rattle.op_steps.specs.declared.next.OpNext.TheVariants as next
 use Rattle.op_steps.specs.declared.looking.Look.{Look}
 use Rattle.op_steps.proofs.CommitLemmas.{commit_is_turn}
-use Rattle.object_ops.specs.Clearing.{RemovesOne, TakesTrash, files_left, with_taken}
+use Rattle.object_ops.specs.Clearing.{RemovesOne, TakesTrash, files_left, next_of, with_taken, AreDue, files_of, ids_of}
 use Rattle.object_ops.specs.Deeds.{AfterCommit, AfterLook, DeedStands, HasDone, IsNewDeed, StandsAt, barred_state, deed_task, key_deed, step_at}
 use Rattle.object_ops.specs.KeyDeeds.{IsServed}
-use Rattle.object_ops.specs.Removing.{AreDue, files_of, ids_of}
 use Rattle.object_ops.specs.declared.clearing.Clearing.{Clearing}
 use Rattle.object_ops.specs.declared.deed_op.DeedOp.{DeedOp}
-use Rattle.object_ops.specs.declared.deed_state.DeedState.{DeedState}
-use Rattle.object_ops.specs.declared.deed_state.DeedState.TheVariants.{Committing, Looking, Telling, Told}
-use Rattle.object_ops.specs.declared.key_deed.KeyDeed.{KeyDeed}
-use Rattle.object_ops.specs.declared.removal.Removal.{Removal}
+use Rattle.object_ops.specs.declared.deed_op.DeedState.{DeedState}
+use Rattle.object_ops.specs.declared.deed_op.DeedState.TheVariants.{Committing, Looking, Telling, Told}
+use Rattle.object_ops.specs.declared.deed_op.KeyDeed.{KeyDeed}
+use Rattle.object_ops.specs.declared.data_files.Removal.{Removal}
 use Rattle.object_ops.proofs.DeedLemmas.{CommitDue, commit_barred, commit_done, look_barred, look_done, tell_done}
 use Rattle.object_ops.proofs.DueLemmas.{done_so, refused_so}
 use Rattle.object_ops.proofs.LeftLemmas.{is_data}
@@ -184,6 +184,31 @@ module _ (set : SetPlan) (at : Key) (act : Act) (now : ℕ) (served : IsServed a
     },
     moves,
   )
+
+-- the slot of the section that comes next
+pub at_bucket : (at : Key) (clearing : Clearing) (state : DeedState) (k : ℕ) → state ≡ Looking → step_at at clearing state ≡ next.Section k → k ≡ bucket_slot at.bucket
+at_bucket at clearing state k is step = sym (ap slot_in (subst (λ s. step_at at clearing s ≡ next.Section k) is step))
+
+pub at_key : (at : Key) (clearing : Clearing) (state : DeedState) (deed : KeyDeed) (k : ℕ) → state ≡ Committing deed → step_at at clearing state ≡ next.Section k
+    → k ≡ key_slot at
+at_key at clearing state deed k is step = sym (ap slot_in (subst (λ s. step_at at clearing s ≡ next.Section k) is step))
+
+-- trash is taken where a section comes next once the reply was told
+pub at_trash : (slot k : ℕ) (clearing : Clearing) → next_of slot clearing ≡ next.Section k → (clearing.takes ≡ true) × (k ≡ slot)
+at_trash slot k clearing step = by clearing.takes step
+  where
+    by_length : (b : Bool) → (if b then next.Done else next.Data) ≡ next.Section k → ⊥
+    by_length true wrong = subst IsSection (sym wrong) tt
+    by_length false wrong = subst IsSection (sym wrong) tt
+
+    by : (b : Bool) → (if b then next.Section slot else (if length (files_left clearing) == 0 then next.Done else next.Data)) ≡ next.Section k
+        → (b ≡ true) × (k ≡ slot)
+    by true is = (refl, sym (ap slot_in is))
+    by false is = absurd (by_length (length (files_left clearing) == 0) is)
+
+pub told_trash : (at : Key) (clearing : Clearing) (state : DeedState) (cut : Option Cut) (k : ℕ) → state ≡ Told cut → step_at at clearing state ≡ next.Section k
+    → (clearing.takes ≡ true) × (k ≡ key_slot at)
+told_trash at clearing state cut k is step = at_trash (key_slot at) k clearing (subst (λ s. step_at at clearing s ≡ next.Section k) is step)
 
 -- an op that has done nothing yet stands for the empty log
 pub begins : (set : SetPlan) (at : Key) (act : Act) (now : ℕ) (result : Result DeedOp NoMemory) → IfOk result (IsNewDeed set at act now)

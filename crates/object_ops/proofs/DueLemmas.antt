@@ -24,7 +24,7 @@ use Rattle.slot_rules.specs.declared.commit.Commit.TheVariants.{Key as KeyCommit
 use Rattle.slot_rules.specs.declared.commit.Committed.{Committed}
 use Rattle.slot_core.specs.CommitCauses.{CommitCause, FoundSo, WroteSo}
 use Rattle.slot_core.specs.Views.{SlotNumbers}
-use Rattle.slot_core.specs.declared.fault.SlotFault.TheVariants.{Key as KeyFault}
+use Rattle.slot_core.specs.declared.slot.SlotFault.TheVariants.{Key as KeyFault}
 use Rattle.receipts.specs.Dues.{IsDueChange}
 
 -- one content under every name

@@ -1,5 +1,5 @@
 -- How a call ends that commits an act to a key, by what the section says: without a put.
-use Rattle.std.proofs.Common.{◌≡◌, ◌⊎◌, ◌∙◌, ℕ, [], ◌∷◌, ◌++◌, Option, Some, None, Result, Err, MatchOption, option_and_then, inl, inr, refl, sym, ap, subst}
+use Rattle.std.proofs.Common.{◌≡◌, ◌⊎◌, ◌∙◌, ℕ, List, [], ◌∷◌, ◌++◌, Option, Some, None, Result, Err, MatchOption, option_and_then, inl, inr, refl, sym, ap, subst}
 use Rattle.audit_trail.specs.declared.entry.Deed.{Deed}
 use Rattle.audit_trail.specs.declared.entry.Deed.TheVariants.{Done, Kept, Refused as RefusedDeed}
 use Rattle.audit_trail.specs.declared.entry.Entry.{Entry}
@@ -19,11 +19,11 @@ use Rattle.slot_rules.specs.declared.commit.Commit.TheVariants.{Key as KeyCommit
 use Rattle.slot_rules.specs.declared.commit.Commit.{Commit}
 use Rattle.slot_rules.specs.declared.commit.Committed.{Committed}
 use Rattle.slot_core.specs.CommitCauses.{deed_in}
-use Rattle.slot_core.specs.Committing.{QuorumDeed, SaysCommit}
+use Rattle.slot_core.specs.Commits.{QuorumDeed, SaysCommit}
 use Rattle.slot_core.specs.Stubs.{Says, StubOfEntry, Writes, WritesNone, entry_of}
 use Rattle.slot_core.specs.Views.{SlotNumbers}
-use Rattle.slot_core.specs.declared.fault.SlotFault.{SlotFault}
-use Rattle.slot_core.specs.declared.fault.SlotFault.TheVariants.{AuditFailed, Key as KeyFault, NoMemory, NotInFlight, Quorum, SeqSpent}
+use Rattle.slot_core.specs.declared.slot.SlotFault.{SlotFault}
+use Rattle.slot_core.specs.declared.slot.SlotFault.TheVariants.{AuditFailed, Key as KeyFault, NoMemory, NotInFlight, Quorum, SeqSpent}
 use Rattle.slot_core.specs.declared.stub.Stub.{Stub}
 use Rattle.receipts.specs.Committing.{BeginsChange, KeyIsCommitted, MakesChange, RefusesChange, Target, act_target}
 use Rattle.receipts.specs.Dues.{IsDueChange}
@@ -34,6 +34,7 @@ use Rattle.receipts.specs.Looks.{HasEntry, IsIdle, IsOfSection}
 use Rattle.receipts.specs.Registers.{key_register, key_slot}
 use Rattle.receipts.proofs.JoinLemmas.{sections_join}
 use Rattle.op_steps.specs.Notes.{note_of, refusal_by}
+use Rattle.object_ops.specs.PutStands.{HasLookedAt}
 use Rattle.object_ops.specs.Reading.{HasFound}
 use Rattle.object_ops.proofs.DueLemmas.{DoneSo}
 
@@ -41,17 +42,28 @@ use Rattle.object_ops.proofs.DueLemmas.{DoneSo}
 abbrev pub EndsSo : Key → Mode → ℕ → (Act → Type 0) → Note → Reply → Type 0
 EndsSo at mode now IsAct note reply = MakesChange (act_target at mode now IsAct) note reply ⊎ RefusesChange (act_target at mode now IsAct) note reply
 
--- behind the look at the bucket it is how the call ends
-pub ends_so : (at : Key) (mode : Mode) (now : ℕ) (IsAct : Act → Type 0) (reply : Reply) (log : Log) (k : ℕ) (made : Stub) → HasFound at.bucket mode log
-    → EndsSo at mode now IsAct (note_of made) reply → KeyIsCommitted at now IsAct reply (log ++ Turned k (Some (note_of made)) NoneShown ∷ [])
-ends_so at mode now IsAct reply log k made found ends = record {
+-- what has found the bucket has looked at it
+pub looked_of : (bucket : List ℕ) (mode : Mode) (log : Log) → HasFound bucket mode log → HasLookedAt bucket mode log
+looked_of bucket mode log found = record {
+  untold = found.fresh.untold;
+  uncut = found.fresh.uncut;
+  idle = found.fresh.idle;
   look = found.look;
+  sections = found.sections;
+  finds = found.finds;
+}
+
+-- behind the look at the bucket it is how the call ends
+pub ends_so : (at : Key) (mode : Mode) (now : ℕ) (IsAct : Act → Type 0) (reply : Reply) (log : Log) (k : ℕ) (made : Stub) → HasLookedAt at.bucket mode log
+    → EndsSo at mode now IsAct (note_of made) reply → KeyIsCommitted at now IsAct reply (log ++ Turned k (Some (note_of made)) NoneShown ∷ [])
+ends_so at mode now IsAct reply log k made looked ends = record {
+  look = looked.look;
   mode = mode;
-  bucket = found.finds;
+  bucket = looked.finds;
   commit = record {
     own = record { note = note_of made; shown = NoneShown };
     sections = sections_join log (Turned k (Some (note_of made)) NoneShown ∷ [])
-        ∙ ap (λ l. l ++ record { note = note_of made; shown = NoneShown } ∷ []) found.sections;
+        ∙ ap (λ l. l ++ record { note = note_of made; shown = NoneShown } ∷ []) looked.sections;
     ends = ends;
   };
 }

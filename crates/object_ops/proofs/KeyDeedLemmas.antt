@@ -6,9 +6,9 @@ use Rattle.version_list.specs.State.{IsKind}
 use Rattle.slot_rules.specs.Deeds.{IsLawfulDeed, IsNamedDeed}
 use Rattle.slot_rules.specs.declared.commit.Commit.TheVariants.{Key, MakeBucket, SetMode}
 use Rattle.slot_rules.specs.declared.commit.Commit.{Commit}
-use Rattle.slot_core.specs.Committing.{FitsFlight}
+use Rattle.slot_core.specs.Commits.{FitsFlight}
 use Rattle.object_ops.specs.KeyDeeds.{bucket_in, deed_needs_none, key_in, kind_in}
-use Rattle.object_ops.specs.declared.key_deed.KeyDeed.{KeyDeed}
+use Rattle.object_ops.specs.declared.deed_op.KeyDeed.{KeyDeed}
 
 pub by_act : (deed : Commit) → deed_needs_none deed ≡ true → IsKind (kind_in deed) → IsUtf8 (bucket_in deed) → IsUtf8 (key_in deed)
     → IsLawfulDeed deed × IsNamedDeed deed × FitsFlight deed None

@@ -9,7 +9,7 @@ use Rattle.call_types.specs.declared.feed.Cut.TheVariants.{NoMemory}
 use Rattle.drive_base.specs.View.{DriveView}
 use Rattle.drive_base.specs.declared.plan.SetPlan.{SetPlan}
 use Rattle.slot_rules.specs.declared.commit.Committed.{Committed}
-use Rattle.slot_core.specs.declared.fault.SlotFault.{SlotFault}
+use Rattle.slot_core.specs.declared.slot.SlotFault.{SlotFault}
 use Rattle.receipts.specs.declared.barred.Barred.{Barred}
 use Rattle.receipts.specs.declared.barred.Barred.TheVariants as barred
 use Rattle.op_steps.specs.Notes.{refusal_by}
@@ -17,14 +17,13 @@ use Rattle.op_steps.specs.Words.{IsSection}
 use Rattle.op_steps.specs.declared.next.OpNext.{OpNext}
 use Rattle.op_steps.specs.declared.next.OpNext.TheVariants as next
 use Rattle.op_steps.specs.declared.looking.Looked.{Looked}
-use Rattle.object_ops.specs.Clearing.{RemovesOne, files_left, left_of}
+use Rattle.object_ops.specs.Clearing.{RemovesOne, files_left, left_of, AreDue, FileOn, files_of}
 use Rattle.object_ops.specs.Deeds.{AfterCommit, AfterLook, barred_state, left_at, step_at}
-use Rattle.object_ops.specs.Removing.{AreDue, FileOn, files_of}
 use Rattle.object_ops.specs.declared.clearing.Clearing.{Clearing}
-use Rattle.object_ops.specs.declared.deed_state.DeedState.{DeedState}
-use Rattle.object_ops.specs.declared.deed_state.DeedState.TheVariants.{Committing, Looking, Telling, Told}
-use Rattle.object_ops.specs.declared.key_deed.KeyDeed.{KeyDeed}
-use Rattle.object_ops.specs.declared.removal.Removal.{Removal}
+use Rattle.object_ops.specs.declared.deed_op.DeedState.{DeedState}
+use Rattle.object_ops.specs.declared.deed_op.DeedState.TheVariants.{Committing, Looking, Telling, Told}
+use Rattle.object_ops.specs.declared.deed_op.KeyDeed.{KeyDeed}
+use Rattle.object_ops.specs.declared.data_files.Removal.{Removal}
 
 -- after the look
 pub look_left : (set : SetPlan) (at : Key) (act : Act) (clearing : Clearing) (state later : DeedState) (looked : Looked) → state ≡ Looking

@@ -4,10 +4,6 @@ pub mod DeedLemmas
 pub mod DeedOpLemmas
 pub mod DueLemmas
 pub mod ElsewhereLemmas
-pub mod GetLeft
-pub mod GetLemmas
-pub mod GetTelling
-pub mod HeadLemmas
 pub mod KeyCommitLemmas
 pub mod KeyDeedLemmas
 pub mod LeftLemmas
@@ -40,6 +36,9 @@ pub mod PutSteps
 pub mod PutTargets
 pub mod PutTurns
 pub mod PutWrites
+pub mod ReadLeft
+pub mod ReadLemmas
+pub mod ReadTelling
 pub mod ReadingBars
 pub mod ReadingBlocks
 pub mod ReadingCalls
@@ -58,3 +57,4 @@ pub mod ReadingTurn
 pub mod RemovalLemmas
 pub mod TellingLemmas
 pub mod TrashLemmas
+pub mod TurnForms

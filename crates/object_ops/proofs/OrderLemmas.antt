@@ -15,11 +15,10 @@ use Rattle.slot_data.specs.Holding.{Holding}
 use Rattle.slot_data.specs.Rows.{pin_names}
 use Rattle.slot_data.specs.declared.rows.PinRow.{PinRow}
 use Rattle.slot_core.specs.Sections.{TrashHolds}
-use Rattle.slot_core.specs.declared.fault.SlotFault.{SlotFault}
-use Rattle.object_ops.specs.Clearing.{IsPlannedOf, taken_of}
-use Rattle.object_ops.specs.Removing.{AreDue, FileOn, IsDue, drives_below, ids_of, of_drives, removal_order, removals_of}
-use Rattle.object_ops.specs.declared.removal.DataFile.{DataFile}
-use Rattle.object_ops.specs.declared.removal.DataFile.TheVariants.{Manifest, Shard}
+use Rattle.slot_core.specs.declared.slot.SlotFault.{SlotFault}
+use Rattle.object_ops.specs.Clearing.{IsPlannedOf, taken_of, AreDue, FileOn, IsDue, drives_below, ids_of, of_drives, removal_order, removals_of}
+use Rattle.object_ops.specs.declared.data_files.DataFile.{DataFile}
+use Rattle.object_ops.specs.declared.data_files.DataFile.TheVariants.{Manifest, Shard}
 
 -- ---- lists
 

@@ -5,33 +5,33 @@ use Rattle.call_types.specs.declared.refusal.Refusal.{Refusal}
 use Rattle.call_types.specs.declared.reply.Reply.TheVariants.{Refused}
 use Rattle.drive_base.specs.View.{DriveView, views}
 use Rattle.drive_base.specs.declared.drive.Drive.{Ghosts}
-use Rattle.put_stage.specs.Stepping.{MayFinish}
+use Rattle.put_stage.specs.Steps.{MayFinish}
 use Rattle.put_stage.specs.declared.stage.StageNext.TheVariants.{Finish}
 use Rattle.stamp_id.specs.declared.version.VersionId.{VersionId}
 use Rattle.slot_rules.specs.Deeds.{IsLawfulDeed, IsNamedDeed, name_of}
 use Rattle.slot_rules.specs.declared.commit.Commit.{Commit}
 use Rattle.slot_rules.specs.declared.commit.Committed.{Committed}
 use Rattle.slot_core.specs.CommitCauses.{CommitCause, deed_in}
-use Rattle.slot_core.specs.Committing.{ChecksFlight, CommitHolds, FitsFlight, MayCommitData, SaysCommit, ShowsTrash}
+use Rattle.slot_core.specs.Commits.{ChecksFlight, CommitHolds, FitsFlight, MayCommitData, SaysCommit, ShowsTrash}
 use Rattle.slot_core.specs.Stubs.{Says, entry_of}
-use Rattle.slot_core.specs.Turning.{Leaves, Turns}
-use Rattle.slot_core.specs.declared.fault.SlotFault.{SlotFault}
-use Rattle.slot_core.specs.declared.handles.Flight.{Flight}
+use Rattle.slot_core.specs.Turns.{Leaves, Turns}
+use Rattle.slot_core.specs.declared.slot.SlotFault.{SlotFault}
+use Rattle.slot_core.specs.declared.holding.Flight.{Flight}
 use Rattle.slot_core.specs.declared.stub.Stub.{Stub}
 use Rattle.receipts.specs.Registers.{key_slot}
 use Rattle.op_steps.specs.Looking.{AreOnlyRead}
 use Rattle.op_steps.specs.Store.{SlotSeen}
 use Rattle.op_steps.specs.Words.{TurnsSo}
 use Rattle.object_ops.specs.PutStands.{IsSamePut, PutStands, PutStandsAt, ask_of}
-use Rattle.object_ops.specs.Putting.{AfterCommit, Ends}
+use Rattle.object_ops.specs.PutOutcome.{AfterCommit, Ends}
 use Rattle.object_ops.specs.PutTarget.{deed_of, key_of, kind_of, register_of}
 use Rattle.object_ops.specs.declared.put_target.PutTarget.{PutTarget}
 use Rattle.object_ops.specs.declared.clearing.Clearing.{Clearing}
 use Rattle.object_ops.specs.declared.put_op.PutOp.{PutOp}
 use Rattle.object_ops.specs.declared.put_state.PutState.{PutState}
 use Rattle.object_ops.specs.declared.put_state.PutState.TheVariants.{Staging, Telling, Told}
-use Rattle.object_ops.specs.declared.put_work.Work.{Work}
-use Rattle.object_ops.specs.declared.putting.PutEnd.TheVariants.{Commits, GivesUp}
+use Rattle.object_ops.specs.declared.put_state.Work.{Work}
+use Rattle.object_ops.specs.declared.put_outcome.PutEnd.TheVariants.{Commits, GivesUp}
 use Rattle.object_ops.proofs.PutTargets.{deed_fits, deed_lawful, deed_name, deed_named}
 use Rattle.object_ops.proofs.PutEnds.{DropSays}
 use Rattle.object_ops.proofs.PutNext.{may_finish}

@@ -7,18 +7,17 @@ use Rattle.put_stage.specs.declared.stage.StageNext.TheVariants.{Finish}
 use Rattle.receipts.specs.declared.barred.Barred.{Barred}
 use Rattle.op_steps.specs.Words.{BarredSo, IsSection}
 use Rattle.op_steps.specs.declared.next.OpNext.TheVariants as next
-use Rattle.object_ops.specs.Clearing.{files_left, left_of as left_to_clear, next_of}
+use Rattle.object_ops.specs.Clearing.{files_left, left_of as left_to_clear, next_of, files_of}
 use Rattle.object_ops.specs.Put.{left_at}
 use Rattle.object_ops.specs.PutStands.{PutStands, PutStandsAt, ask_of, step_of}
-use Rattle.object_ops.specs.Putting.{BarredAfter}
-use Rattle.object_ops.specs.Removing.{files_of}
+use Rattle.object_ops.specs.PutOutcome.{BarredAfter}
 use Rattle.object_ops.specs.PutTarget.{key_of}
 use Rattle.object_ops.specs.declared.clearing.Clearing.{Clearing}
 use Rattle.object_ops.specs.declared.put_op.PutOp.{PutOp}
 use Rattle.object_ops.specs.declared.put_state.PutState.{PutState}
 use Rattle.object_ops.specs.declared.put_state.PutState.TheVariants as state
-use Rattle.object_ops.specs.declared.put_work.Work.{Work}
-use Rattle.object_ops.specs.declared.removal.Removal.{Removal}
+use Rattle.object_ops.specs.declared.put_state.Work.{Work}
+use Rattle.object_ops.specs.declared.data_files.Removal.{Removal}
 use Rattle.object_ops.proofs.PutBars.{barred_so}
 use Rattle.object_ops.proofs.PutLefts.{all_read, barred_left, none_read, none_read_yet}
 use Rattle.object_ops.proofs.PutNext.{may_finish}

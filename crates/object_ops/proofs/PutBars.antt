@@ -8,7 +8,7 @@ use Rattle.call_types.specs.declared.refusal.Refusal.TheVariants as refusal
 use Rattle.call_types.specs.declared.reply.Reply.TheVariants.{Refused}
 use Rattle.put_stage.specs.declared.stage.StageNext.{StageNext}
 use Rattle.put_stage.specs.declared.stage.StageNext.TheVariants.{Fill, Finish, Step}
-use Rattle.slot_core.specs.declared.handles.Flight.{Flight}
+use Rattle.slot_core.specs.declared.holding.Flight.{Flight}
 use Rattle.receipts.specs.Events.{IsQuiet, Log}
 use Rattle.receipts.specs.Events.Event.{BarredFrom}
 use Rattle.receipts.specs.Registers.{bucket_slot, key_slot}
@@ -18,19 +18,18 @@ use Rattle.receipts.proofs.GrowLemmas.{quiet_bodies}
 use Rattle.op_steps.specs.Claims.{Claim, no_claim}
 use Rattle.op_steps.specs.Words.{BarredSo, IsSection}
 use Rattle.op_steps.proofs.TellLemmas.{none_pays, none_told}
-use Rattle.object_ops.specs.Clearing.{HasNone, with_taken}
+use Rattle.object_ops.specs.Clearing.{HasNone, with_taken, files_of, ids_of}
 use Rattle.op_steps.specs.declared.next.OpNext.TheVariants.{Section}
 use Rattle.object_ops.specs.Reading.{HasFound}
 use Rattle.object_ops.specs.Put.{PutAsk, step_at, task_of, work_step}
 use Rattle.object_ops.specs.PutStands.{HoldsPut, HoldsRest, PutStandsAt, Stages}
-use Rattle.object_ops.specs.Putting.{BarredAfter}
-use Rattle.object_ops.specs.Removing.{files_of, ids_of}
+use Rattle.object_ops.specs.PutOutcome.{BarredAfter}
 use Rattle.object_ops.specs.PutTarget.{key_of}
 use Rattle.object_ops.specs.declared.clearing.Clearing.{Clearing}
 use Rattle.object_ops.specs.declared.put_state.PutState.{PutState}
 use Rattle.object_ops.specs.declared.put_state.PutState.TheVariants as state
-use Rattle.object_ops.specs.declared.put_work.Work.{Work}
-use Rattle.object_ops.specs.declared.removal.Removal.{Removal}
+use Rattle.object_ops.specs.declared.put_state.Work.{Work}
+use Rattle.object_ops.specs.declared.data_files.Removal.{Removal}
 use Rattle.object_ops.proofs.PutLogs.{decided_stands}
 use Rattle.object_ops.proofs.PutStepClaims.{looked_on}
 use Rattle.object_ops.proofs.ReadingBars.{bar_fresh, key_bars, slot_in}

@@ -8,7 +8,6 @@ use Rattle.call_types.specs.declared.names.Key.{Key}
 use Rattle.drive_base.specs.declared.drive.Drive.{Ghosts}
 use Rattle.drive_base.specs.View.{DriveView, view_at}
 use Rattle.drive_base.specs.declared.plan.SetPlan.{SetPlan}
-use Rattle.drive_base.proofs.ViewLemmas.{untouched_are_only_read}
 use Rattle.body_print.specs.Names.{manifest_name, shard_name}
 use Rattle.put_stage.specs.Cells.{data_of}
 use Rattle.stamp_id.specs.declared.version.VersionId.{VersionId}
@@ -26,24 +25,25 @@ use Rattle.slot_data.proofs.ListedLemmas.{one_there, put_last}
 use Rattle.slot_core.specs.Numbers.{AreSpent}
 use Rattle.slot_core.specs.Hands.{HandsStay}
 use Rattle.slot_core.specs.Sections.{PutHolds, ShowsNoMore}
-use Rattle.slot_core.specs.Turning.{Leaves, TurnsQuietly}
+use Rattle.slot_core.specs.Turns.{Leaves, TurnsQuietly}
 use Rattle.slot_core.specs.Views.{last_of}
-use Rattle.slot_core.specs.declared.fault.SlotFault.{SlotFault}
-use Rattle.slot_core.specs.declared.fault.SlotFault.TheVariants.{SeqSpent}
-use Rattle.slot_core.specs.declared.handles.Flight.{Flight}
+use Rattle.slot_core.specs.declared.slot.SlotFault.{SlotFault}
+use Rattle.slot_core.specs.declared.slot.SlotFault.TheVariants.{SeqSpent}
+use Rattle.slot_core.specs.declared.holding.Flight.{Flight}
 use Rattle.slot_core.specs.declared.stub.Stub.{Stub}
 use Rattle.receipts.specs.Events.Shown.{NoneShown}
 use Rattle.receipts.specs.Registers.{key_slot}
 use Rattle.op_steps.specs.Claims.{AllApart, Claim, HoldsAt, IsExpected, IsMet, KeepsNone, Staging, among, claims_at, disks_of, flights_in, hands_of, no_claim}
 use Rattle.op_steps.specs.Claims.Expected.{Exactly}
-use Rattle.op_steps.specs.Moves.{TurnMoves}
+use Rattle.op_steps.specs.Moves.{TurnMoves, IsBegun}
 use Rattle.op_steps.specs.Store.{SlotSeen}
 use Rattle.op_steps.proofs.DataLemmas.{last_rises}
 use Rattle.object_ops.specs.PutStands.{HoldsPut, no_cells}
-use Rattle.op_steps.proofs.LiveFileLemmas.{at_own}
+use Rattle.op_steps.proofs.ClaimLemmas.{at_own}
 use Rattle.object_ops.proofs.PutDisks.{kept_in_use, kept_out}
 use Rattle.object_ops.proofs.PutMine.{Other, Own, flight_of, flights_with, flights_without, other_there, own_there, still_claimed, whose}
 use Rattle.object_ops.proofs.ReadingLists.{flat_there, none_some, of_some, put_apart}
+use Rattle.object_ops.proofs.TurnForms.{quiet_turn}
 
 -- the claim of a put that has done nothing yet: nothing is under its names
 abbrev pub first_staging : VersionId → Staging
@@ -199,34 +199,23 @@ module _ {D : Type 0} (ghosts : Ghosts D) where
       let new : last_of was.numbers < number_of_id f.id = (let term = begun.term in let seq = begun.seq in
       subst₂ (λ t s. was.numbers.term * 2 ^ 64 + was.numbers.seq < t * 2 ^ 64 + s) (sym term) (sym seq) (omega arith)) in (
         record { slot_is = own; of_slot = begun.slot ∙ own; flight_is = refl; pinless = refl; none_taken = refl; none_known = refl },
-        record {
-          numbers = x.turns.numbers;
-          note_is = tt;
-          audit = x.turns.audit;
-          faults = x.turns.faults;
-          claims = record { slot = refl; elsewhere = λ other. absurd (other refl) };
-          read = untouched_are_only_read disks;
-          cause = tt;
-          letters = λ name change made. absurd made;
-          complete = tt;
-          leaves = λ records state stands.
-              let left = x.leaves records state stands in
-              record {
-                records_after = left.after;
-                state_after = left.now;
-                stands = left.stands;
-                stay = left.stay;
-                moves = left.moves;
-                calm = left.calm;
-                holds = λ unseen front rest d.
-                    subst₂ (λ s i. HoldsAt s i (last_of now.numbers) now.holding unseen disks (among front (first_claim was.numbers.index f) rest) left.after left.now)
-                    (sym x.turns.numbers.set) (sym x.turns.numbers.index)
-                    (subst (λ (h : Holding). HoldsAt was.numbers.set was.numbers.index (last_of now.numbers) h unseen disks
-                    (among front (first_claim was.numbers.index f) rest) left.after left.now) (sym listed)
-                    (begin_holds was.numbers.set was.numbers.index (last_of was.numbers) (last_of now.numbers) was.holding f unseen disks front rest
-                    records left.after state left.now (last_rises was.numbers now.numbers x.turns.numbers) begun.slot new d
-                    (λ hands so. subst (λ (h : Holding). DataStands was.numbers.set was.numbers.index (last_of now.numbers) left.after left.now h
-                    (disks_of unseen was.numbers.set.out disks) hands) listed (left.holds (disks_of unseen was.numbers.set.out disks) hands hands refl so))));
-              };
-        },
+        quiet_turn ghosts was now (Ok flight) HandsStay disks (no_claim was.numbers.index) (first_claim was.numbers.index f) x.turns x.leaves
+            (record { slot = refl; elsewhere = λ other. absurd (other refl) })
+            (record {
+              flight = λ g is. inr (of_some (IsBegun was.numbers now.numbers now.holding) f g is (record {
+                above = new;
+                within = subst (λ (n : ℕ). number_of_id f.id ≤ n) (ap₂ (λ t s. t * 2 ^ 64 + s) (begun.term ∙ sym x.turns.numbers.term) (begun.seq ∙ sym begun.drawn))
+                    (omega arith);
+                listed = subst (λ (h : Holding). Contains h.flights f) (sym listed) (Contains-append_right was.holding.flights (f ∷ []) f (first_there f []));
+              }));
+              pin = λ p is. inl is;
+              taken = λ id there. inl there;
+            })
+            (λ unseen front rest records after state then d left.
+            subst (λ (h : Holding). HoldsAt was.numbers.set was.numbers.index (last_of now.numbers) h unseen disks
+            (among front (first_claim was.numbers.index f) rest) after then) (sym listed)
+            (begin_holds was.numbers.set was.numbers.index (last_of was.numbers) (last_of now.numbers) was.holding f unseen disks front rest
+            records after state then (last_rises was.numbers now.numbers x.turns.numbers) begun.slot new d
+            (λ hands so. subst (λ (h : Holding). DataStands was.numbers.set was.numbers.index (last_of now.numbers) after then h
+            (disks_of unseen was.numbers.set.out disks) hands) listed (left hands hands refl so)))),
       )

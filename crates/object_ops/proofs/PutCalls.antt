@@ -17,7 +17,7 @@ use Rattle.drive_base.specs.declared.plan.SetPlan.{SetPlan}
 use Rattle.file_access.specs.Trails.{AnswerOf}
 use Rattle.put_stage.specs.Calls.{CallsDue, IsDueCall}
 use Rattle.put_stage.specs.Cells.{DataCells}
-use Rattle.put_stage.specs.Stepping.{LacksFor, LetterOf}
+use Rattle.put_stage.specs.Steps.{LacksFor, LetterOf}
 use Rattle.put_stage.specs.declared.dues.Due.{Due}
 use Rattle.put_stage.specs.declared.dues.Due.TheVariants.{Block, Table, SyncShard, Manifest, SyncManifest, PlaceManifest, PlaceShard, Nothing}
 use Rattle.put_stage.specs.declared.stage.Load.{Load}
@@ -35,35 +35,30 @@ use Rattle.object_ops.proofs.CallLemmas.{told_unwritten}
 -- ---- what answers of calls tell
 
 -- a call that told that nothing was being written found no file
+only_absent : (P : Result (Unit {0}) DriveFault → Type 0) (answer : Result (Unit {0}) DriveFault) → ((done : Unit {0}) → P (Ok done) → ⊥)
+    → (P (Err fault.Failed) → ⊥) → (P (Err fault.NoMemory) → ⊥) → P answer → answer ≡ Err fault.Absent
+only_absent P (Ok done) ok failed memory is = absurd (ok done is)
+only_absent P (Err fault.Absent) ok failed memory is = refl
+only_absent P (Err fault.Failed) ok failed memory is = absurd (failed is)
+only_absent P (Err fault.NoMemory) ok failed memory is = absurd (memory is)
+
 append_absent : (answer : Result (Unit {0}) DriveFault) (loose bytes told : List ℕ) (call : DriveCall) (before after : ℕ) → call ≡ Append loose bytes answer
     → AnswerTells call before after (Unwritten told) → answer ≡ Err fault.Absent
-append_absent answer loose bytes told call before after is tells = by answer (subst (λ c. AnswerTells c before after (Unwritten told)) is tells)
-  where
-    by : (a : Result (Unit {0}) DriveFault) → AnswerTells (Append loose bytes a) before after (Unwritten told) → a ≡ Err fault.Absent
-    by (Ok done) none = absurd none
-    by (Err fault.Absent) is_so = refl
-    by (Err fault.Failed) other = absurd (told_unwritten told (Faulted loose before after) other)
-    by (Err fault.NoMemory) none = absurd none
+append_absent answer loose bytes told call before after is tells =
+    only_absent (λ a. AnswerTells (Append loose bytes a) before after (Unwritten told)) answer (λ done none. none)
+    (λ other. told_unwritten told (Faulted loose before after) other) (λ none. none) (subst (λ c. AnswerTells c before after (Unwritten told)) is tells)
 
 sync_absent : (answer : Result (Unit {0}) DriveFault) (loose told : List ℕ) (call : DriveCall) (before after : ℕ) → call ≡ Sync loose answer
     → AnswerTells call before after (Unwritten told) → answer ≡ Err fault.Absent
-sync_absent answer loose told call before after is tells = by answer (subst (λ c. AnswerTells c before after (Unwritten told)) is tells)
-  where
-    by : (a : Result (Unit {0}) DriveFault) → AnswerTells (Sync loose a) before after (Unwritten told) → a ≡ Err fault.Absent
-    by (Ok done) none = absurd none
-    by (Err fault.Absent) is_so = refl
-    by (Err fault.Failed) other = absurd (told_unwritten told (Faulted loose before after) other)
-    by (Err fault.NoMemory) none = absurd none
+sync_absent answer loose told call before after is tells =
+    only_absent (λ a. AnswerTells (Sync loose a) before after (Unwritten told)) answer (λ done none. none)
+    (λ other. told_unwritten told (Faulted loose before after) other) (λ none. none) (subst (λ c. AnswerTells c before after (Unwritten told)) is tells)
 
 rename_absent : (answer : Result (Unit {0}) DriveFault) (loose name told : List ℕ) (call : DriveCall) (before after : ℕ) → call ≡ Rename loose name answer
     → AnswerTells call before after (Unwritten told) → answer ≡ Err fault.Absent
-rename_absent answer loose name told call before after is tells = by answer (subst (λ c. AnswerTells c before after (Unwritten told)) is tells)
-  where
-    by : (a : Result (Unit {0}) DriveFault) → AnswerTells (Rename loose name a) before after (Unwritten told) → a ≡ Err fault.Absent
-    by (Ok done) none = absurd none
-    by (Err fault.Absent) is_so = refl
-    by (Err fault.Failed) other = absurd (told_unwritten told (Faulted loose before after) other)
-    by (Err fault.NoMemory) none = absurd none
+rename_absent answer loose name told call before after is tells =
+    only_absent (λ a. AnswerTells (Rename loose name a) before after (Unwritten told)) answer (λ done none. none)
+    (λ other. told_unwritten told (Faulted loose before after) other) (λ none. none) (subst (λ c. AnswerTells c before after (Unwritten told)) is tells)
 
 -- ---- the call that is due
 

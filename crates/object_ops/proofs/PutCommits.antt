@@ -1,16 +1,15 @@
 -- The commit of a put, as a step: its data has its holders, and nothing is held of the slot after it.
-use Rattle.std.proofs.Common.{◌≡◌, ◌∙◌, ℕ, List, [], ◌∷◌, Contains, Option, Some, None, Result, Ok, Err, inl, inr, refl, sym, ap, subst, subst₂}
+use Rattle.std.proofs.Common.{◌≡◌, ◌∙◌, ℕ, List, [], ◌∷◌, Contains, Option, Some, Result, Ok, Err, inl, inr, refl, sym, ap, subst, subst₂}
 use Rattle.std.proofs.lemmas.List.Elements.{Contains-append_left, Contains-push}
-use Rattle.audit_trail.specs.declared.entry.Entry.{Entry}
 use Rattle.call_types.specs.declared.names.Key.{Key}
 use Rattle.call_types.specs.declared.names.Mode.{Mode}
 use Rattle.drive_base.specs.View.{views}
 use Rattle.drive_base.specs.declared.drive.Drive.{Ghosts}
 use Rattle.drive_base.specs.declared.plan.SetPlan.{SetPlan}
-use Rattle.put_stage.specs.Taking.{HasTaken}
+use Rattle.put_stage.specs.TakenBodies.{HasTaken}
 use Rattle.stamp_id.specs.declared.version.VersionId.{VersionId}
 use Rattle.put_stage.specs.declared.stage.Stage.{Stage}
-use Rattle.put_stage.specs.declared.staged.Staged.{Staged}
+use Rattle.put_stage.specs.declared.answers.Staged.{Staged}
 use Rattle.register_core.specs.declared.faults.QuorumFault.{QuorumFault}
 use Rattle.slot_history.specs.Contents.{NamedData}
 use Rattle.slot_history.specs.Names.{key_name}
@@ -24,19 +23,19 @@ use Rattle.slot_data.proofs.HandsLemmas.{holders_are_known}
 use Rattle.slot_rules.specs.declared.commit.Commit.{Commit}
 use Rattle.slot_rules.specs.declared.commit.Committed.{Committed}
 use Rattle.slot_core.specs.CommitCauses.{CommitCause, deed_in}
-use Rattle.slot_core.specs.Committing.{ChecksFlight, CommitHolds, MayCommitData, NothingBegun, SaysCommit, ShowsTrash}
+use Rattle.slot_core.specs.Commits.{ChecksFlight, CommitHolds, MayCommitData, NothingBegun, SaysCommit, ShowsTrash}
 use Rattle.slot_core.specs.Stubs.{Says, entry_of}
-use Rattle.slot_core.specs.Turning.{EntryMoves, Leaves, Turns}
-use Rattle.slot_core.specs.Views.{last_of, quorum_of}
-use Rattle.slot_core.specs.declared.fault.SlotFault.{SlotFault}
-use Rattle.slot_core.specs.declared.fault.SlotFault.TheVariants.{NotInFlight, Quorum}
-use Rattle.slot_core.specs.declared.handles.Flight.{Flight}
+use Rattle.slot_core.specs.Turns.{Leaves, Turns}
+use Rattle.slot_core.specs.Views.{last_of}
+use Rattle.slot_core.specs.declared.slot.SlotFault.{SlotFault}
+use Rattle.slot_core.specs.declared.slot.SlotFault.TheVariants.{NotInFlight, Quorum}
+use Rattle.slot_core.specs.declared.holding.Flight.{Flight}
 use Rattle.slot_core.specs.declared.stub.Stub.{Stub}
 use Rattle.receipts.specs.Events.Shown.{NoneShown}
 use Rattle.op_steps.specs.Causes.{IsPutOf}
 use Rattle.op_steps.specs.Claims.{Claim, DisksTell, HoldsAt, IsMet, among, claims_at, disks_of, hands_of, no_claim}
 use Rattle.op_steps.specs.Looking.{AreOnlyRead}
-use Rattle.op_steps.specs.Moves.{ShowsBy, TurnLeaves, TurnMoves}
+use Rattle.op_steps.specs.Moves.{TurnLeaves, TurnMoves}
 use Rattle.op_steps.specs.Notes.{noted}
 use Rattle.op_steps.specs.Store.{LanesStand, SlotSeen}
 use Rattle.op_steps.proofs.Accounts.{IsNotUnlisted}
@@ -44,21 +43,17 @@ use Rattle.op_steps.proofs.CauseLemmas.{commit_turn_cause}
 use Rattle.op_steps.proofs.DataLemmas.{data_read, last_rises}
 use Rattle.op_steps.proofs.ChangeLetterLemmas.{commit_letters}
 use Rattle.op_steps.proofs.MovesLemmas.{turn_moves}
-use Rattle.op_steps.proofs.NoteLemmas.{audit_noted, calm_noted, entry_counts, entry_noted, same_entry}
+use Rattle.op_steps.proofs.NoteLemmas.{audit_noted, entry_counts, entry_noted}
+use Rattle.op_steps.proofs.ClaimLemmas.{nothing_held}
 use Rattle.object_ops.specs.Put.{PutAsk}
 use Rattle.object_ops.specs.PutStands.{ClaimsSo, HoldsPut, IsStageOf}
-use Rattle.object_ops.specs.Putting.{Answers}
+use Rattle.object_ops.specs.PutOutcome.{Answers}
 use Rattle.object_ops.specs.PutTarget.{deed_of, key_of, register_of}
 use Rattle.object_ops.proofs.PutTargets.{deed_brings, deed_name}
 use Rattle.object_ops.proofs.PutEnds.{IsPutClaim, ends_hold, is_listed, none_knows, stays}
 use Rattle.object_ops.proofs.PutHolders.{has_holders}
 use Rattle.object_ops.proofs.PutMine.{met_mine}
-
--- nothing is shown of the states
-pub moves_bare : (slot : ℕ) (entry : Option Entry) (Shows : State → State → Type 0) (records after : Records) (state now : State)
-    → EntryMoves slot entry Shows records state after now → EntryMoves slot entry (ShowsBy entry NoneShown) records state after now
-moves_bare slot None Shows records after state now x = x
-moves_bare slot (Some entry) Shows records after state now x = (x.0, tt)
+use Rattle.object_ops.proofs.TurnForms.{leaves_noted}
 
 some_named : (a b : NamedData) → Some a ≡ Some b → a ≡ b
 some_named a b e = cc
@@ -189,27 +184,19 @@ module _ {D : Type 0} (ghosts : Ghosts D) where
         → TurnLeaves ghosts was now (noted stub) NoneShown claim (no_claim index) (views ghosts old) (views ghosts new) records state
     leaves_so records state stands =
         let left = x.leaves records state stands in
-        record {
-          records_after = left.after;
-          state_after = left.now;
-          stands = left.stands;
-          stay = left.stay;
-          moves = subst (λ e. EntryMoves index e (ShowsBy e NoneShown) records state left.after left.now) (sym (same_entry stub))
-              (moves_bare index (entry_of stub) (ShowsTrash deed answer was.holding.trash now.holding.trash) records left.after state left.now left.moves);
-          calm = calm_noted (quorum_of was.numbers) stub records state left.after left.now left.calm;
-          holds = λ unseen front rest d.
-              let ended : (g : Flying) × (g.id ≡ flight.id) × TakesOut g was.holding.flights now.holding.flights = elim x.holds.ends [
-                | inl g ↦ (g.0, g.1, subst (λ (h : Holding). TakesOut g.0 was.holding.flights h.flights) (sym x.holds.holds) g.2)
-                | inr none ↦ absurd (none.0 (record { flight = f; there = listed_there unseen front rest records left.after state left.now d; id_is = refl }))
-              ] in
-              data_read now.numbers now.holding unseen (views ghosts old) (views ghosts new) (among front (no_claim index) rest) (among front (no_claim index) rest)
-              left.after left.now x.read refl
-              (subst₂ (λ s i. HoldsAt s i (last_of now.numbers) now.holding unseen (views ghosts old) (among front (no_claim index) rest) left.after left.now)
-              (sym x.turns.numbers.set) (sym x.turns.numbers.index)
-              (commit_holds unseen front rest records left.after state left.now d ended.0 ended.1 ended.2 (ap (λ (h : Holding). h.pins) x.holds.holds)
-              (λ later. left.holds (disks_of unseen was.numbers.set.out (views ghosts old))
-              (with_known (hands_of (claims_at index (among front claim rest))) this) later)));
-        }
+        leaves_noted ghosts was now stub (ShowsTrash deed answer was.holding.trash now.holding.trash) (MayCommitData deed now.holding) claim (no_claim index)
+        (views ghosts old) (views ghosts new) records state left (λ unseen front rest d.
+        let ended : (g : Flying) × (g.id ≡ flight.id) × TakesOut g was.holding.flights now.holding.flights = elim x.holds.ends [
+          | inl g ↦ (g.0, g.1, subst (λ (h : Holding). TakesOut g.0 was.holding.flights h.flights) (sym x.holds.holds) g.2)
+          | inr none ↦ absurd (none.0 (record { flight = f; there = listed_there unseen front rest records left.after state left.now d; id_is = refl }))
+        ] in
+        data_read now.numbers now.holding unseen (views ghosts old) (views ghosts new) (among front (no_claim index) rest) (among front (no_claim index) rest)
+        left.after left.now x.read refl
+        (subst₂ (λ s i. HoldsAt s i (last_of now.numbers) now.holding unseen (views ghosts old) (among front (no_claim index) rest) left.after left.now)
+        (sym x.turns.numbers.set) (sym x.turns.numbers.index)
+        (commit_holds unseen front rest records left.after state left.now d ended.0 ended.1 ended.2 (ap (λ (h : Holding). h.pins) x.holds.holds)
+        (λ later. left.holds (disks_of unseen was.numbers.set.out (views ghosts old))
+        (with_known (hands_of (claims_at index (among front claim rest))) this) later))))
 
     -- where its put isn't listed, that is the claim's
     unlisted : (id : VersionId) → answer ≡ Err (NotInFlight id) → IsPutOf claim (Some id) × (IsInFlight was.holding.flights id → ⊥)
@@ -230,6 +217,7 @@ module _ {D : Type 0} (ghosts : Ghosts D) where
       audit = audit_noted stub was.entries now.entries x.turns.audit;
       faults = entry_counts was.numbers answer stub was.faults now.faults x.turns.stub_is x.turns.faults;
       claims = record { slot = sym own; elsewhere = λ other. absurd (other own) };
+      gains = nothing_held was.numbers now.numbers was.holding now.holding claim index;
       read = x.read;
       account = commit_turn_cause ghosts was now claim old new deed (Some flight.id) at (f, held.flight_is, refl) answer stub x.turns.stub_is x.says
           x.turns.spent.0 x.turns.faults unlisted not_unlisted x.cause;

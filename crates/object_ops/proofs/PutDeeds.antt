@@ -11,7 +11,7 @@ use Rattle.call_types.specs.declared.reply.Reply.TheVariants.{Refused}
 use Rattle.drive_base.specs.Files.{Files}
 use Rattle.drive_base.specs.declared.plan.SetPlan.{SetPlan}
 use Rattle.md5.specs.Md5.{md5}
-use Rattle.put_stage.specs.declared.staged.Staged.{Staged}
+use Rattle.put_stage.specs.declared.answers.Staged.{Staged}
 use Rattle.receipts.specs.Committing.{KeyIsCommitted}
 use Rattle.receipts.specs.Events.{Log, Note, body_of}
 use Rattle.receipts.specs.Events.Event.{Turned}
@@ -19,13 +19,13 @@ use Rattle.receipts.specs.Events.Shown.{NoneShown}
 use Rattle.receipts.specs.Putting.{IsAgreed, PutsBody}
 use Rattle.receipts.specs.Registers.{key_register, key_slot}
 use Rattle.receipts.specs.Staging.{IsStaged}
-use Rattle.receipts.proofs.JoinLemmas.{bodies_join, sections_join}
+use Rattle.receipts.proofs.JoinLemmas.{bodies_join}
 use Rattle.slot_core.specs.CommitCauses.{CommitCause, deed_in}
-use Rattle.slot_core.specs.Committing.{SaysCommit}
+use Rattle.slot_core.specs.Commits.{SaysCommit}
 use Rattle.slot_core.specs.Stubs.{Says, StubOfEntry, entry_of}
 use Rattle.slot_core.specs.Views.{SlotNumbers}
-use Rattle.slot_core.specs.declared.fault.SlotFault.{SlotFault}
-use Rattle.slot_core.specs.declared.fault.SlotFault.TheVariants.{NoMemory}
+use Rattle.slot_core.specs.declared.slot.SlotFault.{SlotFault}
+use Rattle.slot_core.specs.declared.slot.SlotFault.TheVariants.{NoMemory}
 use Rattle.slot_core.specs.declared.stub.Stub.{Stub}
 use Rattle.slot_rules.specs.declared.commit.Committed.{Committed}
 use Rattle.stamp_id.specs.declared.version.VersionId.{VersionId}
@@ -35,7 +35,7 @@ use Rattle.object_ops.specs.PutTarget.{Puts, deed_of, key_of, register_of}
 use Rattle.object_ops.specs.declared.put_target.PutTarget.{PutTarget}
 use Rattle.object_ops.specs.declared.put_target.PutTarget.TheVariants.{Object}
 use Rattle.object_ops.proofs.DueLemmas.{done_so, refused_so}
-use Rattle.object_ops.proofs.KeyCommitLemmas.{EndsSo, changes_so, refused_commit}
+use Rattle.object_ops.proofs.KeyCommitLemmas.{EndsSo, changes_so, ends_so, refused_commit}
 
 -- what is done to a key, said of acts of a kind
 kind_of_end : (at : Key) (mode : Mode) (now : ℕ) (done : Act) (IsAct : Act → Type 0) (note : Note) (reply : Reply) → IsAct done
@@ -62,21 +62,6 @@ kind_of_end at mode now done IsAct note reply is (inr x) = inr (record {
 
 abbrev pub turned : ℕ → Option Note → Log → Log
 turned k note log = log ++ Turned k note NoneShown ∷ []
-
--- behind the look at the bucket it is how the call ends
-ends_at : (at : Key) (mode : Mode) (now : ℕ) (IsAct : Act → Type 0) (reply : Reply) (log : Log) (k : ℕ) (made : Stub) → HasLookedAt at.bucket mode log
-    → EndsSo at mode now IsAct (note_of made) reply → KeyIsCommitted at now IsAct reply (turned k (Some (note_of made)) log)
-ends_at at mode now IsAct reply log k made looked ends = record {
-  look = looked.look;
-  mode = mode;
-  bucket = looked.finds;
-  commit = record {
-    own = record { note = note_of made; shown = NoneShown };
-    sections = sections_join log (Turned k (Some (note_of made)) NoneShown ∷ [])
-        ∙ ap (λ l. l ++ record { note = note_of made; shown = NoneShown } ∷ []) looked.sections;
-    ends = ends;
-  };
-}
 
 pub same_body : (log : Log) (k : ℕ) (note : Option Note) → body_of (turned k note log) ≡ body_of log
 same_body log k note = bodies_join log (Turned k note NoneShown ∷ []) ∙ append-nil (body_of log)
@@ -152,5 +137,5 @@ puts_so (Object at kind) set stated mode id staged log now reply k made own s en
       looked = record { look = s.looked.look; sections = s.looked.sections; mode = mode; finds = s.looked.finds };
       staged = subst (λ (b : List ℕ). IsStaged set at id b log) (sym body) (s.body_staged at refl);
       commit = subst (λ (b : List ℕ). KeyIsCommitted at now (PutsBody set kind b id) reply later) (sym body)
-          (ends_at at mode now (PutsBody set kind (body_of log) id) reply log k made s.looked of_kind);
+          (ends_so at mode now (PutsBody set kind (body_of log) id) reply log k made s.looked of_kind);
     }

@@ -1,32 +1,32 @@
 -- A put ends: it is given up, or committed. Its flight is listed no more, and nothing is held of the slot.
-use Rattle.std.proofs.Common.{◌≡◌, ◌≢◌, ◌∙◌, ◌≤◌, ℕ, List, [], ◌∷◌, ◌++◌, Contains, Option, Some, None, Result, option_to_list, option_map, inl, inr, refl, sym, ap, ap₂, subst, subst₂, arith}
+use Rattle.std.proofs.Common.{◌≡◌, ◌≢◌, ◌∙◌, ◌≤◌, ℕ, List, [], ◌∷◌, ◌++◌, Contains, Option, Some, None, Result, option_to_list, option_map, inl, inr, refl, sym, ap, ap₂, subst, arith}
 use Rattle.std.specs.List.{flat_map}
 use Rattle.std.proofs.lemmas.Grind.{flat_map-append}
 use Rattle.drive_base.specs.declared.drive.Drive.{Ghosts}
 use Rattle.drive_base.specs.View.{DriveView}
 use Rattle.drive_base.specs.declared.plan.SetPlan.{SetPlan}
-use Rattle.drive_base.proofs.ViewLemmas.{untouched_are_only_read}
 use Rattle.stamp_id.specs.declared.version.VersionId.{VersionId}
 use Rattle.version_list.specs.State.{AreDistinct}
 use Rattle.slot_history.specs.Standing.{Flying, Records}
 use Rattle.slot_history.specs.State.{State, TakesOut}
-use Rattle.slot_history.proofs.TakenLemmas.{left_apart, left_there, none_there, taken_or_left}
+use Rattle.slot_history.proofs.TakenLemmas.{left_apart, left_there, taken_or_left}
 use Rattle.slot_data.specs.Disks.{Disks}
 use Rattle.slot_data.specs.Holding.{Hands, Holding, Known, Pinned}
 use Rattle.slot_data.specs.Standing.{DataStands}
 use Rattle.slot_core.specs.Sections.{MayGiveUp, PutGoes, ShowsNoMore}
-use Rattle.slot_core.specs.Turning.{EntryMoves, Leaves, TurnsQuietly}
+use Rattle.slot_core.specs.Turns.{EntryMoves, Leaves, TurnsQuietly}
 use Rattle.slot_core.specs.Views.{last_of}
-use Rattle.slot_core.specs.declared.fault.SlotFault.{SlotFault}
+use Rattle.slot_core.specs.declared.slot.SlotFault.{SlotFault}
 use Rattle.slot_core.specs.declared.stub.Stub.{Stub}
 use Rattle.receipts.specs.Events.Shown.{NoneShown}
 use Rattle.op_steps.specs.Claims.{AllApart, Claim, HoldsAt, IsMet, among, claims_at, disks_of, flights_in, hands_of, no_claim}
 use Rattle.op_steps.specs.Moves.{TurnMoves}
 use Rattle.op_steps.specs.Store.{SlotSeen}
 use Rattle.op_steps.proofs.DataLemmas.{last_rises}
-use Rattle.op_steps.proofs.LiveFileLemmas.{at_own}
-use Rattle.object_ops.proofs.PutMine.{Other, Own, distinct, flights_without, listed, met_other, mine, other_flight, still_claimed, unknown, whose}
+use Rattle.op_steps.proofs.ClaimLemmas.{at_own, nothing_held}
+use Rattle.object_ops.proofs.PutMine.{Other, Own, distinct, flights_without, listed, met_none, met_other, mine, other_flight, still_claimed, unknown, whose}
 use Rattle.object_ops.proofs.ReadingLists.{none_some, of_some, out_distinct}
+use Rattle.object_ops.proofs.TurnForms.{quiet_turn}
 
 -- a claim holds a put, and no more
 pub record IsPutClaim (index : ℕ) (f : Flying) (claim : Claim) : Type 0 where
@@ -76,16 +76,6 @@ module _ (set : SetPlan) (index last later : ℕ) (held holding : Holding) (unse
     | inr kept ↦ kept
   ]
 
-  met_none : IsMet set holding unseen disks (no_claim index)
-  met_none = record {
-    flight = λ g none. absurd (none_some g none);
-    pin = λ q none. absurd (none_some q none);
-    staged = λ s none. absurd (none_some s none);
-    works = λ s none. absurd (none_some s none);
-    known = λ x none. absurd (none_there x none);
-    unwritten = λ g k none. absurd (none_some g none);
-  }
-
   -- the slot's data holds with the claims of others, where it stands
   pub ends_hold : (g : Flying) → g.id ≡ f.id → TakesOut g held.flights holding.flights → holding.pins ≡ held.pins
       → DataStands set index later after now holding (disks_of unseen set.out disks) (hands_of (claims_at index (among front claim rest)))
@@ -95,7 +85,7 @@ module _ (set : SetPlan) (index last later : ℕ) (held holding : Holding) (unse
     stands = subst (DataStands set index later after now holding (disks_of unseen set.out disks)) (sym same_hands) stands;
     loose = λ k id inside in_use own above. d.loose k id inside in_use own (omega (arith, rises, above));
     met = λ c there. elim (whose F (no_claim index) R c (subst (λ l. Contains l c) then there)) [
-      | Own own ↦ subst (IsMet set holding unseen disks) own met_none
+      | Own own ↦ subst (IsMet set holding unseen disks) own (met_none set holding unseen disks index)
       | Other other ↦
           let x = met_other set index last held unseen disks front rest claim f records state is_put.own is_put.flies is_put.none_known d c other in
           record {
@@ -151,30 +141,10 @@ module _ {D T : Type 0} (ghosts : Ghosts D) where
   -- it is a step after which nothing is held
   pub drop_turn : (was now : SlotSeen D) (f : Flying) (claim : Claim) (answer : Result T SlotFault) (disks : List DriveView) → IsPutClaim was.numbers.index f claim
       → DropSays was now f.id answer None → TurnMoves ghosts was now None NoneShown claim (no_claim was.numbers.index) disks disks
-  drop_turn was now f claim answer disks is_put x = record {
-    numbers = x.turns.numbers;
-    note_is = tt;
-    audit = x.turns.audit;
-    faults = x.turns.faults;
-    claims = record { slot = sym is_put.own; elsewhere = λ other. absurd (other is_put.own) };
-    read = untouched_are_only_read disks;
-    cause = tt;
-    letters = λ name change made. absurd made;
-    complete = tt;
-    leaves = λ records state stands.
-        let left = x.leaves records state stands in
-        record {
-          records_after = left.after;
-          state_after = left.now;
-          stands = left.stands;
-          stay = left.stay;
-          moves = left.moves;
-          calm = left.calm;
-          holds = λ unseen front rest d.
-              subst₂ (λ s i. HoldsAt s i (last_of now.numbers) now.holding unseen disks (among front (no_claim was.numbers.index) rest) left.after left.now)
-              (sym x.turns.numbers.set) (sym x.turns.numbers.index)
-              (given_up_holds was.numbers.set was.numbers.index (last_of was.numbers) (last_of now.numbers) was.holding now.holding unseen disks front rest claim f
-              records left.after state left.now (last_rises was.numbers now.numbers x.turns.numbers) is_put d x.holds
-              (λ hands may. left.holds (disks_of unseen was.numbers.set.out disks) hands hands may));
-        };
-  }
+  drop_turn was now f claim answer disks is_put x =
+      quiet_turn ghosts was now answer (MayGiveUp f.id) disks claim (no_claim was.numbers.index) x.turns x.leaves
+      (record { slot = sym is_put.own; elsewhere = λ other. absurd (other is_put.own) })
+      (nothing_held was.numbers now.numbers was.holding now.holding claim was.numbers.index)
+      (λ unseen front rest records after state then d left.
+      given_up_holds was.numbers.set was.numbers.index (last_of was.numbers) (last_of now.numbers) was.holding now.holding unseen disks front rest claim f
+      records after state then (last_rises was.numbers now.numbers x.turns.numbers) is_put d x.holds (λ hands may. left hands hands may))

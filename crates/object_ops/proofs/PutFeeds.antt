@@ -20,11 +20,11 @@ use Rattle.op_steps.specs.declared.next.OpNext.{OpNext}
 use Rattle.op_steps.specs.declared.next.OpNext.TheVariants as next
 use Rattle.object_ops.specs.Clearing.{files_left, next_of}
 use Rattle.object_ops.specs.Put.{PutAsk, left_at, long_by, step_at, task_of, work_step}
-use Rattle.object_ops.specs.PutFeeding.{DrainsTo, FeedsTo, FillsTo, feed_cut}
+use Rattle.object_ops.specs.PutStageCalls.{DrainsTo, FeedsTo, FillsTo, feed_cut}
 use Rattle.object_ops.specs.PutStands.{Drains, IsDecided, PutStandsAt}
 use Rattle.object_ops.specs.PutTarget.{key_of}
 use Rattle.object_ops.specs.declared.clearing.Clearing.{Clearing}
-use Rattle.object_ops.specs.declared.put_feeding.PutFed.{PutFed}
+use Rattle.object_ops.specs.declared.put_stage_calls.PutFed.{PutFed}
 use Rattle.object_ops.specs.declared.put_state.PutState.{PutState}
 use Rattle.object_ops.specs.declared.put_state.PutState.TheVariants as state
 use Rattle.object_ops.proofs.PutLefts.{owes_left}

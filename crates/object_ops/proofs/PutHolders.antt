@@ -20,16 +20,16 @@ use Rattle.body_print.specs.Names.{manifest_name}
 use Rattle.manifest_file.specs.declared.manifest.Manifest.{Manifest}
 use Rattle.manifest_file.specs.declared.manifest.ManifestPart.{ManifestPart}
 use Rattle.put_stage.specs.Cells.{DataCells, data_of}
-use Rattle.put_stage.specs.Finishing.{IsStagedBody}
-use Rattle.put_stage.specs.Holding.{HoldsBody}
-use Rattle.put_stage.specs.Taking.{HasTaken, manifest_in}
-use Rattle.put_stage.specs.Working.{AtWork}
+use Rattle.put_stage.specs.StagedBodies.{IsStagedBody}
+use Rattle.put_stage.specs.HeldBodies.{HoldsBody}
+use Rattle.put_stage.specs.TakenBodies.{HasTaken, manifest_in}
+use Rattle.put_stage.specs.Work.{AtWork}
 use Rattle.put_stage.specs.declared.stage.Stage.{Stage}
-use Rattle.put_stage.specs.declared.staged.Staged.{Staged}
+use Rattle.put_stage.specs.declared.answers.Staged.{Staged}
 use Rattle.put_stage.proofs.FinishLemmas.{whole_manifest}
 use Rattle.put_stage.proofs.StepLemmas.{only_good}
 use Rattle.stamp_id.specs.declared.version.VersionId.{VersionId}
-use Rattle.slot_core.specs.declared.handles.Flight.{Flight}
+use Rattle.slot_core.specs.declared.holding.Flight.{Flight}
 use Rattle.slot_history.specs.Contents.{NamedData}
 use Rattle.slot_history.specs.Names.{key_name}
 use Rattle.slot_data.specs.Disks.{Disks, HasHolders, kept_on}
@@ -38,7 +38,7 @@ use Rattle.slot_data.proofs.ListedLemmas.{one_there}
 use Rattle.op_steps.specs.Claims.{Claim, DisksTell, Expected, IsExpected, IsMet, Staging, disks_of}
 use Rattle.object_ops.specs.Put.{PutAsk}
 use Rattle.object_ops.specs.PutStands.{ClaimsStage, HasWorked, HoldsPut, IsStageOf, no_cells}
-use Rattle.object_ops.specs.Putting.{Answers}
+use Rattle.object_ops.specs.PutOutcome.{Answers}
 use Rattle.object_ops.specs.PutTarget.{key_of, register_of}
 use Rattle.object_ops.proofs.PutDisks.{kept_in_use, kept_out}
 use Rattle.object_ops.proofs.PutPlaces.{work_manifest}

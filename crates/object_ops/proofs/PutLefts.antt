@@ -12,7 +12,7 @@ use Rattle.drive_base.specs.View.{DriveView}
 use Rattle.drive_base.specs.declared.plan.SetPlan.{SetPlan}
 use Rattle.call_types.specs.Good.{is_good}
 use Rattle.put_stage.specs.Left.{calls_left, calls_on}
-use Rattle.put_stage.specs.Working.{due_at, why_at}
+use Rattle.put_stage.specs.Work.{due_at, why_at}
 use Rattle.put_stage.specs.declared.stage.Stage.{Stage}
 use Rattle.put_stage.specs.declared.stage.StageNext.{StageNext}
 use Rattle.put_stage.specs.declared.stage.StageNext.TheVariants.{Fill, Finish, Step}
@@ -22,22 +22,21 @@ use Rattle.receipts.specs.declared.barred.Barred.{Barred}
 use Rattle.receipts.specs.declared.barred.Barred.TheVariants as barred
 use Rattle.slot_rules.specs.declared.commit.Committed.{Committed}
 use Rattle.op_steps.specs.Words.{IsSection}
-use Rattle.slot_core.specs.declared.fault.SlotFault.{SlotFault}
-use Rattle.slot_core.specs.declared.fault.SlotFault.TheVariants as slot
-use Rattle.slot_core.specs.declared.handles.Flight.{Flight}
+use Rattle.slot_core.specs.declared.slot.SlotFault.{SlotFault}
+use Rattle.slot_core.specs.declared.slot.SlotFault.TheVariants as slot
+use Rattle.slot_core.specs.declared.holding.Flight.{Flight}
 use Rattle.op_steps.specs.Notes.{refusal_by}
 use Rattle.op_steps.specs.declared.looking.Looked.{Looked}
 use Rattle.op_steps.specs.declared.looking.Looked.TheVariants as looked
-use Rattle.object_ops.specs.Clearing.{RemovesOne, files_left, left_of as left_to_clear}
+use Rattle.object_ops.specs.Clearing.{RemovesOne, files_left, left_of as left_to_clear, FileOn, files_of}
 use Rattle.object_ops.specs.Put.{left_at, long_by, most_calls, step_at, work_step}
-use Rattle.object_ops.specs.PutWork.{BeginsTo, BeginsWork}
-use Rattle.object_ops.specs.Putting.{AfterCommit, AfterLook, BarredAfter, BarredAt, BarredEnd, OwesNext, RefusedBegin}
-use Rattle.object_ops.specs.Removing.{FileOn, files_of}
+use Rattle.object_ops.specs.PutStageCalls.{BeginsTo, BeginsWork}
+use Rattle.object_ops.specs.PutOutcome.{AfterCommit, AfterLook, BarredAfter, BarredAt, BarredEnd, OwesNext, RefusedBegin}
 use Rattle.object_ops.specs.declared.clearing.Clearing.{Clearing}
 use Rattle.object_ops.specs.declared.put_state.PutState.{PutState}
 use Rattle.object_ops.specs.declared.put_state.PutState.TheVariants as state
-use Rattle.object_ops.specs.declared.put_work.Work.{Work}
-use Rattle.object_ops.specs.declared.removal.Removal.{Removal}
+use Rattle.object_ops.specs.declared.put_state.Work.{Work}
+use Rattle.object_ops.specs.declared.data_files.Removal.{Removal}
 
 -- no byte is taken before the stage begins
 pub none_read : (long read : ℕ) (one : PutState) → one ≡ state.Looking → long_by long read one ≡ long → read ≡ 0

@@ -15,12 +15,12 @@ use Rattle.call_types.specs.declared.why.Why.{Why}
 use Rattle.call_types.specs.declared.why.Why.TheVariants.{Good}
 use Rattle.drive_base.specs.Plan.{write_drives}
 use Rattle.drive_base.specs.declared.plan.SetPlan.{SetPlan}
-use Rattle.put_stage.specs.Taking.{HasTaken, WorkGoesOn}
-use Rattle.put_stage.specs.Working.{why_at}
-use Rattle.put_stage.specs.declared.staged.Staged.{Staged}
-use Rattle.put_stage.specs.declared.staged.StageFault.{StageFault}
-use Rattle.put_stage.specs.declared.staged.StageFault.TheVariants as fault
-use Rattle.slot_core.specs.declared.handles.Flight.{Flight}
+use Rattle.put_stage.specs.TakenBodies.{HasTaken, WorkGoesOn}
+use Rattle.put_stage.specs.Work.{why_at}
+use Rattle.put_stage.specs.declared.answers.Staged.{Staged}
+use Rattle.put_stage.specs.declared.answers.StageFault.{StageFault}
+use Rattle.put_stage.specs.declared.answers.StageFault.TheVariants as fault
+use Rattle.slot_core.specs.declared.holding.Flight.{Flight}
 use Rattle.slot_core.specs.declared.stub.Stub.{Stub}
 use Rattle.receipts.specs.Events.{Event, IsUntold, Log, Shown, body_of, calls_at, cuts_of, sections_of, tale_of}
 use Rattle.receipts.specs.Events.Event.{BarredFrom, Fed, Turned}
@@ -30,7 +30,7 @@ use Rattle.receipts.specs.Paying.Outcome.{CutOff}
 use Rattle.receipts.specs.Putting.{IsAgreed}
 use Rattle.receipts.specs.Registers.{bucket_slot, key_slot}
 use Rattle.receipts.specs.declared.barred.Barred.TheVariants as barred
-use Rattle.put_stage.specs.Called.{CalledSo}
+use Rattle.put_stage.specs.CallsSoFar.{CalledSo}
 use Rattle.drive_base.specs.Trail.{DriveCall}
 use Rattle.receipts.proofs.JoinLemmas.{bodies_join, calls_join, sections_join}
 use Rattle.op_steps.specs.BucketLooks.{SaysBucket}
@@ -42,14 +42,14 @@ use Rattle.op_steps.specs.declared.looking.Looked.{Looked}
 use Rattle.op_steps.specs.declared.looking.Looked.TheVariants as looked
 use Rattle.op_steps.proofs.TellLemmas.{cuts_after, none_pays, none_told}
 use Rattle.object_ops.specs.Put.{PutAsk, task_of}
-use Rattle.object_ops.specs.PutFeeding.{FillsOn, feed_cut}
+use Rattle.object_ops.specs.PutStageCalls.{FillsOn, feed_cut}
 use Rattle.object_ops.specs.PutStands.{ClaimsSo, Drains, HasLookedAt, HoldsPut, HoldsRest, IsDecided, PutStandsAt, Stages, no_cells}
-use Rattle.object_ops.specs.Putting.{AfterLook, Answers, OwesNext, refusal_of_stage}
+use Rattle.object_ops.specs.PutOutcome.{AfterLook, Answers, OwesNext, refusal_of_stage}
 use Rattle.object_ops.specs.PutTarget.{key_of}
 use Rattle.object_ops.specs.declared.clearing.Clearing.{Clearing}
 use Rattle.object_ops.specs.declared.put_state.PutState.{PutState}
 use Rattle.object_ops.specs.declared.put_state.PutState.TheVariants as state
-use Rattle.object_ops.specs.declared.put_work.Work.{Work}
+use Rattle.object_ops.specs.declared.put_state.Work.{Work}
 use Rattle.object_ops.proofs.PutTargets.{OwesPut, call_long, owes_call}
 use Rattle.object_ops.proofs.PutCalls.{letter_grows}
 use Rattle.object_ops.proofs.ReadingLook.{looks}

@@ -12,9 +12,9 @@ use Rattle.slot_history.proofs.TakenLemmas.{first_there, none_there, rest_there,
 use Rattle.slot_data.specs.Disks.{Disks}
 use Rattle.slot_data.specs.Holding.{Holding, Known}
 use Rattle.version_list.specs.State.{AreDistinct}
-use Rattle.op_steps.specs.Claims.{AllApart, Claim, HoldsAt, IsMet, among, claims_at, flights_in, hands_of}
-use Rattle.op_steps.proofs.LiveFileLemmas.{at_own}
-use Rattle.object_ops.proofs.ReadingLists.{flat_has, flat_there, out_apart}
+use Rattle.op_steps.specs.Claims.{AllApart, Claim, HoldsAt, IsMet, among, claims_at, flights_in, hands_of, no_claim}
+use Rattle.op_steps.proofs.ClaimLemmas.{at_own}
+use Rattle.object_ops.proofs.ReadingLists.{flat_has, flat_there, none_some, out_apart}
 
 -- one of the claims is this one, or it is one of the others
 pub data Whose (front : List Claim) (own : Claim) (rest : List Claim) (c : Claim) : Type 0 where
@@ -38,6 +38,17 @@ other_there front own rest c there = elim (Contains-append_cases front rest c th
 
 pub own_there : (front : List Claim) (own : Claim) (rest : List Claim) → Contains (among front own rest) own
 own_there front own rest = Contains-append_right front (own ∷ rest) own (first_there own rest)
+
+-- a claim with nothing is met
+pub met_none : (set : SetPlan) (holding : Holding) (unseen : Disks) (disks : List DriveView) (index : ℕ) → IsMet set holding unseen disks (no_claim index)
+met_none set holding unseen disks index = record {
+  flight = λ f none. absurd (none_some f none);
+  pin = λ q none. absurd (none_some q none);
+  staged = λ s none. absurd (none_some s none);
+  works = λ s none. absurd (none_some s none);
+  known = λ x none. absurd (none_there x none);
+  unwritten = λ f k none. absurd (none_some f none);
+}
 
 -- what some claim has some claim has still, where the one that is changed has it still
 pub still_claimed : {X : Type 0} (index : ℕ) (front rest : List Claim) (claim later : Claim) (read : Claim → Option X) (x : X) → claim.slot ≡ index → later.slot ≡ index

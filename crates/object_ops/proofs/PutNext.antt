@@ -3,8 +3,8 @@ use Rattle.std.proofs.Common.{◌≡◌, ◌⊎◌, ◌∙◌, ◌<◌, ℕ, tru
 use Rattle.std.proofs.lemmas.Bool.{cases_Bool, cases_lt}
 use Rattle.std.proofs.lemmas.Grind.{not_there}
 use Rattle.put_stage.specs.Dues.{is_block, is_nothing}
-use Rattle.put_stage.specs.Stepping.{HasDone, IsDue, IsNext, MayFill, MayFinish}
-use Rattle.put_stage.specs.Working.{Disagrees, due_at}
+use Rattle.put_stage.specs.Steps.{HasDone, IsDue, IsNext, MayFill, MayFinish}
+use Rattle.put_stage.specs.Work.{Disagrees, due_at}
 use Rattle.put_stage.specs.declared.stage.Stage.{Stage}
 use Rattle.put_stage.specs.declared.stage.StageNext.{StageNext}
 use Rattle.put_stage.specs.declared.stage.StageNext.TheVariants.{Fill, Finish, Step}

@@ -12,14 +12,14 @@ use Rattle.desk_base.specs.Telling.Telling.{Head as TheHead}
 use Rattle.drive_base.specs.View.{DriveView, views}
 use Rattle.drive_base.specs.declared.drive.Drive.{Ghosts}
 use Rattle.drive_base.specs.declared.plan.SetPlan.{SetPlan}
-use Rattle.put_stage.specs.Taking.{HasTaken}
-use Rattle.put_stage.specs.Working.{AtWork, why_at}
+use Rattle.put_stage.specs.TakenBodies.{HasTaken}
+use Rattle.put_stage.specs.Work.{AtWork, why_at}
 use Rattle.slot_history.specs.Names.{key_name}
 use Rattle.slot_history.specs.Standing.{Flying}
 use Rattle.slot_core.specs.Stubs.{StubOfNone}
 use Rattle.slot_core.specs.Views.{SlotNumbers}
-use Rattle.slot_core.specs.declared.fault.SlotFault.{SlotFault}
-use Rattle.slot_core.specs.declared.handles.Flight.{Flight}
+use Rattle.slot_core.specs.declared.slot.SlotFault.{SlotFault}
+use Rattle.slot_core.specs.declared.holding.Flight.{Flight}
 use Rattle.slot_core.specs.declared.stub.Stub.{Stub}
 use Rattle.receipts.specs.Events.{Event, IsQuiet, Log, Shown, body_of, calls_at}
 use Rattle.receipts.specs.Events.Event.{BarredFrom, Called, Fed, Told as ToldEvent, Turned}
@@ -29,7 +29,7 @@ use Rattle.receipts.specs.Paying.{Pays}
 use Rattle.receipts.specs.Registers.{bucket_register, bucket_slot, key_slot}
 use Rattle.receipts.proofs.JoinLemmas.{bodies_join, calls_join}
 use Rattle.receipts.proofs.RegisterLemmas.{key_slot_below}
-use Rattle.put_stage.specs.Called.{CalledSo}
+use Rattle.put_stage.specs.CallsSoFar.{CalledSo}
 use Rattle.drive_base.specs.Trail.{DriveCall}
 use Rattle.op_steps.specs.BucketLooks.{LooksSo}
 use Rattle.op_steps.specs.Claims.{Claim, no_claim}
@@ -39,26 +39,23 @@ use Rattle.op_steps.specs.Store.{FeedSeen, SlotSeen, TellerSeen}
 use Rattle.op_steps.specs.Words.{CallsOne, CallsSo, FeedsSo, TellsSo, TurnsSo}
 use Rattle.op_steps.specs.declared.looking.Look.{Look}
 use Rattle.op_steps.proofs.TellLemmas.{told_pays}
-use Rattle.object_ops.specs.Clearing.{HasNone, RemovesOne, TakesTrash, files_left, with_taken}
+use Rattle.object_ops.specs.Clearing.{HasNone, RemovesOne, TakesTrash, files_left, with_taken, AreDue, files_of, ids_of}
 use Rattle.object_ops.specs.Reading.{HasFound}
 use Rattle.object_ops.specs.Put.{PutAsk, left_at, task_of}
-use Rattle.object_ops.specs.PutBegin.{IsNewPut}
-use Rattle.object_ops.specs.PutStands.{ClaimsSo, HasLookedAt, HoldsPut, HoldsRest, IsSamePut, PutStands, PutStandsAt, Stages, ask_of, no_cells}
+use Rattle.object_ops.specs.PutStands.{IsNewPut, ClaimsSo, HasLookedAt, HoldsPut, HoldsRest, IsSamePut, PutStands, PutStandsAt, Stages, ask_of, no_cells}
 use Rattle.object_ops.specs.PutTarget.{key_of, register_of}
 use Rattle.object_ops.specs.declared.put_target.PutTarget.{PutTarget}
 use Rattle.object_ops.specs.declared.put_op.PutOp.{PutOp}
-use Rattle.object_ops.specs.PutWork.{BeginsStage, BeginsWork, StepsWork}
-use Rattle.object_ops.specs.Putting.{AfterLook}
-use Rattle.object_ops.specs.Removing.{AreDue, files_of, ids_of}
+use Rattle.object_ops.specs.PutStageCalls.{BeginsStage, BeginsWork, StepsWork, FillsTo, feed_cut}
+use Rattle.object_ops.specs.PutOutcome.{AfterLook}
 use Rattle.object_ops.specs.declared.clearing.Clearing.{Clearing}
 use Rattle.object_ops.specs.declared.put_state.PutState.{PutState}
 use Rattle.object_ops.specs.declared.put_state.PutState.TheVariants as state
-use Rattle.object_ops.specs.declared.put_work.Work.{Work}
-use Rattle.object_ops.specs.declared.removal.Removal.{Removal}
+use Rattle.object_ops.specs.declared.put_state.Work.{Work}
+use Rattle.object_ops.specs.declared.data_files.Removal.{Removal}
 use Rattle.object_ops.proofs.PutTargets.{gives_none, none_after}
 use Rattle.object_ops.proofs.PutBegins.{BeginSays, begin_turn, first_claim, first_staging}
-use Rattle.object_ops.specs.PutFeeding.{FillsTo, feed_cut}
-use Rattle.object_ops.specs.declared.put_feeding.PutFed.{PutFed}
+use Rattle.object_ops.specs.declared.put_stage_calls.PutFed.{PutFed}
 use Rattle.object_ops.proofs.PutLogs.{cut_pays, fill_on, look_stands}
 use Rattle.object_ops.proofs.PutHolders.{out_or_used}
 use Rattle.object_ops.proofs.PutStepClaims.{looked_on}
@@ -66,6 +63,7 @@ use Rattle.object_ops.proofs.PutSteps.{steps_so}
 use Rattle.object_ops.proofs.RemovalLemmas.{removal_is_call}
 use Rattle.object_ops.proofs.TellingLemmas.{pays_on}
 use Rattle.object_ops.proofs.ReadingTell.{fresh_pays, one_all, quiet_fresh}
+use Rattle.object_ops.proofs.KeyCommitLemmas.{looked_of}
 
 module _ (ask : PutAsk) (read : ℕ) where
   -- an op in this state
@@ -110,14 +108,8 @@ module _ (ask : PutAsk) (read : ℕ) where
       let shards : List (List (List ℕ)) = replicate ask.set.drives [] in
       let one : (j : ℕ) → j < ask.set.drives → slice_index_or shards j [] ≡ [] = λ j low. get_or-replicate ask.set.drives j [] [] low in
       record {
-        looked = looked_on (key_of ask.target).bucket work.mode log event tt (subst (λ (m : Mode). HasLookedAt (key_of ask.target).bucket m log) (sym begins.mode_is) (record {
-          untold = found.fresh.untold;
-          uncut = found.fresh.uncut;
-          idle = found.fresh.idle;
-          look = found.look;
-          sections = found.sections;
-          finds = found.finds;
-        }));
+        looked = looked_on (key_of ask.target).bucket work.mode log event tt (subst (λ (m : Mode). HasLookedAt (key_of ask.target).bucket m log) (sym begins.mode_is)
+            (looked_of (key_of ask.target).bucket mode log found));
         held = subst (λ (f : Flight). HoldsPut (key_of ask.target) f claim) (sym begins.flight_is) held;
         stage_of = record {
           set_is = load.set_is;

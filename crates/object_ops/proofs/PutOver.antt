@@ -8,16 +8,16 @@ use Rattle.call_types.specs.declared.reply.Reply.TheVariants.{Refused}
 use Rattle.drive_base.specs.View.{DriveView, views}
 use Rattle.drive_base.specs.declared.drive.Drive.{Ghosts}
 use Rattle.drive_base.specs.declared.plan.SetPlan.{SetPlan}
-use Rattle.put_stage.specs.declared.staged.Staged.{Staged}
-use Rattle.put_stage.specs.declared.staged.StageFault.{StageFault}
+use Rattle.put_stage.specs.declared.answers.Staged.{Staged}
+use Rattle.put_stage.specs.declared.answers.StageFault.{StageFault}
 use Rattle.slot_history.specs.Names.{key_name}
 use Rattle.slot_rules.specs.declared.commit.Committed.{Committed}
 use Rattle.slot_core.specs.CommitCauses.{CommitCause, deed_in}
-use Rattle.slot_core.specs.Committing.{SaysCommit}
+use Rattle.slot_core.specs.Commits.{SaysCommit}
 use Rattle.slot_core.specs.Stubs.{Says, StubOfEntry, entry_of}
 use Rattle.slot_core.specs.Views.{SlotNumbers}
-use Rattle.slot_core.specs.declared.fault.SlotFault.{SlotFault}
-use Rattle.slot_core.specs.declared.handles.Flight.{Flight}
+use Rattle.slot_core.specs.declared.slot.SlotFault.{SlotFault}
+use Rattle.slot_core.specs.declared.holding.Flight.{Flight}
 use Rattle.slot_core.specs.declared.stub.Stub.{Stub}
 use Rattle.receipts.specs.Events.{IsQuiet, Log, body_of}
 use Rattle.receipts.specs.Events.Event.{Turned}
@@ -32,17 +32,16 @@ use Rattle.op_steps.specs.Ready.{IsReady}
 use Rattle.op_steps.specs.Store.{SlotSeen}
 use Rattle.op_steps.specs.Words.{TurnsSo}
 use Rattle.op_steps.proofs.TellLemmas.{cuts_after, none_pays, none_told}
-use Rattle.object_ops.specs.Clearing.{HasNone, with_taken}
+use Rattle.object_ops.specs.Clearing.{HasNone, with_taken, files_of, ids_of}
 use Rattle.object_ops.specs.Put.{PutAsk, task_of}
 use Rattle.object_ops.specs.PutStands.{HoldsRest, PutStandsAt, Stages}
-use Rattle.object_ops.specs.Putting.{AfterCommit, Answers, refusal_of_stage}
-use Rattle.object_ops.specs.Removing.{files_of, ids_of}
+use Rattle.object_ops.specs.PutOutcome.{AfterCommit, Answers, refusal_of_stage}
 use Rattle.object_ops.specs.PutTarget.{deed_of, key_of}
 use Rattle.object_ops.specs.declared.clearing.Clearing.{Clearing}
 use Rattle.object_ops.specs.declared.put_state.PutState.{PutState}
 use Rattle.object_ops.specs.declared.put_state.PutState.TheVariants as state
-use Rattle.object_ops.specs.declared.put_work.Work.{Work}
-use Rattle.object_ops.specs.declared.removal.Removal.{Removal}
+use Rattle.object_ops.specs.declared.put_state.Work.{Work}
+use Rattle.object_ops.specs.declared.data_files.Removal.{Removal}
 use Rattle.slot_rules.specs.declared.commit.Commit.{Commit}
 use Rattle.body_print.specs.Prints.{HasPrint}
 use Rattle.object_ops.proofs.PutTargets.{owes_call}

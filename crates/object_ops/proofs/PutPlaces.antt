@@ -4,15 +4,15 @@ use Rattle.call_types.specs.declared.why.FileKind.TheVariants.{Format, Register,
 use Rattle.call_types.specs.declared.why.Why.{Why}
 use Rattle.call_types.specs.declared.why.Why.TheVariants.{Good, Failed, Damaged, Behind, Lacks}
 use Rattle.put_stage.specs.Cells.{DataCells}
-use Rattle.put_stage.specs.Coding.{block_at}
-use Rattle.put_stage.specs.Taking.{HasTaken, manifest_in}
-use Rattle.put_stage.specs.Working.{AtWork, HasBy, HasFailedAt, IsBefore, due_at, why_at}
+use Rattle.put_stage.specs.StripeBlocks.{block_at}
+use Rattle.put_stage.specs.TakenBodies.{HasTaken, manifest_in}
+use Rattle.put_stage.specs.Work.{AtWork, HasBy, HasFailedAt, IsBefore, due_at, why_at}
 use Rattle.put_stage.specs.declared.dues.Due.{Due}
 use Rattle.put_stage.specs.declared.dues.Due.TheVariants.{Block, Table, SyncShard, Manifest, SyncManifest, PlaceManifest, PlaceShard, Nothing}
 use Rattle.put_stage.specs.declared.stage.Stage.{Stage}
 use Rattle.put_stage.proofs.FinishLemmas.{whole_manifest}
 use Rattle.put_stage.proofs.LawProofs.{open_stages_place_nothing}
-use Rattle.slot_core.specs.declared.handles.Flight.{Flight}
+use Rattle.slot_core.specs.declared.holding.Flight.{Flight}
 use Rattle.object_ops.specs.Put.{PutAsk}
 use Rattle.object_ops.specs.PutStands.{IsStageOf, no_cells}
 use Rattle.object_ops.proofs.PutWrites.{IsMade}

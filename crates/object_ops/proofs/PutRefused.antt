@@ -1,5 +1,5 @@
 -- The begin of a put that is refused, as a step that leaves any claim.
-use Rattle.std.proofs.Common.{◌≡◌, ◌∙◌, ℕ, List, [], ◌∷◌, ◌++◌, Contains, Option, Some, None, MatchOption, Result, Ok, Err, option_and_then, append-nil, length, inr, refl, sym, ap, subst, subst₂, arith}
+use Rattle.std.proofs.Common.{◌≡◌, ◌∙◌, ℕ, List, [], ◌∷◌, ◌++◌, Option, Some, None, MatchOption, Result, Ok, Err, option_and_then, append-nil, length, inr, refl, sym, ap, subst, subst₂, arith}
 use Rattle.audit_trail.specs.declared.entry.Entry.{Entry}
 use Rattle.call_types.specs.declared.names.Key.{Key}
 use Rattle.call_types.specs.declared.names.Mode.{Mode}
@@ -9,47 +9,47 @@ use Rattle.drive_base.specs.declared.drive.Drive.{Ghosts}
 use Rattle.drive_base.specs.View.{DriveView}
 use Rattle.drive_base.proofs.ViewLemmas.{untouched_are_only_read}
 use Rattle.audit_trail.specs.Entries.{with_entry}
-use Rattle.slot_data.specs.Holding.{Holding}
+use Rattle.slot_core.specs.Hands.{HandsStay}
 use Rattle.slot_core.specs.Sections.{ShowsNoMore}
 use Rattle.slot_core.specs.Stubs.{AuditCounts, StubOfEntry, StubOfNone, entry_of}
-use Rattle.slot_core.specs.Calming.{HasMade}
-use Rattle.slot_core.specs.Views.{SlotNumbers, last_of, quorum_of}
-use Rattle.slot_core.specs.declared.fault.SlotFault.{SlotFault}
-use Rattle.slot_core.specs.declared.fault.SlotFault.TheVariants as slot
-use Rattle.slot_core.specs.declared.handles.Flight.{Flight}
+use Rattle.slot_core.specs.Calm.{HasMade}
+use Rattle.slot_core.specs.Views.{SlotNumbers, last_of}
+use Rattle.slot_core.specs.declared.slot.SlotFault.{SlotFault}
+use Rattle.slot_core.specs.declared.slot.SlotFault.TheVariants as slot
+use Rattle.slot_core.specs.declared.holding.Flight.{Flight}
 use Rattle.slot_core.specs.declared.stub.Stub.{Stub}
 use Rattle.receipts.specs.Events.{IsQuiet, Log, body_of}
 use Rattle.receipts.specs.Events.Event.{Turned}
 use Rattle.receipts.specs.Events.Shown.{NoneShown}
 use Rattle.receipts.specs.Registers.{key_slot}
 use Rattle.receipts.proofs.JoinLemmas.{bodies_join, sections_join}
-use Rattle.op_steps.specs.Claims.{Claim, HoldsAt, IsMet, among, claims_at, disks_of, hands_of, no_claim}
-use Rattle.op_steps.specs.Moves.{ShowsBy, TurnMoves}
+use Rattle.op_steps.specs.Claims.{Claim, HoldsAt, among, claims_at, disks_of, hands_of, no_claim}
+use Rattle.op_steps.specs.Moves.{TurnMoves}
 use Rattle.op_steps.specs.Notes.{note_of, noted, refusal_by}
 use Rattle.op_steps.specs.Store.{SlotSeen}
 use Rattle.op_steps.specs.Words.{TurnsSo}
 use Rattle.op_steps.proofs.CauseLemmas.{FaultCause, answer_cause}
 use Rattle.op_steps.proofs.DataLemmas.{last_rises}
 use Rattle.op_steps.proofs.MovesLemmas.{turn_moves}
-use Rattle.op_steps.proofs.NoteLemmas.{audit_noted, calm_noted, entry_counts, entry_noted, same_entry}
+use Rattle.op_steps.proofs.NoteLemmas.{audit_noted, entry_counts, entry_noted, same_entry}
 use Rattle.op_steps.proofs.TellLemmas.{cuts_after}
-use Rattle.slot_core.specs.Turning.{EntryMoves}
+use Rattle.op_steps.proofs.ClaimLemmas.{nothing_gained}
 use Rattle.object_ops.specs.Clearing.{HasNone}
 use Rattle.object_ops.specs.Reading.{HasFound}
 use Rattle.object_ops.specs.Put.{PutAsk, task_of}
 use Rattle.object_ops.specs.PutStands.{PutStandsAt}
-use Rattle.object_ops.specs.PutWork.{BeginsTo}
-use Rattle.object_ops.specs.Putting.{OwesNext, RefusedBegin}
+use Rattle.object_ops.specs.PutStageCalls.{BeginsTo}
+use Rattle.object_ops.specs.PutOutcome.{OwesNext, RefusedBegin}
 use Rattle.object_ops.specs.PutTarget.{key_of, register_of}
 use Rattle.object_ops.specs.declared.clearing.Clearing.{Clearing}
 use Rattle.object_ops.specs.declared.put_state.PutState.{PutState}
 use Rattle.object_ops.specs.declared.put_state.PutState.TheVariants as state
 use Rattle.object_ops.proofs.PutBegins.{BeginSays}
-use Rattle.object_ops.proofs.PutCommits.{moves_bare}
 use Rattle.object_ops.proofs.PutLogs.{decided_stands}
 use Rattle.object_ops.proofs.PutOpLemmas.{begun_so, rest_none}
 use Rattle.object_ops.proofs.ReadingTell.{fresh_pays, one_all, quiet_fresh}
 use Rattle.object_ops.proofs.TellingLemmas.{untold_after}
+use Rattle.object_ops.proofs.TurnForms.{holds_same, leaves_noted}
 
 -- its stub is that of a section that writes an entry, of which it wrote none
 stub_of : (numbers : SlotNumbers) (fault : SlotFault) (stub : Option Stub) → StubOfNone {T = Flight} numbers (Err fault) stub → StubOfEntry {T = Flight} numbers (Err fault) stub
@@ -101,34 +101,20 @@ module _ {D : Type 0} (ghosts : Ghosts D) where
         faults = entry_counts {T = Flight} was.numbers (Err fault) stub was.faults now.faults stub_is
             (counts_of was.numbers fault stub was.faults now.faults x.turns.stub_is x.turns.faults);
         claims = record { slot = refl; elsewhere = λ other. refl };
+        gains = nothing_gained was.numbers now.numbers was.holding now.holding claim;
         read = untouched_are_only_read disks;
         account = answer_cause ghosts was now claim disks disks {T = Flight} (Err fault) stub stub_is (refused_cause was now at fault stub disks claim x);
         letters = λ name change made.
             absurd (subst (λ (e : Option Entry). HasMade e name change) none (subst (λ (e : Option Entry). HasMade e name change) (same_entry stub) made));
         leaves = λ records state stands.
             let left = x.leaves records state stands in
-            record {
-              records_after = left.after;
-              state_after = left.now;
-              stands = left.stands;
-              stay = left.stay;
-              moves = subst (λ e. EntryMoves was.numbers.index e (ShowsBy e NoneShown) records state left.after left.now) (sym (same_entry stub))
-                  (moves_bare was.numbers.index (entry_of stub) ShowsNoMore records left.after state left.now left.moves);
-              calm = calm_noted (quorum_of was.numbers) stub records state left.after left.now left.calm;
-              holds = λ unseen front rest d.
-                  subst₂ (λ s i. HoldsAt s i (last_of now.numbers) now.holding unseen disks (among front claim rest) left.after left.now)
-                  (sym x.turns.numbers.set) (sym x.turns.numbers.index) (record {
-                    tell = d.tell;
-                    stands = left.holds (disks_of unseen was.numbers.set.out disks) (hands_of (claims_at was.numbers.index (among front claim rest)))
-                        (hands_of (claims_at was.numbers.index (among front claim rest))) refl d.stands;
-                    loose = λ k id inside in_use own above. d.loose k id inside in_use own
-                        (let rises = last_rises was.numbers now.numbers x.turns.numbers in omega (arith, rises, above));
-                    met = λ c there. subst (λ (h : Holding). IsMet was.numbers.set h unseen disks c) (sym x.holds.1) (d.met c there);
-                    apart = d.apart;
-                    flights_are = λ g there. d.flights_are g (subst (λ (h : Holding). Contains h.flights g) x.holds.1 there);
-                    pins_are = λ p there. d.pins_are p (subst (λ (h : Holding). Contains h.pins p) x.holds.1 there);
-                  });
-            };
+            leaves_noted ghosts was now stub ShowsNoMore HandsStay claim claim disks disks records state left (λ unseen front rest d.
+            let claims = among front claim rest in
+            let hands = hands_of (claims_at was.numbers.index claims) in
+            subst₂ (λ s i. HoldsAt s i (last_of now.numbers) now.holding unseen disks claims left.after left.now) (sym x.turns.numbers.set) (sym x.turns.numbers.index)
+            (holds_same was.numbers.set was.numbers.index (last_of was.numbers) (last_of now.numbers) was.holding now.holding unseen disks claims
+            records left.after state left.now (last_rises was.numbers now.numbers x.turns.numbers) x.holds.1 d
+            (left.holds (disks_of unseen was.numbers.set.out disks) hands hands refl d.stands)));
       })
 
 module _ (ask : PutAsk) (read : ℕ) where

@@ -9,20 +9,20 @@ use Rattle.call_types.specs.declared.reply.Reply.{Reply}
 use Rattle.call_types.specs.declared.reply.Reply.TheVariants.{Refused}
 use Rattle.drive_base.specs.declared.plan.SetPlan.{SetPlan}
 use Rattle.slot_rules.specs.declared.commit.Committed.{Committed}
-use Rattle.slot_core.specs.declared.fault.SlotFault.{SlotFault}
-use Rattle.slot_core.specs.declared.fault.SlotFault.TheVariants as slot
-use Rattle.slot_core.specs.declared.handles.Flight.{Flight}
+use Rattle.slot_core.specs.declared.slot.SlotFault.{SlotFault}
+use Rattle.slot_core.specs.declared.slot.SlotFault.TheVariants as slot
+use Rattle.slot_core.specs.declared.holding.Flight.{Flight}
 use Rattle.receipts.specs.declared.barred.Barred.{Barred}
 use Rattle.receipts.specs.declared.barred.Barred.TheVariants as barred
 use Rattle.op_steps.specs.Notes.{refusal_by}
 use Rattle.op_steps.specs.declared.looking.Looked.{Looked}
 use Rattle.op_steps.specs.declared.looking.Looked.TheVariants as looked
 use Rattle.object_ops.specs.Put.{drives_by, long_by, reach_by}
-use Rattle.object_ops.specs.PutWork.{BeginsTo, BeginsWork}
-use Rattle.object_ops.specs.Putting.{AfterCommit, AfterLook, BarredAfter, BarredAt, BarredEnd, OwesNext, RefusedBegin}
+use Rattle.object_ops.specs.PutStageCalls.{BeginsTo, BeginsWork}
+use Rattle.object_ops.specs.PutOutcome.{AfterCommit, AfterLook, BarredAfter, BarredAt, BarredEnd, OwesNext, RefusedBegin}
 use Rattle.object_ops.specs.declared.put_state.PutState.{PutState}
 use Rattle.object_ops.specs.declared.put_state.PutState.TheVariants as state
-use Rattle.object_ops.specs.declared.put_work.Work.{Work}
+use Rattle.object_ops.specs.declared.put_state.Work.{Work}
 
 -- what is asked of the counts of a state
 pub record Sound (long read drives : ℕ) (s : PutState) : Type 0 where

@@ -11,22 +11,22 @@ use Rattle.shard_file.specs.Shards.{root_of}
 use Rattle.body_print.specs.Shards.{AreShards}
 use Rattle.body_print.specs.Staging.{staging_calls}
 use Rattle.put_stage.specs.Dues.{is_nothing}
-use Rattle.put_stage.specs.Stepping.{HasDone}
-use Rattle.put_stage.specs.Taking.{manifest_in}
-use Rattle.put_stage.specs.Working.{due_at, why_at}
+use Rattle.put_stage.specs.Steps.{HasDone}
+use Rattle.put_stage.specs.TakenBodies.{manifest_in}
+use Rattle.put_stage.specs.Work.{due_at, why_at}
 use Rattle.put_stage.specs.declared.dues.Due.{Due}
 use Rattle.put_stage.specs.declared.dues.Due.TheVariants.{Block, Table, SyncShard, Manifest, SyncManifest, PlaceManifest, PlaceShard, Nothing}
-use Rattle.put_stage.specs.declared.staged.Staged.{Staged}
+use Rattle.put_stage.specs.declared.answers.Staged.{Staged}
 use Rattle.put_stage.proofs.SoFarLemmas.{all_calls_are_staging}
 use Rattle.receipts.specs.Events.{Log, body_of, calls_at}
 use Rattle.receipts.specs.Letters.{StageLetter}
 use Rattle.receipts.specs.Staging.{IsStaged, StagedLetter, Staging, manifest_under}
 use Rattle.op_steps.specs.Claims.{Claim}
 use Rattle.object_ops.specs.Put.{PutAsk}
-use Rattle.object_ops.specs.Putting.{Answers}
+use Rattle.object_ops.specs.PutOutcome.{Answers}
 use Rattle.object_ops.specs.PutStands.{Stages}
 use Rattle.object_ops.specs.PutTarget.{register_of}
-use Rattle.object_ops.specs.declared.put_work.Work.{Work}
+use Rattle.object_ops.specs.declared.put_state.Work.{Work}
 use Rattle.receipts.specs.Registers.{key_register}
 use Rattle.call_types.specs.declared.names.Key.{Key}
 

@@ -1,10 +1,10 @@
 -- One call of a stage, as a step of a put.
-use Rattle.std.proofs.Common.{◌≡◌, ◌≢◌, ◌∙◌, ◌<◌, ℕ, IsTrue, List, [], ◌∷◌, ◌++◌, Some, append-nil, cond, false, length, nat_eq, slice_index_or, true, string_bytes, inl, inr, refl, sym, ap, subst, subst₂, arith}
+use Rattle.std.proofs.Common.{◌≡◌, ◌≢◌, ◌∙◌, ◌<◌, ℕ, Bool, IsTrue, List, [], ◌∷◌, ◌++◌, Some, append-nil, cond, false, length, nat_eq, slice_index_or, true, inl, inr, refl, sym, ap, subst, subst₂, arith}
 use Rattle.std.specs.Prelude.{Result, Ok, Err}
 use Rattle.std.specs.Int.{IsBitSet}
 use Rattle.std.proofs.lemmas.Bool.Decides.{eqb_tells}
 use Rattle.std.proofs.lemmas.Bool.{cases_Bool}
-use Rattle.std.proofs.lemmas.List.{get_or-map, get_or-set_same}
+use Rattle.std.proofs.lemmas.List.{get_or-set_same}
 use Rattle.call_types.specs.declared.names.Mode.{Mode}
 use Rattle.call_types.specs.declared.why.Why.{Why}
 use Rattle.call_types.specs.declared.why.Why.TheVariants.{Good, Lacks}
@@ -17,20 +17,20 @@ use Rattle.drive_base.proofs.ViewLemmas.{length-views}
 use Rattle.body_print.specs.Names.{manifest_name}
 use Rattle.file_access.specs.Trails.{AnswerOf}
 use Rattle.put_stage.specs.Calls.{CallsDue}
-use Rattle.put_stage.specs.Called.{CalledSo}
+use Rattle.put_stage.specs.CallsSoFar.{CalledSo}
 use Rattle.put_stage.proofs.SoFarLemmas.{step_calls_elsewhere, step_calls_so}
 use Rattle.put_stage.specs.Cells.{DataCells, Spares, data_of}
-use Rattle.put_stage.specs.Stepping.{IsAfter, LetterOf, Stepped}
-use Rattle.put_stage.specs.Taking.{HasTaken, manifest_in}
-use Rattle.put_stage.specs.Coding.{block_at}
-use Rattle.put_stage.specs.Working.{AtWork, HasBy, IsOfDrive, due_at, why_at}
+use Rattle.put_stage.specs.Steps.{IsAfter, LetterOf, Stepped}
+use Rattle.put_stage.specs.TakenBodies.{HasTaken, manifest_in}
+use Rattle.put_stage.specs.StripeBlocks.{block_at}
+use Rattle.put_stage.specs.Work.{AtWork, HasBy, due_at, why_at}
 use Rattle.put_stage.specs.declared.stage.Load.{Load}
 use Rattle.put_stage.proofs.StepLemmas.{other_why, works_on_others}
 use Rattle.stamp_id.specs.declared.version.VersionId.{VersionId}
 use Rattle.slot_history.specs.Names.{key_name}
 use Rattle.slot_history.specs.Standing.{Flying}
 use Rattle.slot_core.specs.Views.{last_of}
-use Rattle.slot_core.specs.declared.handles.Flight.{Flight}
+use Rattle.slot_core.specs.declared.holding.Flight.{Flight}
 use Rattle.slot_data.specs.Disks.{Disks, Keeps, kept_on}
 use Rattle.slot_data.specs.Holding.{Holding}
 use Rattle.receipts.specs.Events.{IsQuiet, Log, body_of, calls_at}
@@ -39,13 +39,13 @@ use Rattle.receipts.specs.Letters.{IsInUse, StageLetter}
 use Rattle.receipts.proofs.GrowLemmas.{quiet_bodies}
 use Rattle.receipts.proofs.JoinLemmas.{calls_join}
 use Rattle.op_steps.specs.Claims.{Claim, DataHolds, DisksTell, Expected, IsExpected, IsMet, Staging, among, disks_of}
-use Rattle.op_steps.specs.Claims.Expected.{Exactly}
-use Rattle.op_steps.specs.Moves.{CallMoves, KeepsData, SaysUnwritten, SlotKept}
+use Rattle.op_steps.specs.Moves.{CallMoves, ClaimStays, KeepsData, SaysUnwritten, SlotKept}
+use Rattle.op_steps.proofs.ClaimLemmas.{claim_stays}
 use Rattle.object_ops.specs.Put.{PutAsk}
 use Rattle.object_ops.specs.PutStands.{ClaimsSo, ClaimsStage, HasLookedAt, HasWorked, HoldsPut, IsStageOf, Stages, no_cells}
-use Rattle.object_ops.specs.PutWork.{StepsWork}
+use Rattle.object_ops.specs.PutStageCalls.{StepsWork}
 use Rattle.object_ops.specs.PutTarget.{key_of}
-use Rattle.object_ops.specs.declared.put_work.Work.{Work}
+use Rattle.object_ops.specs.declared.put_state.Work.{Work}
 use Rattle.object_ops.proofs.PutCalls.{due_may, letter_grows, made_by, new_letter, step_was_made, unwritten_lacks}
 use Rattle.object_ops.proofs.PutCells.{same_cells}
 use Rattle.object_ops.proofs.PutDisks.{WritesUnder, kept_then}
@@ -53,21 +53,16 @@ use Rattle.object_ops.proofs.PutMine.{met_mine}
 use Rattle.object_ops.proofs.PutPlaces.{is_made, work_manifest}
 use Rattle.object_ops.proofs.PutWrites.{IsMade, IsNone, IsPut, ManifestMoves, elsewhere, here, kept_so, own_part}
 use Rattle.object_ops.proofs.ReadingTell.{one_all}
-use Rattle.object_ops.proofs.PutStepClaims.{with_stage, held_with, goes_with, other_id, other_apart, expected_then, some_staging, some_flying, looked_on, seen_old, seen_new, seen_same}
-
--- the blocks of a drive's shard, whose table it has
-drive_blocks : (load : Load) (body : List ℕ) (shards : List (List (List ℕ))) (k : ℕ) → k < load.set.drives → HasTaken load body shards
-    → IsOfDrive load k (Some (slice_index_or shards k []))
-drive_blocks load body shards k low taken = (
-  taken.of_body,
-  ap (λ l. slice_index_or l k []) taken.tables ∙ get_or-map _ shards k [] [] (let all = taken.are.count in omega (arith, all, low)),
-)
+use Rattle.object_ops.proofs.PutStepClaims.{with_stage, drive_blocks, expected_here, expected_other, expected_then, goes_with, held_with, other_apart, other_id, stage_same, some_staging, some_flying, looked_on, seen_old, seen_new, seen_same}
 
 module _ {D : Type 0} (ghosts : Ghosts D) (ask : PutAsk) (work later : Work) (o : D) (old new : List D) (counted : length old ≡ ask.set.drives)
     (long : length new ≡ length old) (steps : StepsWork ghosts work later old new) (k : ℕ)
     (one : Stepped ghosts k work.stage later.stage old new) (claim : Claim) (log : Log) (x : Stages ask work claim log) where
   abbrev id : VersionId
   id = work.flight.id
+
+  abbrev flying : Flying
+  flying = record { id = id; name = key_name (key_of ask.target) }
 
   abbrev before : DriveView
   before = view_at (views ghosts old) k
@@ -123,19 +118,18 @@ module _ {D : Type 0} (ghosts : Ghosts D) (ask : PutAsk) (work later : Work) (o 
 
   -- the stage goes on for the same put, with the same bytes
   pub stage_on : IsStageOf ask later.flight later.stage
-  stage_on = record {
-    set_is = ap (λ (l : Load). l.set) steps.load ∙ x.stage_of.set_is;
-    id_is = ap (λ (l : Load). l.names.id) steps.load ∙ (x.stage_of.id_is ∙ sym (ap (λ (f : Flight). f.id) steps.flight_is));
-    name_is = ap (λ (l : Load). string_bytes l.name) steps.load ∙ x.stage_of.name_is;
-    stated_is = ap (λ (l : Load). l.stated) steps.load ∙ x.stage_of.stated_is;
-    long_is = ap (λ (l : Load). l.long) steps.load ∙ x.stage_of.long_is;
-  }
-
-  quiet_body : body_of (log ++ Called k made ∷ []) ≡ body_of log
-  quiet_body = quiet_bodies log (Called k made ∷ []) (one_all IsQuiet (Called k made) tt)
+  stage_on = stage_same ask work.flight later.flight work.stage later.stage steps.load steps.flight_is x.stage_of
 
   pub taken_on : HasTaken later.stage.load (body_of (log ++ Called k made ∷ [])) x.shards
-  taken_on = subst₂ (λ (l : Load) (body : List ℕ). HasTaken l body x.shards) (sym steps.load) (sym quiet_body) x.taken
+  taken_on = subst₂ (λ (l : Load) (body : List ℕ). HasTaken l body x.shards) (sym steps.load)
+      (sym (quiet_bodies log (Called k made ∷ []) (one_all IsQuiet (Called k made) tt))) x.taken
+
+  -- what the letter is after a call that failed
+  why_set : (why : Why) → one.answer ≡ Err why → why_at later.stage k ≡ why
+  why_set why is =
+      let there : k < length work.stage.whys = omega (arith, work.stage.letters, one.due.within) in
+      ap (λ (all : List Why). slice_index_or all k Good) (subst (λ a. IsAfter a k work.stage later.stage) is one.stage).0
+      ∙ get_or-set_same work.stage.whys k why Good there
 
   -- letters: that of the call, and those of before
   letters_on : (j : ℕ) → j < ask.set.drives → StageLetter ask.set later.flight.id (log ++ Called k made ∷ []) j (why_at later.stage j)
@@ -154,10 +148,7 @@ module _ {D : Type 0} (ghosts : Ghosts D) (ask : PutAsk) (work later : Work) (o 
           subst (λ (w : Why). StageLetter ask.set id (log ++ Called k made ∷ []) k w) (sym stays)
           (letter_grows ask.set id log (Called k made ∷ []) k (why_at work.stage k) (x.letters k inside))
       by (Err why) is =
-          let there : k < length work.stage.whys = omega (arith, work.stage.letters, one.due.within) in
-          let set_to : why_at later.stage k ≡ why = ap (λ (all : List Why). slice_index_or all k Good)
-          (subst (λ a. IsAfter a k work.stage later.stage) is one.stage).0 ∙ get_or-set_same work.stage.whys k why Good there in
-          subst₂ (λ (w : Why) (y : VersionId). StageLetter ask.set y (log ++ Called k made ∷ []) k w) (sym set_to) x.stage_of.id_is
+          subst₂ (λ (w : Why) (y : VersionId). StageLetter ask.set y (log ++ Called k made ∷ []) k w) (sym (why_set why is)) x.stage_of.id_is
           (new_letter ask.set work.stage.load k (due_at work.stage k) made called.answer log in_use called.is_due why before.tells (data_of id before.files)
           (subst (λ a. AnswerOf a called.answer) is called.answered)
           (subst (λ a. LetterOf a (due_at work.stage k) before.tells (data_of id before.files) before.count after.count) is letter))
@@ -166,20 +157,17 @@ module _ {D : Type 0} (ghosts : Ghosts D) (ask : PutAsk) (work later : Work) (o 
   called_on : (j : ℕ) → j < ask.set.drives → CalledSo later.stage j (slice_index_or x.shards j []) (calls_at j (log ++ Called k made ∷ []))
   called_on j below = elim (eqb_tells k j) [
     | inl same ↦ subst (λ i. CalledSo later.stage i (slice_index_or x.shards i []) (calls_at i (log ++ Called k made ∷ []))) same.1
-        (subst (CalledSo later.stage k (slice_index_or x.shards k [])) (sym (calls_join k log (Called k made ∷ []) ∙ ap (λ l. calls_at k log ++ l) (own (subst (λ i. nat_eq k i ≡ true) (sym same.1) same.0))))
+        (subst (CalledSo later.stage k (slice_index_or x.shards k [])) (sym (calls_join k log (Called k made ∷ []) ∙ ap (λ l. calls_at k log ++ l) (one_call k true (subst (λ i. nat_eq k i ≡ true) (sym same.1) same.0))))
         (step_calls_so work.stage later.stage k one.answer made.call called.answer (slice_index_or x.shards k []) (calls_at k log) steps.load one.due one.placed
         one.stage called.is_due called.answered (drive_blocks work.stage.load (body_of log) x.shards k one.due.within x.taken) (x.called k inside)))
     | inr apart ↦ subst (CalledSo later.stage j (slice_index_or x.shards j []))
-        (sym (calls_join j log (Called k made ∷ []) ∙ (ap (λ l. calls_at j log ++ l) (none j apart.0) ∙ append-nil (calls_at j log))))
+        (sym (calls_join j log (Called k made ∷ []) ∙ (ap (λ l. calls_at j log ++ l) (one_call j false apart.0) ∙ append-nil (calls_at j log))))
         (step_calls_elsewhere work.stage later.stage k j one.answer (slice_index_or x.shards j []) (calls_at j log) steps.load one.stage (λ is. apart.1 (sym is))
         (x.called j below))
   ]
     where
-      own : nat_eq k k ≡ true → calls_at k (Called k made ∷ []) ≡ made.call ∷ []
-      own is = ap (λ b. cond b (made.call ∷ []) [] ++ []) is
-
-      none : (i : ℕ) → nat_eq k i ≡ false → calls_at i (Called k made ∷ []) ≡ []
-      none i is = ap (λ b. cond b (made.call ∷ []) [] ++ []) is
+      one_call : (i : ℕ) (b : Bool) → nat_eq k i ≡ b → calls_at i (Called k made ∷ []) ≡ cond b (made.call ∷ []) [] ++ []
+      one_call i b is = ap (λ c. cond c (made.call ∷ []) [] ++ []) is
 
   -- all but its claim
   pub stages_on : (next : Claim) → HoldsPut (key_of ask.target) work.flight next → ClaimsSo later.stage x.shards id next → Stages ask later next (log ++ Called k made ∷ [])
@@ -195,8 +183,12 @@ module _ {D : Type 0} (ghosts : Ghosts D) (ask : PutAsk) (work later : Work) (o 
     claims = subst (λ (f : Flight). ClaimsSo later.stage x.shards f.id next) (sym steps.flight_is) claims;
   }
 
+  -- the claim with another stage
+  restaged : (staging : Staging) → ClaimStays claim (with_stage claim staging)
+  restaged staging = record { slot = refl; flight = refl; pin = refl; taken = λ own there. there }
+
   -- all but what is held
-  pub calls_on : (next : Claim) → next.slot ≡ claim.slot
+  pub calls_on : (next : Claim) → ClaimStays claim next
       → ((unseen : Disks) (front rest : List Claim) (own : SlotKept) → SaysUnwritten made → own.numbers.index ≡ claim.slot
       → KeepsData ask.set unseen (views ghosts old) (among front claim rest) own → ⊥)
       → ((unseen : Disks) (front rest : List Claim) (own slot : SlotKept) → own.numbers.index ≡ claim.slot
@@ -207,11 +199,11 @@ module _ {D : Type 0} (ghosts : Ghosts D) (ask : PutAsk) (work later : Work) (o 
     within = (let viewed = length-views ghosts old in omega (arith, viewed, low));
     in_use = in_use;
     was_made = made_so;
-    may = due_may work.stage.load k (due_at work.stage k) called.answer called.call claim (record { id = id; name = key_name (key_of ask.target) }) x.held.flight_is
+    may = due_may work.stage.load k (due_at work.stage k) called.answer called.call claim flying x.held.flight_is
         x.stage_of.id_is called.is_due;
     long = writes.long;
     others = others;
-    slot = same;
+    claims = same;
     written = written;
     holds = holds;
   }
@@ -224,9 +216,9 @@ module _ {D : Type 0} (ghosts : Ghosts D) (ask : PutAsk) (work later : Work) (o 
       × ((j : ℕ) → j < ask.set.drives → (IsBitSet ask.set.out j → ⊥) → IsExpected (staging.expected j) (data_of staging.id (view_at (views ghosts old) j).files))
   unmet unseen front rest own staging staged mine kept =
       let met = met_mine own.numbers.set own.numbers.index (last_of own.numbers) own.holding unseen (views ghosts old) front rest claim
-      (record { id = id; name = key_name (key_of ask.target) }) own.records own.state (sym mine) x.held.flight_is x.held.none_known kept.holds in
+      flying own.records own.state (sym mine) x.held.flight_is x.held.none_known kept.holds in
       let put = met.staged staging staged in (
-        put.2 ∙ ap (λ (f : Flying). f.id) (some_flying put.0 (record { id = id; name = key_name (key_of ask.target) }) (sym put.1 ∙ x.held.flight_is)),
+        put.2 ∙ ap (λ (f : Flying). f.id) (some_flying put.0 flying (sym put.1 ∙ x.held.flight_is)),
         subst (λ (s : SetPlan). DisksTell s (views ghosts old)) kept.set_is kept.holds.tell,
         subst (λ (s : SetPlan). (j : ℕ) → j < s.drives → (IsBitSet s.out j → ⊥)
             → IsExpected (staging.expected j) (data_of staging.id (view_at (views ghosts old) j).files)) kept.set_is (met.works staging staged),
@@ -237,12 +229,19 @@ module _ {D : Type 0} (ghosts : Ghosts D) (ask : PutAsk) (work later : Work) (o 
   Steps = (next : Claim) × (call : MadeCall) × Stages ask later next (log ++ Called k call ∷ [])
       × CallMoves ask.set k call claim next (views ghosts old) (views ghosts new)
 
+  -- a claim that no store meets may become any
+  never_on : (next : Claim) → ClaimStays claim next → ((unseen : Disks) (front rest : List Claim) (own : SlotKept) → own.numbers.index ≡ claim.slot
+      → KeepsData ask.set unseen (views ghosts old) (among front claim rest) own → ⊥)
+      → CallMoves ask.set k made claim next (views ghosts old) (views ghosts new)
+  never_on next same never = calls_on next same (λ unseen front rest own says mine kept. never unseen front rest own mine kept)
+      (λ unseen front rest own slot mine kept other. absurd (never unseen front rest own mine kept))
+
   void_step : (staging : Staging) → claim.stage ≡ Some staging → staging.id ≢ id → Steps
   void_step staging staged apart = (
     claim,
     made,
     stages_on claim x.held (staging, staged, inl apart),
-    calls_on claim refl (λ unseen front rest own says mine kept_own. absurd (apart (unmet unseen front rest own staging staged mine kept_own).0)) (λ unseen front rest own slot mine kept_own kept. absurd (apart (unmet unseen front rest own staging staged mine kept_own).0)),
+    never_on claim (claim_stays claim) (λ unseen front rest own mine kept. apart (unmet unseen front rest own staging staged mine kept).0),
   )
 
   -- what is expected of the drive that was called isn't there, or it tells nothing
@@ -253,15 +252,11 @@ module _ {D : Type 0} (ghosts : Ghosts D) (ask : PutAsk) (work later : Work) (o 
         with_stage claim void,
         made,
         stages_on (with_stage claim void) (held_with (key_of ask.target) work.flight claim void x.held) (void, refl, inl (other_apart id)),
-        calls_on (with_stage claim void) refl (λ unseen front rest own says mine kept_own.
-            let u = unmet unseen front rest own staging staged mine kept_own in
+        never_on (with_stage claim void) (restaged void) (λ unseen front rest own mine kept.
+            let u = unmet unseen front rest own staging staged mine kept in
             lost (u.1.tell k inside in_use)
             (subst (λ (y : VersionId). data_of y before.files ≡ worked.cells) u.0
-            (subst (λ (e : Expected). IsExpected e (data_of staging.id before.files)) worked.is (u.2 k inside in_use)))) (λ unseen front rest own slot mine kept_own kept.
-            let u = unmet unseen front rest own staging staged mine kept_own in
-            absurd (lost (u.1.tell k inside in_use)
-            (subst (λ (y : VersionId). data_of y before.files ≡ worked.cells) u.0
-            (subst (λ (e : Expected). IsExpected e (data_of staging.id before.files)) worked.is (u.2 k inside in_use))))),
+            (subst (λ (e : Expected). IsExpected e (data_of staging.id before.files)) worked.is (u.2 k inside in_use)))),
       )
 
   -- it is there
@@ -273,14 +268,12 @@ module _ {D : Type 0} (ghosts : Ghosts D) (ask : PutAsk) (work later : Work) (o 
     abbrev mine : List (List ℕ)
     mine = slice_index_or x.shards k []
 
-    of_drive : IsOfDrive work.stage.load k (Some mine)
-    of_drive = drive_blocks work.stage.load (body_of log) x.shards k one.due.within x.taken
-
     at_new : AtWork later.stage (Some mine) k no_cells now
     at_new =
         subst₂ (λ (y : VersionId) (v : DriveView). AtWork later.stage (Some mine) k no_cells (data_of y v.files)) x.stage_of.id_is
         (sym (seen_new ghosts o old new long k low))
-        (steps.works k o (Some mine) no_cells one.due.within of_drive
+        (steps.works k o (Some mine) no_cells one.due.within
+        (drive_blocks work.stage.load (body_of log) x.shards k one.due.within x.taken)
         (subst (λ (v : DriveView). IsTrue v.tells) (seen_old ghosts o old new long k low) told)
         (subst₂ (λ (y : VersionId) (v : DriveView). AtWork work.stage (Some mine) k no_cells (data_of y v.files)) (sym x.stage_of.id_is)
         (seen_old ghosts o old new long k low) (subst (AtWork work.stage (Some mine) k no_cells) (sym matched) worked.at_work)))
@@ -291,28 +284,16 @@ module _ {D : Type 0} (ghosts : Ghosts D) (ask : PutAsk) (work later : Work) (o 
     abbrev next : Claim
     next = with_stage claim anew
 
-    then_here : anew.expected k ≡ Exactly now
-    then_here = elim (eqb_tells k k) [
-      | inl same ↦ ap (λ b. cond b (Exactly now) (staging.expected k)) same.0
-      | inr apart ↦ absurd (apart.1 refl)
-    ]
-
-    then_other : (j : ℕ) → j ≢ k → anew.expected j ≡ staging.expected j
-    then_other j apart = elim (eqb_tells j k) [
-      | inl same ↦ absurd (apart same.1)
-      | inr differs ↦ ap (λ b. cond b (Exactly now) (staging.expected j)) differs.0
-    ]
-
     claims_on : ClaimsStage later.stage x.shards id anew
     claims_on = record {
       id_is = claims.id_is;
       works = λ j below used. elim (eqb_tells j k) [
-        | inl same ↦ subst (λ i. HasWorked later.stage x.shards i (anew.expected i)) (sym same.1) (record { cells = now; is = then_here; at_work = at_new })
+        | inl same ↦ subst (λ i. HasWorked later.stage x.shards i (anew.expected i)) (sym same.1) (record { cells = now; is = expected_here k now staging.expected; at_work = at_new })
         | inr apart ↦
             let had = claims.works j (subst (λ (l : Load). j < l.set.drives) steps.load below) (subst (λ (l : Load). IsInUse l.set j) steps.load used) in
             record {
               cells = had.cells;
-              is = then_other j apart.1 ∙ had.is;
+              is = expected_other k j now staging.expected apart.1 ∙ had.is;
               at_work = works_on_others one.answer k j work.stage later.stage (Some (slice_index_or x.shards j [])) no_cells had.cells apart.1 one.stage steps.load
                   had.at_work;
             }
@@ -348,9 +329,9 @@ module _ {D : Type 0} (ghosts : Ghosts D) (ask : PutAsk) (work later : Work) (o 
           subst (λ (y : Staging). IsExpected (y.expected j) (data_of y.id (view_at (views ghosts new) j).files)) (some_staging anew given is)
           (elim (eqb_tells j k) [
             | inl same ↦ subst (λ i. IsExpected (anew.expected i) (data_of staging.id (view_at (views ghosts new) i).files)) (sym same.1)
-                (subst (λ (e : Expected). IsExpected e (data_of staging.id after.files)) (sym then_here)
+                (subst (λ (e : Expected). IsExpected e (data_of staging.id after.files)) (sym (expected_here k now staging.expected))
                 (ap (λ (y : VersionId). data_of y after.files) claims.id_is))
-            | inr apart ↦ subst₂ (λ (e : Expected) (v : DriveView). IsExpected e (data_of staging.id v.files)) (sym (then_other j apart.1)) (sym (others j apart.1))
+            | inr apart ↦ subst₂ (λ (e : Expected) (v : DriveView). IsExpected e (data_of staging.id v.files)) (sym (expected_other k j now staging.expected apart.1)) (sym (others j apart.1))
                 (met.works staging staged j below used)
           ]);
       known = met.known;
@@ -362,18 +343,17 @@ module _ {D : Type 0} (ghosts : Ghosts D) (ask : PutAsk) (work later : Work) (o 
         → KeepsData ask.set unseen (views ghosts old) (among front claim rest) own → KeepsData ask.set unseen (views ghosts old) (among front claim rest) slot
         → DataHolds slot.numbers slot.holding unseen (views ghosts new) (among front next rest) slot.records slot.state
     holds_on unseen front rest own slot of_own kept_own kept =
-        let f : Flying = record { id = id; name = key_name (key_of ask.target) } in
         let wrote_own = subst (λ (s : SetPlan). WritesUnder s id k (views ghosts old) (views ghosts new)) (sym kept_own.set_is) writes in
         let wrote = subst (λ (s : SetPlan). WritesUnder s id k (views ghosts old) (views ghosts new)) (sym kept.set_is) writes in
         elim (eqb_tells claim.slot slot.numbers.index) [
           | inl same ↦
-              here slot.numbers slot.holding slot.records slot.state unseen front rest claim next ask.target f k (views ghosts old) (views ghosts new) same.1
+              here slot.numbers slot.holding slot.records slot.state unseen front rest claim next ask.target flying k (views ghosts old) (views ghosts new) same.1
               x.held.flight_is refl x.held.none_known (goes_with claim anew) wrote (moves slot.numbers.set unseen kept.holds.tell wrote) kept.stands kept.holds
               (met_next slot.numbers.set slot.holding unseen
-              (met_mine slot.numbers.set slot.numbers.index (last_of slot.numbers) slot.holding unseen (views ghosts old) front rest claim f slot.records slot.state
+              (met_mine slot.numbers.set slot.numbers.index (last_of slot.numbers) slot.holding unseen (views ghosts old) front rest claim flying slot.records slot.state
               same.1 x.held.flight_is x.held.none_known kept.holds))
           | inr other ↦
-              elsewhere slot.numbers slot.holding slot.records slot.state unseen front rest claim next ask.target f k (views ghosts old) (views ghosts new) other.1
+              elsewhere slot.numbers slot.holding slot.records slot.state unseen front rest claim next ask.target flying k (views ghosts old) (views ghosts new) other.1
               (goes_with claim anew) (x.held.of_slot ∙ sym x.held.slot_is) wrote
               (λ m other_part keeps has.
               let set_same : slot.numbers.set ≡ own.numbers.set = kept.set_is ∙ sym kept_own.set_is in
@@ -390,15 +370,12 @@ module _ {D : Type 0} (ghosts : Ghosts D) (ask : PutAsk) (work later : Work) (o 
     lacking : (why : Why) → one.answer ≡ Err why
         → (HasBy why (due_at later.stage k) (block_at k later.stage.load.window) later.stage.load.made.manifest.items (Some mine) no_cells now → ⊥) → ⊥
     lacking why is empty =
-        let there : k < length work.stage.whys = omega (arith, work.stage.letters, one.due.within) in
-        let set_to : why_at later.stage k ≡ why = ap (λ (all : List Why). slice_index_or all k Good)
-        (subst (λ a. IsAfter a k work.stage later.stage) is one.stage).0 ∙ get_or-set_same work.stage.whys k why Good there in
         empty (subst (λ (w : Why). HasBy w (due_at later.stage k) (block_at k later.stage.load.window) later.stage.load.made.manifest.items (Some mine) no_cells now)
-        set_to at_new.has)
+        (why_set why is) at_new.has)
 
     -- a drive that tells has what was written
-    never : SaysUnwritten made → ⊥
-    never says = elim (unwritten_lacks work.stage.load k (due_at work.stage k) one.answer before after called before.tells (data_of id before.files) letter says) [
+    never_says : SaysUnwritten made → ⊥
+    never_says says = elim (unwritten_lacks work.stage.load k (due_at work.stage k) one.answer before after called before.tells (data_of id before.files) letter says) [
       | inl manifest ↦ lacking (Lacks ManifestKind) manifest (λ has. has)
       | inr shard ↦ lacking (Lacks ShardKind) shard (λ has. has)
     ]
@@ -408,7 +385,7 @@ module _ {D : Type 0} (ghosts : Ghosts D) (ask : PutAsk) (work later : Work) (o 
       next,
       made,
       stages_on next (held_with (key_of ask.target) work.flight claim anew x.held) (anew, refl, inr claims_on),
-      calls_on next refl (λ unseen front rest own says of_own kept_own. never says) holds_on,
+      calls_on next (restaged anew) (λ unseen front rest own says of_own kept_own. never_says says) holds_on,
     )
 
   pub step_on : Steps

@@ -1,24 +1,31 @@
--- The claim, the log and the drives of one call of a stage.
-use Rattle.std.proofs.Common.{◌≡◌, ◌≢◌, ◌∙◌, ◌<◌, ℕ, zero, suc, List, [], ◌∷◌, ◌++◌, All, Some, length, nat_eq, slice_index_or, inl, inr, refl, sym, ap, subst, arith, lit<}
+-- The claim, the log, the blocks and the drives of one call of a stage.
+use Rattle.std.proofs.Common.{◌≡◌, ◌≢◌, ◌∙◌, ◌<◌, ℕ, zero, suc, List, [], ◌∷◌, ◌++◌, All, Some, cond, length, nat_eq, slice_index_or, string_bytes, inl, inr, refl, sym, ap, subst, arith, lit<}
 use Rattle.std.specs.Prelude.{if◌then◌else◌}
+use Rattle.std.proofs.lemmas.Bool.Decides.{eqb_tells}
 use Rattle.std.proofs.lemmas.Bool.{cases_lt}
 use Rattle.std.proofs.lemmas.List.Elements.{All-append}
-use Rattle.std.proofs.lemmas.List.{get_or_past}
+use Rattle.std.proofs.lemmas.List.{get_or-map, get_or_past}
 use Rattle.call_types.specs.declared.names.Key.{Key}
 use Rattle.call_types.specs.declared.names.Mode.{Mode}
 use Rattle.drive_base.specs.View.{blank_view, view, view_at, views}
 use Rattle.drive_base.specs.declared.drive.Drive.{Ghosts}
 use Rattle.drive_base.proofs.ViewLemmas.{length-views, view_at-views}
+use Rattle.body_print.specs.Plans.{data_plan}
 use Rattle.put_stage.specs.Cells.{DataCells}
+use Rattle.put_stage.specs.TakenBodies.{HasTaken}
+use Rattle.put_stage.specs.Work.{IsOfDrive}
+use Rattle.put_stage.specs.declared.stage.Load.{Load}
+use Rattle.put_stage.specs.declared.stage.Stage.{Stage}
 use Rattle.stamp_id.specs.declared.version.VersionId.{VersionId}
 use Rattle.slot_history.specs.Standing.{Flying}
-use Rattle.slot_core.specs.declared.handles.Flight.{Flight}
+use Rattle.slot_core.specs.declared.holding.Flight.{Flight}
 use Rattle.receipts.specs.Events.{Event, IsQuiet, IsUntold, Log}
 use Rattle.receipts.specs.Paying.{ChangesNothing}
 use Rattle.receipts.proofs.GrowLemmas.{quiet_cuts, quiet_sections, quiet_untold}
 use Rattle.op_steps.specs.Claims.{Claim, Expected, Staging}
 use Rattle.op_steps.specs.Claims.Expected.{Exactly}
-use Rattle.object_ops.specs.PutStands.{HasLookedAt, HoldsPut}
+use Rattle.object_ops.specs.Put.{PutAsk}
+use Rattle.object_ops.specs.PutStands.{HasLookedAt, HoldsPut, IsStageOf}
 use Rattle.object_ops.proofs.PutWrites.{GoesOnWith}
 use Rattle.object_ops.proofs.ReadingTell.{one_all}
 
@@ -70,6 +77,18 @@ other_apart id same = other_differs id.slot (ap (λ (x : VersionId). x.slot) sam
 abbrev pub expected_then : ℕ → DataCells → (ℕ → Expected) → ℕ → Expected
 expected_then k cells expected j = if nat_eq j k then Exactly cells else expected j
 
+pub expected_here : (k : ℕ) (cells : DataCells) (expected : ℕ → Expected) → expected_then k cells expected k ≡ Exactly cells
+expected_here k cells expected = elim (eqb_tells k k) [
+  | inl same ↦ ap (λ b. cond b (Exactly cells) (expected k)) same.0
+  | inr apart ↦ absurd (apart.1 refl)
+]
+
+pub expected_other : (k j : ℕ) (cells : DataCells) (expected : ℕ → Expected) → j ≢ k → expected_then k cells expected j ≡ expected j
+expected_other k j cells expected apart = elim (eqb_tells j k) [
+  | inl same ↦ absurd (apart same.1)
+  | inr differs ↦ ap (λ b. cond b (Exactly cells) (expected j)) differs.0
+]
+
 pub exactly_is : (a b : DataCells) → Exactly a ≡ Exactly b → a ≡ b
 exactly_is a b e = cc
 
@@ -79,7 +98,15 @@ some_staging a b e = cc
 pub some_flying : (a b : Flying) → Some a ≡ Some b → a ≡ b
 some_flying a b e = cc
 
--- ---- the log
+-- ---- the log, and the blocks that it has
+
+-- the blocks of a drive's shard, whose table it has
+pub drive_blocks : (load : Load) (body : List ℕ) (shards : List (List (List ℕ))) (k : ℕ) → k < load.set.drives → HasTaken load body shards
+    → IsOfDrive load k (Some (slice_index_or shards k []))
+drive_blocks load body shards k low taken = (
+  taken.of_body,
+  ap (λ l. slice_index_or l k []) taken.tables ∙ get_or-map _ shards k [] [] (let all = taken.are.count in omega (arith, all, low)),
+)
 
 -- quiet events keep what a put has looked at
 pub looked_on : (bucket : List ℕ) (mode : Mode) (log : Log) (event : Event) → IsQuiet event → HasLookedAt bucket mode log → HasLookedAt bucket mode (log ++ event ∷ [])
@@ -94,6 +121,17 @@ looked_on bucket mode log event quiet x =
       sections = same ∙ x.sections;
       finds = x.finds;
     }
+
+-- a stage with the same load is of the same put
+pub stage_same : (ask : PutAsk) (flight other : Flight) (stage later : Stage) → later.load ≡ stage.load → other ≡ flight → IsStageOf ask flight stage
+    → IsStageOf ask other later
+stage_same ask flight other stage later load same x = record {
+  set_is = ap (λ (l : Load). l.set) load ∙ (x.set_is ∙ sym (ap (λ (f : Flight). data_plan ask.set f.id) same));
+  id_is = ap (λ (l : Load). l.names.id) load ∙ (x.id_is ∙ sym (ap (λ (f : Flight). f.id) same));
+  name_is = ap (λ (l : Load). string_bytes l.name) load ∙ x.name_is;
+  stated_is = ap (λ (l : Load). l.stated) load ∙ x.stated_is;
+  long_is = ap (λ (l : Load). l.long) load ∙ x.long_is;
+}
 
 -- ---- the drives, as they are seen
 

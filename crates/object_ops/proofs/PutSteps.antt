@@ -11,8 +11,8 @@ use Rattle.op_steps.specs.Claims.{Claim}
 use Rattle.op_steps.specs.Moves.{CallMoves}
 use Rattle.object_ops.specs.Put.{PutAsk}
 use Rattle.object_ops.specs.PutStands.{Stages}
-use Rattle.object_ops.specs.PutWork.{StepsWork}
-use Rattle.object_ops.specs.declared.put_work.Work.{Work}
+use Rattle.object_ops.specs.PutStageCalls.{StepsWork}
+use Rattle.object_ops.specs.declared.put_state.Work.{Work}
 use Rattle.object_ops.proofs.PutStep.{step_on}
 
 pub steps_so : {D : Type 0} (ghosts : Ghosts D) (ask : PutAsk) (work later : Work) (old new : List D) → length old ≡ ask.set.drives → length new ≡ length old

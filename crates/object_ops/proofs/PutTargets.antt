@@ -7,15 +7,15 @@ use Rattle.call_types.specs.declared.reply.Reply.TheVariants.{Found}
 use Rattle.desk_base.specs.Answering.{bytes_after}
 use Rattle.desk_base.specs.Calls.{IsKey, stated_length}
 use Rattle.drive_base.specs.declared.plan.SetPlan.{SetPlan}
-use Rattle.put_stage.specs.declared.staged.Staged.{Staged}
+use Rattle.put_stage.specs.declared.answers.Staged.{Staged}
 use Rattle.receipts.specs.Committing.{KeyIsBarred}
 use Rattle.receipts.specs.Events.{Log, body_of}
 use Rattle.receipts.specs.Looks.{EndsAtLook}
 use Rattle.receipts.specs.Owes.{OwesCall}
 use Rattle.receipts.specs.Putting.{BodyIsNotTaken, DigestDiffers, PutIsNotBegun}
 use Rattle.receipts.specs.Spans.{GivesBytes}
-use Rattle.slot_core.specs.Committing.{FitsFlight}
-use Rattle.slot_core.specs.declared.handles.Flight.{Flight}
+use Rattle.slot_core.specs.Commits.{FitsFlight}
+use Rattle.slot_core.specs.declared.holding.Flight.{Flight}
 use Rattle.slot_data.specs.Disks.{IsForKeyOf}
 use Rattle.slot_history.specs.Names.{key_name, path_of}
 use Rattle.slot_rules.specs.Deeds.{IsLawfulDeed, IsNamedDeed, brings_of, name_of}

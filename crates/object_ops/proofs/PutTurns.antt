@@ -10,15 +10,15 @@ use Rattle.op_steps.specs.declared.next.OpNext.TheVariants as next
 use Rattle.object_ops.specs.Put.{left_at, long_by, reach_by, step_at, work_step}
 use Rattle.op_steps.specs.Store.{FeedSeen}
 use Rattle.receipts.specs.declared.barred.Barred.{Barred}
-use Rattle.object_ops.specs.PutFeeding.{FeedsTo}
-use Rattle.object_ops.specs.Putting.{BarredAfter}
+use Rattle.object_ops.specs.PutStageCalls.{FeedsTo}
+use Rattle.object_ops.specs.PutOutcome.{BarredAfter}
 use Rattle.object_ops.specs.PutStands.{IsSamePut, PutStandsAt, ask_of}
-use Rattle.object_ops.specs.declared.put_feeding.PutFed.{PutFed}
+use Rattle.object_ops.specs.declared.put_stage_calls.PutFed.{PutFed}
 use Rattle.object_ops.specs.declared.clearing.Clearing.{Clearing}
 use Rattle.object_ops.specs.declared.put_op.PutOp.{PutOp}
 use Rattle.object_ops.specs.declared.put_state.PutState.{PutState}
 use Rattle.object_ops.specs.declared.put_state.PutState.TheVariants as state
-use Rattle.object_ops.specs.declared.put_work.Work.{Work}
+use Rattle.object_ops.specs.declared.put_state.Work.{Work}
 use Rattle.object_ops.proofs.LeftLemmas.{is_data}
 use Rattle.object_ops.proofs.PutOpLemmas.{same_ask}
 

@@ -13,7 +13,7 @@ use Rattle.manifest_file.specs.declared.manifest.Manifest.{Manifest}
 use Rattle.manifest_file.proofs.LawProofs.{files_injective}
 use Rattle.body_print.specs.Names.{manifest_name}
 use Rattle.put_stage.specs.Cells.{data_of}
-use Rattle.put_stage.specs.Working.{HasNoneLoose}
+use Rattle.put_stage.specs.Work.{HasNoneLoose}
 use Rattle.slot_history.specs.Contents.{number_of_id}
 use Rattle.slot_history.specs.Names.{key_name}
 use Rattle.slot_history.specs.Standing.{Flying, Records}
@@ -29,8 +29,8 @@ use Rattle.slot_core.specs.Views.{SlotNumbers, last_of}
 use Rattle.version_list.specs.State.{AreDistinct}
 use Rattle.op_steps.specs.Claims.{AllApart, Claim, DataHolds, DisksTell, IsExpected, IsMet, Staging, among, claims_at, disks_of, hands_of}
 use Rattle.op_steps.specs.Moves.{RecordsStand}
-use Rattle.op_steps.proofs.DataLemmas.{claims_elsewhere}
-use Rattle.op_steps.proofs.LiveFileLemmas.{at_own}
+use Rattle.op_steps.proofs.ClaimLemmas.{claims_elsewhere}
+use Rattle.op_steps.proofs.ClaimLemmas.{at_own}
 use Rattle.object_ops.specs.PutTarget.{key_of, register_of}
 use Rattle.object_ops.specs.declared.put_target.PutTarget.{PutTarget}
 use Rattle.object_ops.proofs.PutTargets.{register_for}

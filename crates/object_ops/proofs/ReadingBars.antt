@@ -5,7 +5,7 @@ use Rattle.call_types.specs.declared.names.Key.{Key}
 use Rattle.call_types.specs.declared.names.Mode.{Mode}
 use Rattle.call_types.specs.declared.refusal.Refusal.TheVariants.{SeqSpent}
 use Rattle.call_types.specs.declared.reply.Reply.TheVariants as reply_of
-use Rattle.slot_core.specs.declared.handles.Pin.{Pin}
+use Rattle.slot_core.specs.declared.holding.Pin.{Pin}
 use Rattle.receipts.specs.Committing.{KeyIsBarred}
 use Rattle.receipts.specs.Events.{IsQuiet, IsUntold, Log}
 use Rattle.receipts.specs.Events.Event.{BarredFrom}

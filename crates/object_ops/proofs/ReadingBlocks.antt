@@ -21,7 +21,7 @@ use Rattle.get_read.specs.Readers.{Told, all_calls}
 use Rattle.get_read.specs.Refusing.{FewBlocksIn}
 use Rattle.receipts.specs.Events.{Log, Saw}
 use Rattle.receipts.specs.Letters.{BlockLetter, FewBlocks, IsGoodBlock, IsInUse, IsSinceTurned, ShowedAt, Wants}
-use Rattle.object_ops.specs.ReadingLog.{AreLogged, IsLogged}
+use Rattle.object_ops.specs.ReadingTold.{AreLogged, IsLogged}
 use Rattle.object_ops.proofs.ReadingManifest.{serves, wanted}
 use Rattle.object_ops.proofs.ReadingSpans.{saw_so}
 

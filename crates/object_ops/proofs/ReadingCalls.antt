@@ -17,7 +17,7 @@ use Rattle.receipts.proofs.GrowLemmas.{quiet_tales}
 use Rattle.op_steps.specs.Claims.{Claim}
 use Rattle.op_steps.specs.Words.{CallsOne}
 use Rattle.op_steps.proofs.LookLemmas.{read_is_call}
-use Rattle.object_ops.specs.ReadingLog.{AreLogged, IsLogged}
+use Rattle.object_ops.specs.ReadingTold.{AreLogged, IsLogged}
 use Rattle.object_ops.proofs.ReadingSpans.{call_logged, event_logged, none_logged}
 use Rattle.object_ops.proofs.ReadingTell.{none_all, one_all}
 

@@ -22,6 +22,7 @@ use Rattle.op_steps.specs.Claims.{AllApart, Claim, HoldsAt, IsMet, among, claims
 use Rattle.object_ops.specs.Reading.{pinned_claim}
 use Rattle.object_ops.proofs.ClaimLemmas.{flight_stays, pin_stays}
 use Rattle.object_ops.proofs.ReadingLists.{flat_has, flat_there, none_some, of_some, out_apart, out_distinct, put_apart}
+use Rattle.object_ops.proofs.PutMine.{met_none}
 
 -- ---- the claims of a slot, of which one is this
 
@@ -293,16 +294,6 @@ module _ (set : SetPlan) (index last later : ℕ) (held holding : Holding) (p : 
     | inr none ↦ absurd (none.0 p listed refl)
   ]
 
-  met_none : IsMet set holding unseen disks (no_claim index)
-  met_none = record {
-    flight = λ f none. absurd (none_some f none);
-    pin = λ q none. absurd (none_some q none);
-    staged = λ s none. absurd (none_some s none);
-    works = λ s none. absurd (none_some s none);
-    known = λ x none. absurd (none_there x none);
-    unwritten = λ f k none. absurd (none_some f none);
-  }
-
   pub end_holds : ((hands : Hands) → MayLetGo set p.ticket held (disks_of unseen set.out disks) hands hands
       → DataStands set index last records state held (disks_of unseen set.out disks) hands
       → DataStands set index later after now holding (disks_of unseen set.out disks) hands)
@@ -316,7 +307,7 @@ module _ (set : SetPlan) (index last later : ℕ) (held holding : Holding) (p : 
             (leaves (hands_of (claims_at index (among front (pinned_claim index p) rest))) may_go d.stands);
         loose = λ k id inside in_use own above. d.loose k id inside in_use own (omega (arith, rises, above));
         met = λ c there. elim (whose F (no_claim index) R c (subst (λ l. Contains l c) is there)) [
-          | Own own ↦ subst (IsMet set holding unseen disks) own met_none
+          | Own own ↦ subst (IsMet set holding unseen disks) own (met_none set holding unseen disks index)
           | Other other ↦ met_less c other
         ];
         apart = subst AllApart (sym is) (record {

@@ -22,7 +22,7 @@ use Rattle.get_read.specs.declared.reader.ReadStep.{ReadStep}
 use Rattle.get_read.specs.declared.reader.ReadStep.TheVariants.{Done, More, Piece}
 use Rattle.get_read.specs.declared.state.Asked.{Asked}
 use Rattle.get_read.specs.declared.state.State.{State}
-use Rattle.slot_core.specs.declared.handles.Pin.{Pin}
+use Rattle.slot_core.specs.declared.holding.Pin.{Pin}
 use Rattle.span_plan.specs.Span.{Plans}
 use Rattle.receipts.specs.Events.{Log, tale_of}
 use Rattle.receipts.specs.Letters.{CannotRead, FewBlocks}
@@ -33,12 +33,12 @@ use Rattle.receipts.specs.Registers.{key_slot}
 use Rattle.receipts.specs.Spans.{AreOfVersion, body_length, whole_of}
 use Rattle.op_steps.specs.Claims.{Claim}
 use Rattle.op_steps.specs.Words.{CallsOne}
-use Rattle.object_ops.specs.Get.{GetStands, fetched_state}
+use Rattle.object_ops.specs.Read.{ReadStands, fetched_state}
 use Rattle.object_ops.specs.Reading.{HasPin, HoldsPin}
-use Rattle.object_ops.specs.ReadingLog.{AreLogged, IsLogged}
+use Rattle.object_ops.specs.ReadingTold.{AreLogged, IsLogged, HasTold, IsFetching, IsGiving}
 use Rattle.object_ops.specs.ReadingPlan.{IsOfSpan, wanted_by}
 use Rattle.object_ops.specs.ReadingStep.{IsStepped, ReadsSo, StaysReading}
-use Rattle.object_ops.specs.ReadingTold.{HasTold, IsFetching, IsGiving}
+use Rattle.object_ops.specs.declared.read_op.ReadKind.TheVariants as asks
 use Rattle.object_ops.specs.declared.reading.Reading.{Reading}
 use Rattle.object_ops.specs.declared.reading.Stepped.{Stepped}
 use Rattle.object_ops.specs.declared.reading.Stepped.TheVariants.{Gives, Goes, LacksMemory, Refused}
@@ -141,7 +141,7 @@ module _ (set : SetPlan) (at : Key) (pick : Pick) (ask : RangeAsk) (matches : Op
     -- too few drives gave what is next, before the head was told or after
     few : (whys : List Why) (bytes : List ℕ) (pin : Option Pin) (claim : Claim) (t : Bool) → (x : HasRead new told bytes bytes log) → new.told ≡ t
         → IsRefusedIn new.reader.asked (ShardQuorum whys) told (length bytes) → HasPin (key_slot at) pin claim
-        → GetStands set (the_task set at pick ask matches now) at pick ask (fetched_state (Refused whys) t) pin (Some new) claim log
+        → ReadStands set (the_task set at pick ask matches now) at pick (asks.Get ask) (fetched_state (Refused whys) t) pin (Some new) claim log
     few whys bytes pin claim false x is refused has =
         let none = subst (λ b. HasTold set (the_task set at pick ask matches now) at pick x.version new.span x.id b bytes log) is x.has_told in
         let some : 0 < new.span.length = omega (arith, x.counted, x.more) in
@@ -229,12 +229,12 @@ module _ (set : SetPlan) (at : Key) (pick : Pick) (ask : RangeAsk) (matches : Op
         → HasRead new told (given_after answer new.reader.piece.items x.given) x.given later
         → AnswersBy answer new.reader.asked new.reader.state new.reader.piece.items told (given_after answer new.reader.piece.items x.given)
         → (answer ≡ Ok Piece → told.since ≡ []) → HasPin (key_slot at) pin claim
-        → GetStands set (the_task set at pick ask matches now) at pick ask (fetched_state stepped new.told) pin (Some new) claim later
+        → ReadStands set (the_task set at pick ask matches now) at pick (asks.Get ask) (fetched_state stepped new.told) pin (Some new) claim later
     stands_so (Ok More) stepped told later pin claim is r answers turned has =
-        subst (λ s. GetStands set (the_task set at pick ask matches now) at pick ask (fetched_state s new.told) pin (Some new) claim later) (sym is)
+        subst (λ s. ReadStands set (the_task set at pick ask matches now) at pick (asks.Get ask) (fetched_state s new.told) pin (Some new) claim later) (sym is)
         (has, goes new told later x.given r)
     stands_so (Ok Piece) stepped told later pin claim is r answers turned has =
-        subst (λ s. GetStands set (the_task set at pick ask matches now) at pick ask (fetched_state s new.told) pin (Some new) claim later) (sym is)
+        subst (λ s. ReadStands set (the_task set at pick ask matches now) at pick (asks.Get ask) (fetched_state s new.told) pin (Some new) claim later) (sym is)
         (has, gives new told later x.given r (turned refl) answers.0 answers.1)
     stands_so (Ok Done) stepped told later pin claim is r answers turned has =
         let span : new.reader.asked.span.length ≡ new.span.length = ap (λ (s : Span). s.length) r.of_span.span_is in
@@ -256,15 +256,15 @@ module _ {D : Type 0} (ghosts : Ghosts D) (set : SetPlan) (at : Key) (pick : Pic
   pub fetched : (old new : Reading) (stepped : Stepped) (pin : Option Pin) (claim : Claim) (log : Log) (before after : List D) → StaysReading old new
       → ReadsSo ghosts old new stepped before after → length after ≡ length before → HasPin (key_slot at) pin claim
       → IsFetching set (the_task set at pick ask matches now) at pick ask old log
-      → CallsOne (GetStands set (the_task set at pick ask matches now) at pick ask (fetched_state stepped new.told) pin (Some new)) set claim log
+      → CallsOne (ReadStands set (the_task set at pick ask matches now) at pick (asks.Get ask) (fetched_state stepped new.told) pin (Some new)) set claim log
       (views ghosts before) (views ghosts after)
-      ⊎ (GetStands set (the_task set at pick ask matches now) at pick ask (fetched_state stepped new.told) pin (Some new) claim log
+      ⊎ (ReadStands set (the_task set at pick ask matches now) at pick (asks.Get ask) (fetched_state stepped new.told) pin (Some new) claim log
       × (views ghosts after ≡ views ghosts before))
   fetched old new stepped pin claim log before after stays (inl lacks_it) long has x =
       let pays : Pays set (the_task set at pick ask matches now) (Some cut_of.NoMemory) log =
       lack_pays set at pick ask matches now x.version old.span x.id old.told x.given log x.has_told (omega (arith, x.counted))
       (of_version set ask x.version x.id old x.told x.given log x.of_span x.all_logged x.account.exact) in inr (
-        subst (λ s. GetStands set (the_task set at pick ask matches now) at pick ask (fetched_state s new.told) pin (Some new) claim log) (sym lacks_it.0) (has, pays),
+        subst (λ s. ReadStands set (the_task set at pick ask matches now) at pick (asks.Get ask) (fetched_state s new.told) pin (Some new) claim log) (sym lacks_it.0) (has, pays),
         ap (views ghosts) lacks_it.1,
       )
   fetched old new stepped pin claim log before after stays (inr stepped_so) long has x =
@@ -284,7 +284,7 @@ module _ {D : Type 0} (ghosts : Ghosts D) (set : SetPlan) (at : Key) (pick : Pic
       let r = read_on set at pick ask matches now old new log x stays told given calls account
       (all_logged_on ghosts set turned x.told calls log before after are x.all_logged)
       (logged_on ghosts set turned x.told calls log before after are x.all_logged x.logged) in
-      calls_so ghosts set (GetStands set (the_task set at pick ask matches now) at pick ask (fetched_state stepped new.told) pin (Some new)) calls before after claim log
+      calls_so ghosts set (ReadStands set (the_task set at pick ask matches now) at pick (asks.Get ask) (fetched_state stepped new.told) pin (Some new)) calls before after claim log
       long are
       (stands_so set at pick ask matches now old new log x stays answer stepped told (log ++ events_of calls) pin claim stepped_so.2 r answers
       (turned_so answer old.reader.state new.reader.state x.told calls) has)

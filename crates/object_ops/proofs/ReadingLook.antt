@@ -9,7 +9,7 @@ use Rattle.call_types.specs.declared.reply.Reply.{Reply}
 use Rattle.call_types.specs.declared.reply.Reply.TheVariants as reply_of
 use Rattle.slot_core.specs.Stubs.{IsStub, Says}
 use Rattle.slot_core.specs.Views.{SlotNumbers}
-use Rattle.slot_core.specs.declared.fault.SlotFault.{SlotFault}
+use Rattle.slot_core.specs.declared.slot.SlotFault.{SlotFault}
 use Rattle.slot_core.specs.declared.stub.Stub.{Stub}
 use Rattle.receipts.specs.Events.{IsUntold, Log, Section, Shown, sections_of}
 use Rattle.receipts.specs.Events.Event.{BarredFrom, Turned}

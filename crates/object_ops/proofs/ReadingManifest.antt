@@ -28,7 +28,7 @@ use Rattle.get_read.specs.Outcomes.{wanted_of}
 use Rattle.get_read.specs.Refusing.{NoneServesIn}
 use Rattle.receipts.specs.Events.{Log, Saw}
 use Rattle.receipts.specs.Letters.{IsInUse, ManifestLetter, NoneServes, Serves, Wanted}
-use Rattle.object_ops.specs.ReadingLog.{AreLogged}
+use Rattle.object_ops.specs.ReadingTold.{AreLogged}
 use Rattle.object_ops.proofs.ReadingLists.{is_none}
 use Rattle.object_ops.proofs.ReadingSpans.{saw_so}
 

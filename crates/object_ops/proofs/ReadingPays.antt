@@ -34,9 +34,8 @@ use Rattle.op_steps.specs.Ready.{IsReady}
 use Rattle.op_steps.specs.Store.{TellerSeen}
 use Rattle.op_steps.proofs.TellLemmas.{cuts_after, none_told}
 use Rattle.object_ops.specs.Reading.{IsFresh}
-use Rattle.object_ops.specs.ReadingLog.{AreLogged}
+use Rattle.object_ops.specs.ReadingTold.{AreLogged, HasTold, TellsBytes, TellsNone}
 use Rattle.object_ops.specs.ReadingPlan.{IsOfSpan, wanted_by}
-use Rattle.object_ops.specs.ReadingTold.{HasTold, TellsBytes, TellsNone}
 use Rattle.object_ops.specs.declared.reading.Reading.{Reading}
 use Rattle.object_ops.proofs.ReadingSpans.{span_so, version_so}
 use Rattle.object_ops.proofs.ReadingTell.{fresh_pays, none_all, quiet_fresh}

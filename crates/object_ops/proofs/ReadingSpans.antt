@@ -18,7 +18,7 @@ use Rattle.receipts.specs.Events.Event.{Called}
 use Rattle.receipts.specs.Letters.{Wanted}
 use Rattle.receipts.specs.Reading.{IsWanted}
 use Rattle.receipts.specs.Spans.{AreOfSpan, AreOfVersion}
-use Rattle.object_ops.specs.ReadingLog.{AreLogged}
+use Rattle.object_ops.specs.ReadingTold.{AreLogged}
 
 -- the call of a drive
 abbrev call_of : ℕ → MadeCall → Call

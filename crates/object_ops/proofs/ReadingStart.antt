@@ -21,13 +21,13 @@ use Rattle.version_list.specs.Reads.{Reads}
 use Rattle.version_list.specs.Step.{told as told_name}
 use Rattle.version_list.specs.declared.state.KeyState.{KeyState}
 use Rattle.slot_history.specs.Doing.{body_length, whole_of as slot_whole}
-use Rattle.slot_core.specs.Reading.{IsFound, ReadCause}
+use Rattle.slot_core.specs.ReadSection.{IsFound, ReadCause}
 use Rattle.slot_core.specs.Sections.{ReadDeed, SaysRead}
 use Rattle.slot_core.specs.Stubs.{IsStub, Says, StubOfEntry, Writes, WritesNone}
 use Rattle.slot_core.specs.Views.{SlotNumbers}
-use Rattle.slot_core.specs.declared.fault.SlotFault.{SlotFault}
-use Rattle.slot_core.specs.declared.fault.SlotFault.TheVariants.{AuditFailed, Key, NoMemory, NotInFlight, Quorum, SeqSpent}
-use Rattle.slot_core.specs.declared.reading.ReadStart.{ReadStart}
+use Rattle.slot_core.specs.declared.slot.SlotFault.{SlotFault}
+use Rattle.slot_core.specs.declared.slot.SlotFault.TheVariants.{AuditFailed, Key, NoMemory, NotInFlight, Quorum, SeqSpent}
+use Rattle.slot_core.specs.declared.read_plan.ReadStart.{ReadStart}
 use Rattle.slot_core.specs.declared.stub.Stub.{Stub}
 use Rattle.receipts.specs.Dues.{IsDueRead}
 use Rattle.receipts.specs.Events.{Log, Section, sections_of}
@@ -41,9 +41,9 @@ use Rattle.receipts.specs.Spans.{body_length as receipt_length, whole_of}
 use Rattle.receipts.proofs.JoinLemmas.{sections_join}
 use Rattle.op_steps.specs.Notes.{note_of, noted, refusal_by}
 use Rattle.object_ops.specs.Reading.{HasFound, IsFresh}
-use Rattle.object_ops.specs.ReadingStart.{IsOfFault, RefusesSo, StartsSo}
-use Rattle.object_ops.specs.declared.reading_start.Started.{Started}
-use Rattle.object_ops.specs.declared.reading_start.Started.TheVariants as started
+use Rattle.object_ops.specs.ReadingPlan.{IsOfFault, RefusesSo, StartsSo}
+use Rattle.object_ops.specs.declared.reading.Started.{Started}
+use Rattle.object_ops.specs.declared.reading.Started.TheVariants as started
 use Rattle.object_ops.proofs.ReadingLook.{has_entry, no_refusal, said}
 use Rattle.object_ops.proofs.ReadingTell.{more_fresh, turn_fresh}
 

@@ -1,5 +1,6 @@
 -- The begin and the end of a read, as steps of an op that has the pin between them.
-use Rattle.std.proofs.Common.{◌≡◌, ◌∙◌, ℕ, List, Contains, Option, Some, None, Result, Ok, Err, MatchOption, refl, sym, subst, subst₂, arith}
+use Rattle.std.proofs.Common.{◌≡◌, ◌∙◌, ℕ, List, [], ◌∷◌, Contains, Option, Some, None, Result, Ok, Err, MatchOption, inl, inr, refl, sym, subst, subst₂, arith}
+use Rattle.std.proofs.lemmas.List.Elements.{Contains-append_right}
 use Rattle.audit_trail.specs.declared.entry.Deed.{Deed}
 use Rattle.audit_trail.specs.declared.entry.Entry.{Entry}
 use Rattle.call_types.specs.Refusals.{refusal_of}
@@ -10,31 +11,31 @@ use Rattle.call_types.specs.declared.refusal.KeyRefusal.{KeyRefusal}
 use Rattle.drive_base.specs.View.{DriveView, views}
 use Rattle.drive_base.specs.declared.drive.Drive.{Ghosts}
 use Rattle.stamp_id.specs.declared.stamp.ChangeId.{ChangeId}
-use Rattle.drive_base.proofs.ViewLemmas.{untouched_are_only_read}
 use Rattle.register_core.specs.declared.faults.QuorumFault.{QuorumFault}
 use Rattle.slot_history.specs.Names.{key_name}
 use Rattle.slot_history.specs.Standing.{Records}
 use Rattle.slot_history.specs.State.{State}
+use Rattle.slot_history.proofs.TakenLemmas.{first_there}
 use Rattle.slot_data.specs.Disks.{Disks}
 use Rattle.slot_data.specs.Holding.{Holding, Pinned}
 use Rattle.slot_data.specs.Holding.Purpose.{ForRead}
 use Rattle.slot_data.specs.Standing.{DataStands}
-use Rattle.slot_core.specs.Calming.{HasMade, OnlyLooked}
+use Rattle.slot_core.specs.Calm.{HasMade, OnlyLooked}
 use Rattle.slot_core.specs.Hands.{HandsStay}
-use Rattle.slot_core.specs.Reading.{ReadCause}
+use Rattle.slot_core.specs.ReadSection.{ReadCause}
 use Rattle.slot_core.specs.Sections.{MayLetGo, PinGoes, ReadDeed, ReadHolds, SaysKept, SaysRead, ShowsNoMore}
 use Rattle.slot_core.specs.Stubs.{Says, completed_by, entry_of}
-use Rattle.slot_core.specs.Turning.{EntryMoves, Leaves, Turns, TurnsQuietly}
-use Rattle.slot_core.specs.Views.{last_of, quorum_of}
-use Rattle.slot_core.specs.declared.fault.SlotFault.{SlotFault}
-use Rattle.slot_core.specs.declared.fault.SlotFault.TheVariants.{AuditFailed, Key as KeyFault, NoMemory, NotInFlight, Quorum, SeqSpent}
-use Rattle.slot_core.specs.declared.reading.ReadStart.{ReadStart}
+use Rattle.slot_core.specs.Turns.{Leaves, Turns, TurnsQuietly}
+use Rattle.slot_core.specs.Views.{last_of}
+use Rattle.slot_core.specs.declared.slot.SlotFault.{SlotFault}
+use Rattle.slot_core.specs.declared.slot.SlotFault.TheVariants.{AuditFailed, Key as KeyFault, NoMemory, NotInFlight, Quorum, SeqSpent}
+use Rattle.slot_core.specs.declared.read_plan.ReadStart.{ReadStart}
 use Rattle.slot_core.specs.declared.stub.Stub.{Stub}
 use Rattle.receipts.specs.Events.Shown.{NoneShown}
 use Rattle.op_steps.specs.Causes.{SaysRefused}
-use Rattle.op_steps.specs.Claims.{Claim, HoldsAt, IsMet, among, claims_at, disks_of, hands_of, no_claim}
+use Rattle.op_steps.specs.Claims.{Claim, HoldsAt, among, claims_at, disks_of, hands_of, no_claim}
 use Rattle.op_steps.specs.Looking.{AreOnlyRead}
-use Rattle.op_steps.specs.Moves.{ShowsBy, TurnLeaves, TurnMoves}
+use Rattle.op_steps.specs.Moves.{TurnLeaves, TurnMoves}
 use Rattle.op_steps.specs.Notes.{entry_in, noted}
 use Rattle.op_steps.specs.Store.{LanesStand, SlotSeen}
 use Rattle.op_steps.proofs.Accounts.{TurnAccount}
@@ -42,15 +43,12 @@ use Rattle.op_steps.proofs.CauseLemmas.{AnswerCause, IsWritten, answer_cause, ke
 use Rattle.op_steps.proofs.ChangeLetterLemmas.{says_none}
 use Rattle.op_steps.proofs.DataLemmas.{data_read, last_rises}
 use Rattle.op_steps.proofs.MovesLemmas.{turn_moves}
-use Rattle.op_steps.proofs.NoteLemmas.{audit_noted, calm_noted, entry_counts, entry_noted, same_entry}
+use Rattle.op_steps.proofs.NoteLemmas.{audit_noted, entry_counts, entry_noted}
+use Rattle.op_steps.proofs.ClaimLemmas.{nothing_gained, nothing_held}
 use Rattle.object_ops.specs.Reading.{HoldsStart, pinned_claim}
 use Rattle.object_ops.proofs.ReadingClaims.{begin_holds, end_holds}
-
--- a section that shows nothing more
-moves_none : (slot : ℕ) (entry : Option Entry) (records after : Records) (state now : State) → EntryMoves slot entry ShowsNoMore records state after now
-    → EntryMoves slot entry (ShowsBy entry NoneShown) records state after now
-moves_none slot None records after state now x = x
-moves_none slot (Some entry) records after state now x = (x.0, tt)
+use Rattle.object_ops.proofs.TurnForms.{holds_same, leaves_noted, quiet_turn}
+use Rattle.object_ops.proofs.ReadingLists.{of_some}
 
 -- what the entry of a read says that was refused: by its lanes, that nothing was done, and else the refusal
 read_kept : (at : Key) (mode : Mode) (pick : Pick) (fault : QuorumFault) (entry : Option Entry)
@@ -102,22 +100,13 @@ module _ {D : Type 0} (ghosts : Ghosts D) where
       → TurnLeaves ghosts was now (noted stub) NoneShown claim later (views ghosts old) (views ghosts new) records state
   leaves_so was now at mode pick answer stub old new claim later x goes records state stands =
       let left = x.leaves records state stands in
-      record {
-        records_after = left.after;
-        state_after = left.now;
-        stands = left.stands;
-        stay = left.stay;
-        moves = subst (λ e. EntryMoves was.numbers.index e (ShowsBy e NoneShown) records state left.after left.now) (sym (same_entry stub))
-            (moves_none was.numbers.index (entry_of stub) records left.after state left.now left.moves);
-        calm = calm_noted (quorum_of was.numbers) stub records state left.after left.now left.calm;
-        holds = λ unseen front rest d.
-            data_read now.numbers now.holding unseen (views ghosts old) (views ghosts new) (among front later rest) (among front later rest) left.after left.now
-            x.read refl
-            (subst₂ (λ s i. HoldsAt s i (last_of now.numbers) now.holding unseen (views ghosts old) (among front later rest) left.after left.now)
-            (sym x.turns.numbers.set) (sym x.turns.numbers.index)
-            (goes unseen front rest records left.after state left.now d
-            (λ hands. left.holds (disks_of unseen was.numbers.set.out (views ghosts old)) hands hands refl)));
-      }
+      leaves_noted ghosts was now stub ShowsNoMore HandsStay claim later (views ghosts old) (views ghosts new) records state left (λ unseen front rest d.
+      data_read now.numbers now.holding unseen (views ghosts old) (views ghosts new) (among front later rest) (among front later rest) left.after left.now
+      x.read refl
+      (subst₂ (λ s i. HoldsAt s i (last_of now.numbers) now.holding unseen (views ghosts old) (among front later rest) left.after left.now)
+      (sym x.turns.numbers.set) (sym x.turns.numbers.index)
+      (goes unseen front rest records left.after state left.now d
+      (λ hands. left.holds (disks_of unseen was.numbers.set.out (views ghosts old)) hands hands refl))))
 
   -- why it was refused
   read_cause : (was now : SlotSeen D) (claim : Claim) (at : Key) (mode : Mode) (pick : Pick) (answer : Result ReadStart SlotFault) (stub : Option Stub) (old new : List D)
@@ -156,6 +145,14 @@ module _ {D : Type 0} (ghosts : Ghosts D) where
           audit = audit_noted stub was.entries now.entries x.turns.audit;
           faults = entry_counts was.numbers (Ok start) stub was.faults now.faults x.turns.stub_is x.turns.faults;
           claims = record { slot = refl; elsewhere = λ other. absurd (other refl) };
+          gains = record {
+            flight = λ f is. inl is;
+            pin = λ q is. inr (of_some (λ (r : Pinned). (r.ticket ≡ was.numbers.turns) × Contains now.holding.pins r) p q is (
+              x.holds.1.ticket_is,
+              subst (λ (h : Holding). Contains h.pins p) (sym x.holds.2) (Contains-append_right was.holding.pins (p ∷ []) p (first_there p [])),
+            ));
+            taken = λ id there. inl there;
+          };
           read = x.read;
           account = read_turn_cause was now (no_claim was.numbers.index) at mode pick (Ok start) stub old new x;
           letters = λ name change made. absurd (read_none at mode pick (Ok start) stub x.says name change made);
@@ -178,20 +175,15 @@ module _ {D : Type 0} (ghosts : Ghosts D) where
       audit = audit_noted stub was.entries now.entries x.turns.audit;
       faults = entry_counts {T = ReadStart} was.numbers (Err fault) stub was.faults now.faults x.turns.stub_is x.turns.faults;
       claims = record { slot = refl; elsewhere = λ other. refl };
+      gains = nothing_gained was.numbers now.numbers was.holding now.holding (no_claim was.numbers.index);
       read = x.read;
       account = read_turn_cause was now (no_claim was.numbers.index) at mode pick (Err fault) stub old new x;
       letters = λ name change made. absurd (read_none at mode pick (Err fault) stub x.says name change made);
       leaves = leaves_so was now at mode pick (Err fault) stub old new (no_claim was.numbers.index) (no_claim was.numbers.index) x
-          (λ unseen front rest records after state state_after d leaves. record {
-            tell = d.tell;
-            stands = leaves (hands_of (claims_at was.numbers.index (among front (no_claim was.numbers.index) rest))) d.stands;
-            loose = λ k id inside in_use own above. d.loose k id inside in_use own
-                (let rises = last_rises was.numbers now.numbers x.turns.numbers in omega (arith, rises, above));
-            met = λ c there. subst (λ (h : Holding). IsMet was.numbers.set h unseen (views ghosts old) c) (sym x.holds) (d.met c there);
-            apart = d.apart;
-            flights_are = λ f there. d.flights_are f (subst (λ (h : Holding). Contains h.flights f) x.holds there);
-            pins_are = λ p there. d.pins_are p (subst (λ (h : Holding). Contains h.pins p) x.holds there);
-          });
+          (λ unseen front rest records after state state_after d leaves.
+          holds_same was.numbers.set was.numbers.index (last_of was.numbers) (last_of now.numbers) was.holding now.holding unseen (views ghosts old)
+          (among front (no_claim was.numbers.index) rest) records after state state_after (last_rises was.numbers now.numbers x.turns.numbers) x.holds d
+          (leaves (hands_of (claims_at was.numbers.index (among front (no_claim was.numbers.index) rest))) d.stands));
     }),
   )
 
@@ -203,39 +195,14 @@ module _ {D T : Type 0} (ghosts : Ghosts D) where
     pub leaves : Leaves ghosts.tells ghosts.files was.numbers now.numbers was.holding now.holding was.lanes now.lanes stub ShowsNoMore
         (MayLetGo was.numbers.set ticket was.holding)
 
-  end_leaves : (was now : SlotSeen D) (p : Pinned) (answer : Result T SlotFault) (disks : List DriveView) → p.purpose ≡ ForRead
-      → EndSays was now p.ticket answer None → (records : Records) (state : State) → LanesStand ghosts.tells ghosts.files was records state
-      → TurnLeaves ghosts was now None NoneShown (pinned_claim was.numbers.index p) (no_claim was.numbers.index) disks disks records state
-  end_leaves was now p answer disks purpose x records state stands =
-      let left = x.leaves records state stands in
-      record {
-        records_after = left.after;
-        state_after = left.now;
-        stands = left.stands;
-        stay = left.stay;
-        moves = moves_none was.numbers.index None records left.after state left.now left.moves;
-        calm = left.calm;
-        holds = λ unseen front rest d.
-            subst₂ (λ s i. HoldsAt s i (last_of now.numbers) now.holding unseen disks (among front (no_claim was.numbers.index) rest) left.after left.now)
-            (sym x.turns.numbers.set) (sym x.turns.numbers.index)
-            (end_holds was.numbers.set was.numbers.index (last_of was.numbers) (last_of now.numbers) was.holding now.holding p unseen disks front rest
-            records left.after state left.now (last_rises was.numbers now.numbers x.turns.numbers) purpose x.holds d
-            (λ hands may. left.holds (disks_of unseen was.numbers.set.out disks) hands hands may));
-      }
-
   -- the end of a read is a step, after which nothing is held
   pub end_turn : (was now : SlotSeen D) (p : Pinned) (answer : Result T SlotFault) (disks : List DriveView) → p.purpose ≡ ForRead
       → EndSays was now p.ticket answer None
       → TurnMoves ghosts was now None NoneShown (pinned_claim was.numbers.index p) (no_claim was.numbers.index) disks disks
-  end_turn was now p answer disks purpose x = record {
-    numbers = x.turns.numbers;
-    note_is = tt;
-    audit = x.turns.audit;
-    faults = x.turns.faults;
-    claims = record { slot = refl; elsewhere = λ other. absurd (other refl) };
-    read = untouched_are_only_read disks;
-    cause = tt;
-    letters = λ name change made. absurd made;
-    complete = tt;
-    leaves = end_leaves was now p answer disks purpose x;
-  }
+  end_turn was now p answer disks purpose x =
+      quiet_turn ghosts was now answer (MayLetGo was.numbers.set p.ticket was.holding) disks (pinned_claim was.numbers.index p) (no_claim was.numbers.index)
+      x.turns x.leaves (record { slot = refl; elsewhere = λ other. absurd (other refl) })
+      (nothing_held was.numbers now.numbers was.holding now.holding (pinned_claim was.numbers.index p) was.numbers.index)
+      (λ unseen front rest records after state then d left.
+      end_holds was.numbers.set was.numbers.index (last_of was.numbers) (last_of now.numbers) was.holding now.holding p unseen disks front rest
+      records after state then (last_rises was.numbers now.numbers x.turns.numbers) purpose x.holds d (λ hands may. left hands hands may))

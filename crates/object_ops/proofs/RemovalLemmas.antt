@@ -13,7 +13,7 @@ use Rattle.drive_base.specs.View.{DriveView, view_at}
 use Rattle.drive_base.specs.declared.plan.SetPlan.{SetPlan}
 use Rattle.body_print.specs.Names.{loose_manifest_name, loose_shard_name, manifest_name, shard_name}
 use Rattle.put_stage.specs.Cells.{data_of}
-use Rattle.put_stage.specs.Working.{HasNoneLoose}
+use Rattle.put_stage.specs.Work.{HasNoneLoose}
 use Rattle.slot_history.specs.Standing.{Flying, Records}
 use Rattle.slot_history.specs.State.{State}
 use Rattle.slot_history.proofs.TakenLemmas.{first_there, rest_there}
@@ -28,13 +28,12 @@ use Rattle.slot_core.specs.Views.{SlotNumbers, last_of}
 use Rattle.op_steps.specs.Claims.{AllApart, Claim, DataHolds, DisksTell, IsExpected, IsMet, among, claims_at, counted_on, disks_of, hands_of}
 use Rattle.op_steps.specs.Calls.{MayCall}
 use Rattle.op_steps.specs.Moves.{CallMoves, RecordsStand}
-use Rattle.object_ops.specs.Clearing.{RemovesOne, with_taken}
+use Rattle.object_ops.specs.Clearing.{RemovesOne, with_taken, AreDue, FileOn, IsDue, RemoveCall, ids_of}
 use Rattle.object_ops.specs.DataNames.{name_by}
-use Rattle.object_ops.specs.Removing.{AreDue, FileOn, IsDue, RemoveCall, ids_of}
-use Rattle.object_ops.specs.declared.removal.DataFile.{DataFile}
-use Rattle.object_ops.specs.declared.removal.DataFile.TheVariants.{Manifest, Shard}
+use Rattle.object_ops.specs.declared.data_files.DataFile.{DataFile}
+use Rattle.object_ops.specs.declared.data_files.DataFile.TheVariants.{Manifest, Shard}
 use Rattle.op_steps.proofs.DataLemmas.{tell_called}
-use Rattle.op_steps.proofs.LiveFileLemmas.{at_own, own_in_hand}
+use Rattle.op_steps.proofs.ClaimLemmas.{at_own, own_in_hand}
 use Rattle.object_ops.proofs.CallLemmas.{removal_leaves, removal_written}
 use Rattle.object_ops.proofs.ClaimLemmas.{apart_on, at_other, each_on, flight_stays, hands_on, pin_stays}
 use Rattle.object_ops.proofs.ElsewhereLemmas.{removed_elsewhere}
@@ -311,7 +310,12 @@ removal_is_call set slot left less old new claim all own taken one =
       may = taken_may one.file claim one.made _ _ held one.call;
       long = one.long;
       others = one.others;
-      slot = refl;
+      claims = record {
+        slot = refl;
+        flight = refl;
+        pin = refl;
+        taken = λ id there. subst (λ (l : List VersionId). Contains l id) (sym (taken ∙ ap ids_of one.first)) (rest_there one.file.id (ids_of less) id there);
+      };
       written = λ unseen front rest mine says at kept_mine. removal_written (name_by one.file.kind one.file.id) one.made _ _ one.call says;
       holds = λ unseen front rest mine s at kept_mine kept.
           holds_after s.numbers s.holding s.records s.state unseen front rest claim left less old new one

@@ -2,8 +2,8 @@
 use Rattle.std.specs.Prelude.{ℕ, List}
 use Rattle.stamp_id.specs.declared.version.VersionId.{VersionId}
 use Rattle.body_print.specs.Names.{manifest_name, shard_name}
-use Rattle.object_ops.specs.declared.removal.DataFile.{DataFile}
-use Rattle.object_ops.specs.declared.removal.DataFile.TheVariants.{Manifest, Shard}
+use Rattle.object_ops.specs.declared.data_files.DataFile.{DataFile}
+use Rattle.object_ops.specs.declared.data_files.DataFile.TheVariants.{Manifest, Shard}
 
 -- the name of a file of an id
 abbrev pub name_by : DataFile → VersionId → List ℕ

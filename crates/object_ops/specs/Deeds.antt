@@ -17,7 +17,7 @@ use Rattle.drive_base.specs.declared.plan.SetPlan.{SetPlan}
 use Rattle.slot_rules.specs.declared.commit.Commit.TheVariants.{Key as KeyCommit}
 use Rattle.slot_rules.specs.declared.commit.Commit.{Commit}
 use Rattle.slot_rules.specs.declared.commit.Committed.{Committed}
-use Rattle.slot_core.specs.declared.fault.SlotFault.{SlotFault}
+use Rattle.slot_core.specs.declared.slot.SlotFault.{SlotFault}
 use Rattle.receipts.specs.Events.{Log}
 use Rattle.receipts.specs.Paying.{Pays}
 use Rattle.receipts.specs.Registers.{bucket_slot, key_slot}
@@ -30,13 +30,12 @@ use Rattle.op_steps.specs.declared.next.OpNext.{OpNext}
 use Rattle.op_steps.specs.declared.next.OpNext.TheVariants as next
 use Rattle.op_steps.specs.declared.looking.Looked.{Looked}
 use Rattle.op_steps.specs.declared.looking.Looked.TheVariants.{LacksMemory, Refused, There}
-use Rattle.object_ops.specs.Clearing.{HasNone, files_left, left_of as left_to_clear, next_of, with_taken}
+use Rattle.object_ops.specs.Clearing.{HasNone, files_left, left_of as left_to_clear, next_of, with_taken, ids_of}
 use Rattle.object_ops.specs.Reading.{HasFound}
-use Rattle.object_ops.specs.Removing.{ids_of}
 use Rattle.object_ops.specs.declared.clearing.Clearing.{Clearing}
 use Rattle.object_ops.specs.declared.deed_op.DeedOp.{DeedOp}
-use Rattle.object_ops.specs.declared.deed_state.DeedState.{DeedState}
-use Rattle.object_ops.specs.declared.deed_state.DeedState.TheVariants.{Committing, Looking, Telling, Told}
+use Rattle.object_ops.specs.declared.deed_op.DeedState.{DeedState}
+use Rattle.object_ops.specs.declared.deed_op.DeedState.TheVariants.{Committing, Looking, Telling, Told}
 
 -- a call that is served so
 abbrev pub IsDeed : Call → Type 0

@@ -1,17 +1,26 @@
+-- A PutObject that has done nothing yet.
 -- What a PutObject stands for: its claim and its log, by how far it is.
-use Rattle.std.specs.Prelude.{◌≡◌, ◌≢◌, ◌⊎◌, ℕ, ◌<◌, List, [], ◌∷◌, All, Contains, length, Some, None, slice_index_or, string_bytes}
+use Rattle.std.specs.Prelude.{◌≡◌, ◌≤◌, ℕ, List, Option, length, ◌≢◌, ◌⊎◌, ◌<◌, [], ◌∷◌, All, Contains, Some, None, slice_index_or, string_bytes}
+use Rattle.desk_base.specs.Calls.{IsKey, most_body, longest_kind}
+use Rattle.desk_base.specs.declared.call.Call.{Call}
+use Rattle.desk_base.specs.declared.call.Call.TheVariants.{Put}
+use Rattle.drive_base.specs.declared.plan.SetPlan.{SetPlan}
+use Rattle.object_ops.specs.Clearing.{HasNone, files_left, with_taken, ids_of}
+use Rattle.object_ops.specs.declared.put_op.PutOp.{PutOp}
+use Rattle.object_ops.specs.declared.put_state.PutState.TheVariants.{Looking}
+use Rattle.object_ops.specs.declared.put_target.PutTarget.{PutTarget}
 use Rattle.body_print.specs.Plans.{data_plan}
 use Rattle.call_types.specs.declared.names.Key.{Key}
 use Rattle.call_types.specs.declared.names.Mode.{Mode}
 use Rattle.call_types.specs.declared.reply.Reply.{Reply}
-use Rattle.put_stage.specs.Called.{CalledSo}
+use Rattle.put_stage.specs.CallsSoFar.{CalledSo}
 use Rattle.put_stage.specs.Cells.{DataCells}
-use Rattle.put_stage.specs.Finishing.{Succeeds}
-use Rattle.put_stage.specs.Taking.{HasTaken}
-use Rattle.put_stage.specs.Working.{AtWork, why_at}
+use Rattle.put_stage.specs.StagedBodies.{Succeeds}
+use Rattle.put_stage.specs.TakenBodies.{HasTaken}
+use Rattle.put_stage.specs.Work.{AtWork, why_at}
 use Rattle.put_stage.specs.declared.stage.Stage.{Stage}
 use Rattle.put_stage.specs.declared.stage.StageNext.TheVariants.{Finish}
-use Rattle.slot_core.specs.declared.handles.Flight.{Flight}
+use Rattle.slot_core.specs.declared.holding.Flight.{Flight}
 use Rattle.slot_history.specs.Names.{key_name}
 use Rattle.stamp_id.specs.declared.version.VersionId.{VersionId}
 use Rattle.receipts.specs.Committing.{KeyIsBarred}
@@ -27,16 +36,29 @@ use Rattle.op_steps.specs.Claims.{Claim, Expected, Staging, no_claim}
 use Rattle.op_steps.specs.Claims.Expected.{Exactly}
 use Rattle.op_steps.specs.Ready.{IsReady}
 use Rattle.op_steps.specs.declared.next.OpNext.{OpNext}
-use Rattle.object_ops.specs.Clearing.{HasNone, files_left, with_taken}
 use Rattle.object_ops.specs.Reading.{HasFound}
 use Rattle.object_ops.specs.Put.{PutAsk, left_at, step_at, task_of}
 use Rattle.object_ops.specs.PutTarget.{key_of, register_of}
-use Rattle.object_ops.specs.Removing.{ids_of}
 use Rattle.object_ops.specs.declared.clearing.Clearing.{Clearing}
-use Rattle.object_ops.specs.declared.put_op.PutOp.{PutOp}
 use Rattle.object_ops.specs.declared.put_state.PutState.{PutState}
 use Rattle.object_ops.specs.declared.put_state.PutState.TheVariants as state
-use Rattle.object_ops.specs.declared.put_work.Work.{Work}
+use Rattle.object_ops.specs.declared.put_state.Work.{Work}
+
+-- a call is a lawful PutObject
+abbrev pub IsPut : Call → Type 0
+IsPut (Put at kind md5 long) = IsKey at × (length kind ≤ longest_kind) × (long ≤ most_body)
+IsPut other = ⊥
+
+-- an op of a put of this target, made in this second
+pub record IsNewPut (set : SetPlan) (target : PutTarget) (stated : Option (List ℕ)) (long now : ℕ) (op : PutOp) : Type 0 where
+  pub set_is : op.set ≡ set
+  pub target_is : op.target ≡ target
+  pub stated_is : op.md5 ≡ stated
+  pub long_is : op.long ≡ long
+  pub now_is : op.now ≡ now
+  pub none_read : op.read ≡ 0
+  pub state_is : op.state ≡ Looking
+  pub none : HasNone op.clearing
 
 -- nothing under the names of an id
 abbrev pub no_cells : DataCells

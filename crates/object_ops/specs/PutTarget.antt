@@ -7,7 +7,7 @@ use Rattle.call_types.specs.declared.reply.Reply.{Reply}
 use Rattle.desk_base.specs.declared.call.Call.{Call}
 use Rattle.desk_base.specs.declared.call.Call.TheVariants as call
 use Rattle.drive_base.specs.declared.plan.SetPlan.{SetPlan}
-use Rattle.put_stage.specs.declared.staged.Staged.{Staged}
+use Rattle.put_stage.specs.declared.answers.Staged.{Staged}
 use Rattle.receipts.specs.Events.{Log}
 use Rattle.receipts.specs.Putting.{PutIsCommitted}
 use Rattle.slot_history.specs.Names.{key_name}

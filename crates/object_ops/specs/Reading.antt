@@ -5,9 +5,9 @@ use Rattle.desk_base.specs.declared.call.Call.{Call}
 use Rattle.desk_base.specs.declared.call.Call.TheVariants.{Get, Head}
 use Rattle.slot_data.specs.Holding.{Pinned}
 use Rattle.slot_data.specs.Holding.Purpose.{ForRead}
-use Rattle.slot_core.specs.declared.fault.SlotFault.{SlotFault}
-use Rattle.slot_core.specs.declared.handles.Pin.{Pin}
-use Rattle.slot_core.specs.declared.reading.ReadStart.{ReadStart}
+use Rattle.slot_core.specs.declared.slot.SlotFault.{SlotFault}
+use Rattle.slot_core.specs.declared.holding.Pin.{Pin}
+use Rattle.slot_core.specs.declared.read_plan.ReadStart.{ReadStart}
 use Rattle.receipts.specs.Events.{IsUntold, Log, Section, body_of, calls_at, cuts_of, sections_of}
 use Rattle.receipts.specs.Looks.{FindsBucket}
 use Rattle.receipts.specs.Paying.{ChangesNothing}

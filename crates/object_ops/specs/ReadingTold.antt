@@ -1,5 +1,11 @@
+-- The calls of a reader, as events of a log.
 -- What was read and told of a version's body, by the log.
-use Rattle.std.specs.Prelude.{◌≡◌, ◌+◌, ◌<◌, ◌≤◌, Bool, true, false, List, [], ◌++◌, ℕ, Option, length}
+use Rattle.std.specs.Prelude.{◌≡◌, [], ◌++◌, Contains, ◌+◌, ◌<◌, ◌≤◌, Bool, true, false, List, ℕ, Option, length}
+use Rattle.get_read.specs.Account.{Account, Call}
+use Rattle.get_read.specs.Readers.{Told, IsAccountOf, all_calls}
+use Rattle.receipts.specs.Events.{Log, cuts_of, tale_of}
+use Rattle.receipts.specs.Events.Event.{Called}
+use Rattle.receipts.specs.Letters.{told_bytes}
 use Rattle.call_types.specs.declared.names.Key.{Key}
 use Rattle.call_types.specs.declared.names.Pick.{Pick}
 use Rattle.call_types.specs.declared.names.RangeAsk.{RangeAsk}
@@ -9,15 +15,25 @@ use Rattle.call_types.specs.declared.reply.Reply.TheVariants.{Found}
 use Rattle.call_types.specs.declared.version.Version.{Version}
 use Rattle.desk_base.specs.Answering.{Task}
 use Rattle.drive_base.specs.declared.plan.SetPlan.{SetPlan}
-use Rattle.get_read.specs.Readers.{IsAccountOf, Told, all_calls}
-use Rattle.receipts.specs.Events.{Log, cuts_of, tale_of}
 use Rattle.receipts.specs.Paying.{IsTaleOf, WasOwed}
 use Rattle.receipts.specs.Reading.{ReadsKey, is_met}
 use Rattle.receipts.specs.Spans.{whole_of}
 use Rattle.object_ops.specs.Reading.{IsFresh, matches_of}
-use Rattle.object_ops.specs.ReadingLog.{AreLogged, IsLogged}
 use Rattle.object_ops.specs.ReadingPlan.{IsOfSpan}
 use Rattle.object_ops.specs.declared.reading.Reading.{Reading}
+
+-- each call of an account is in the log
+abbrev pub AreLogged : Account → Log → Type 0
+AreLogged account log = (call : Call) → Contains account call → Contains log (Called call.drive call.made)
+
+-- the calls up to a reader's last turn are in one part of the log, those since in the part behind it, in which no bytes are told
+pub record IsLogged (told : Told) (log : Log) : Type 0 where
+  pub before : Log
+  pub since : Log
+  pub parts : log ≡ before ++ since
+  pub logged : AreLogged told.before before
+  pub logged_since : AreLogged told.since since
+  pub silent : told_bytes since ≡ []
 
 -- the key was read, the condition of the call holds, and nothing was told yet
 pub record TellsNone (task : Task) (at : Key) (pick : Pick) (version : Version) (id : Option VersionName) (bytes : List ℕ) (log : Log) : Type 0 where

@@ -1,20 +1,20 @@
-//! What comes after a commit: trash of the slot is taken, and its files are removed, one call of a drive a step.
+//! What follows a commit: trash of the slot is taken, and its files are removed, one call of a drive a step.
 
-ghost use Rattle.std.specs.Prelude.{◌≡◌, ◌+◌, ◌*◌, ◌<◌, ◌≤◌, ◌^◌, All, List, false, true, length};
-ghost use Rattle.drive_base.specs.View.{DriveView, views};
+ghost use Rattle.std.specs.Prelude.{◌≡◌, ◌+◌, ◌*◌, ◌<◌, ◌≤◌, ◌^◌, All, false, true, length, ◌≢◌, ◌++◌, ℕ, IfOk, OnOk};
+ghost use Rattle.drive_base.specs.View.{views, view, view_at};
 ghost use Rattle.slot_core.specs.Numbers.{NumbersMove};
 ghost use Rattle.slot_core.specs.Views.{numbers_of};
-ghost use Rattle.receipts.specs.Events.Shown.{NoneShown};
 ghost use Rattle.op_steps.specs.Store.{slot_seen};
-ghost use Rattle.object_ops.specs.Clearing.{HasNone, IsPlannedOf, RemovesOne, TakesTrash, files_left, next_of};
-ghost use Rattle.object_ops.specs.Removing.{AreDue, files_of};
+ghost use Rattle.object_ops.specs.Clearing.{HasNone, IsPlannedOf, RemovesOne, TakesTrash, files_left, next_of, AreDue, files_of, RemoveCall, drives_below, of_drives, removal_order, removals_of};
+ghost use Rattle.drive_base.specs.Calls.{MadeCall};
 
-use crate::removal::Removal;
-use crate::removing::{plan_removals, remove_at};
+use crate::data_files::{DataFile, Removal, name_of};
 use audit_trail::Audit;
 use drive_base::{Drive, SetPlan};
+use fault_base::NoMemory;
 use op_steps::OpNext;
 use slot_core::{Ids, Slot, SlotFault, Turn};
+use stamp_id::VersionId;
 use std::alloc::Global;
 use std::collections::VecDeque;
 
@@ -131,4 +131,76 @@ fn planned(
         },
         Err(_) => VecDeque::new(alloc),
     }
+}
+
+/// The removals of the files of these ids from the drives in use, in their order. Ids of another slot are passed over.
+pub(crate) fn plan_removals(
+    alloc: Global,
+    set: &SetPlan,
+    slot: u8,
+    ids: &[VersionId],
+) -> Result<VecDeque<Removal>, NoMemory>
+    ensures { IfOk result (λ removals. files_of removals.items ≡ removal_order set.now slot ids.now) }
+{
+    let mut removals = VecDeque::new(alloc);
+    for id in ids {
+        if id.slot == slot {
+            push_id(alloc, set, *id, &mut removals)?;
+        }
+    }
+    Ok(removals)
+}
+
+/// Adds the removals of an id: its shards, and then its manifests.
+fn push_id(
+    alloc: Global,
+    set: &SetPlan,
+    id: VersionId,
+    removals: &mut VecDeque<Removal>,
+) -> Result<(), NoMemory>
+    ensures { OnOk result (files_of removals.new.items ≡ files_of removals.old.items ++ removals_of set.now id) }
+{
+    push_files(alloc, set, id, DataFile::Shard, removals)?;
+    push_files(alloc, set, id, DataFile::Manifest, removals)
+}
+
+/// Adds the removals of one kind of file of an id, from each drive in use.
+fn push_files(
+    alloc: Global,
+    set: &SetPlan,
+    id: VersionId,
+    kind: DataFile,
+    removals: &mut VecDeque<Removal>,
+) -> Result<(), NoMemory>
+    ensures { OnOk result (files_of removals.new.items ≡ files_of removals.old.items ++ of_drives id kind (drives_below set.now set.now.drives)) }
+{
+    for drive in 0..set.drives {
+        if !set.is_out(drive) {
+            let name = name_of(alloc, id, kind)?;
+            removals.push_back(Removal {
+                id,
+                kind,
+                drive,
+                name,
+            })?;
+        }
+    }
+    Ok(())
+}
+
+/// Removes the file of a name from a drive, whatever the call answers.
+fn remove_file<D: Drive>(drive: &mut D, name: &str)
+    ensures { (made : MadeCall) × RemoveCall name.now made (view D.Drive drive.old) (view D.Drive drive.new) }
+{
+    let _ = drive.remove(name);
+}
+
+/// Removes the file of a name from the drive of this index, whatever the call answers.
+pub(crate) fn remove_at<D: Drive>(disks: &mut [D], index: u8, name: &str)
+    requires { index < length disks.old }
+    ensures disks { length disks.new ≡ length disks.old }
+    ensures call { (made : MadeCall) × RemoveCall name.now made (view_at (views D.Drive disks.old) index) (view_at (views D.Drive disks.new) index) }
+    ensures others { (other : ℕ) → other ≢ index → view_at (views D.Drive disks.new) other ≡ view_at (views D.Drive disks.old) other }
+{
+    remove_file(&mut disks[index as usize], name);
 }

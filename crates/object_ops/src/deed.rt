@@ -1,101 +1,128 @@
-//! A change of a key by a call without a body: DeleteObject.
+//! How the op of a deed begins, its steps, and what it does after each of them.
 
-ghost use Rattle.std.specs.Prelude.{◌≡◌, ◌+◌, ◌<◌, ◌^◌, List, Option, length, true};
+ghost use Rattle.std.specs.Prelude.{◌≡◌, ◌<◌, ℕ, [], IfOk, true, ◌≤◌, IsUtf8, length, Option};
+ghost use Rattle.desk_base.specs.Calls.{IsKey, stated_length};
+ghost use Rattle.version_list.specs.State.{IsKind, IsMoment};
+ghost use Rattle.op_steps.specs.Claims.{no_claim};
+ghost use Rattle.object_ops.specs.Deeds.{IsDeed, IsNewDeed, AfterCommit, AfterLook, barred_state, key_deed, DeedStands, cut_of, deed_task, left_of, step_of};
+ghost use Rattle.object_ops.specs.KeyDeeds.{IsServed, kind_of, needs_no_body};
+ghost use Rattle.slot_history.specs.Names.{key_name, bucket_slot, key_slot};
+ghost use Rattle.drive_base.specs.declared.drive.TheConstants.{LONGEST_NAME};
 ghost use Rattle.desk_base.specs.Answering.{Task};
-ghost use Rattle.desk_base.specs.Calls.{stated_length};
 ghost use Rattle.receipts.specs.Paying.{Pays};
-ghost use Rattle.drive_base.specs.View.{DriveView, views};
-ghost use Rattle.slot_history.specs.Names.{bucket_slot, key_slot};
-ghost use Rattle.slot_core.specs.Numbers.{NumbersMove};
-ghost use Rattle.slot_core.specs.Views.{numbers_of};
-ghost use Rattle.op_steps.specs.Store.{slot_seen};
-ghost use Rattle.op_steps.specs.Words.{TurnsSo};
-ghost use Rattle.object_ops.specs.Deeds.{DeedStands, IsSameDeed, cut_of, deed_task, left_of, step_of};
-ghost use Rattle.object_ops.specs.declared.deed_state.DeedState.TheVariants as state;
-ghost use Rattle.object_ops.specs.declared.key_deed.KeyDeed.{KeyDeed};
-ghost use Rattle.call_types.specs.declared.feed.Cut.{Cut as CutSpec};
+ghost use Rattle.object_ops.specs.declared.deed_op.DeedState.TheVariants as state;
 
-use crate::deed_after::{after_commit, after_look, barred_state};
-use crate::deed_op::DeedOp;
-use crate::deed_state::DeedState;
+use crate::clearing::Clearing;
+use crate::deed_op::{DeedOp, DeedState, KeyDeed};
 use crate::telling::tell_head;
 use audit_trail::Audit;
-use call_types::{Cut, Feed};
-use desk_base::Teller;
-use drive_base::Drive;
-use op_steps::{Op, OpNext, look_at_bucket};
+use call_types::{Act, Cut, Feed, Key, Mode, Refusal, Reply};
+use desk_base::{Call, Teller};
+use drive_base::{Drive, SetPlan};
+use fault_base::NoMemory;
+use op_steps::{Looked, Op, OpNext, call_refusal, look_at_bucket};
 use receipts::Barred;
-use slot_core::{Slot, Stub};
-use slot_history::{bucket_slot, key_slot};
+use slot_core::{Commit, Committed, Slot, SlotFault, Stub};
+use slot_history::{bucket_name, bucket_slot, key_slot};
 use std::alloc::Global;
 
 impl DeedOp {
-    /// Looks at the bucket.
-    fn look<D: Drive, A: Audit>(
-        &mut self,
-        alloc: Global,
-        slot: &mut Slot<D, A>,
-        disks: &mut [D],
-    ) -> Option<Stub>
-        requires state { self.old.state ≡ state.Looking }
-        requires next { (numbers_of slot.old).index ≡ bucket_slot self.old.at.bucket }
-        requires turns { (numbers_of slot.old).turns + 1 < 2 ^ 64 }
-        requires slot_set { (numbers_of slot.old).set ≡ self.old.set }
-        requires disks { length disks.old ≡ self.old.set.drives }
-        ensures same { IsSameDeed self.old self.new }
-        ensures left { left_of self.new < left_of self.old }
-        ensures disks { length disks.new ≡ length disks.old }
-        ensures numbers { NumbersMove (numbers_of slot.old) (numbers_of slot.new) }
-        ensures turns { TurnsSo D.Drive (DeedStands self.old) (DeedStands self.new) result
-            (slot_seen A.entries A.count slot.old) (slot_seen A.entries A.count slot.new) (views D.Drive disks.old) (views D.Drive disks.new) }
+    /// The op of a call that is served as a deed, made in this Unix second, on a store over this set. It has done nothing yet.
+    pub fn new(alloc: Global, set: SetPlan, call: &Call, now: u64) -> Result<DeedOp, NoMemory>
+        requires deed { IsDeed call.now }
+        requires moment { IsMoment now }
+        ensures set { IfOk result (λ op. ⟦<DeedOp as Op>⟧.set op ≡ set) }
+        ensures task { IfOk result (λ op. ⟦<DeedOp as Op>⟧.asked op ≡ record { call = call.now; now = now }) }
+        ensures taken { IfOk result (λ op. ⟦<DeedOp as Op>⟧.taken op ≡ 0) }
+        ensures begins { IfOk result (λ op. (slot : ℕ) × (slot < 64) × ⟦<DeedOp as Op>⟧.stands op (no_claim slot) []) }
     {
-        let look = look_at_bucket(alloc, slot, disks, self.name.as_str());
-        self.state = after_look(alloc, &self.at, &self.act, look.looked);
-        look.stub
+        match call {
+            Call::Delete { at, pick } => DeedOp::of(alloc, set, at, Act::Delete(*pick), now),
+            _ => Err(NoMemory),
+        }
     }
 
-    /// Commits the deed. Trash is taken once the reply is told.
-    fn commit<D: Drive, A: Audit>(
-        &mut self,
-        alloc: Global,
-        slot: &mut Slot<D, A>,
-        disks: &mut [D],
-    ) -> Option<Stub>
-        requires state { (deed : KeyDeed) × (self.old.state ≡ state.Committing deed) }
-        requires next { (numbers_of slot.old).index ≡ key_slot self.old.at }
-        requires turns { (numbers_of slot.old).turns + 1 < 2 ^ 64 }
-        requires slot_set { (numbers_of slot.old).set ≡ self.old.set }
-        requires disks { length disks.old ≡ self.old.set.drives }
-        ensures same { IsSameDeed self.old self.new }
-        ensures left { left_of self.new < left_of self.old }
-        ensures disks { length disks.new ≡ length disks.old }
-        ensures numbers { NumbersMove (numbers_of slot.old) (numbers_of slot.new) }
-        ensures turns { TurnsSo D.Drive (DeedStands self.old) (DeedStands self.new) result
-            (slot_seen A.entries A.count slot.old) (slot_seen A.entries A.count slot.new) (views D.Drive disks.old) (views D.Drive disks.new) }
+    /// The op that does this to this key.
+    fn of(alloc: Global, set: SetPlan, at: &Key, act: Act, now: u64) -> Result<DeedOp, NoMemory>
+        requires key { IsKey at.now }
+        requires served { IsServed act }
+        requires bodyless { needs_no_body act ≡ true }
+        requires kind { IsKind (kind_of act) }
+        requires moment { IsMoment now }
+        ensures { IfOk result (IsNewDeed set at.now act now) }
     {
-        let DeedState::Committing(deed) = &self.state else {
-            unreachable!()
-        };
-        let turn = slot.commit(alloc, disks, &deed.commit, None, self.now);
-        self.state = after_commit(turn.answer);
-        self.clearing.begin();
-        turn.stub
+        let name = bucket_name(alloc, &at.bucket)?;
+        let key = at.clone()?;
+        Ok(DeedOp {
+            set,
+            at: key,
+            act,
+            name,
+            now,
+            state: DeedState::Looking,
+            clearing: Clearing::none(alloc),
+        })
     }
+}
 
-    /// Takes trash of the key's slot.
-    fn clear<D: Drive, A: Audit>(&mut self, alloc: Global, slot: &mut Slot<D, A>)
-        requires state { (cut : Option CutSpec) × (self.old.state ≡ state.Told cut) }
-        requires takes { self.old.clearing.takes ≡ true }
-        requires next { (numbers_of slot.old).index ≡ key_slot self.old.at }
-        requires turns { (numbers_of slot.old).turns + 1 < 2 ^ 64 }
-        ensures same { IsSameDeed self.old self.new }
-        ensures left { left_of self.new < left_of self.old }
-        ensures numbers { NumbersMove (numbers_of slot.old) (numbers_of slot.new) }
-        ensures turns { (disks : List DriveView) → TurnsSo D.Drive (DeedStands self.old) (DeedStands self.new) None
-            (slot_seen A.entries A.count slot.old) (slot_seen A.entries A.count slot.new) disks disks }
-    {
-        self.clearing
-            .take(alloc, &self.set, key_slot(&self.at), slot);
+/// The deed that does this to a key, in a bucket of this mode.
+fn deed_of(alloc: Global, at: &Key, mode: Mode, act: &Act) -> Result<KeyDeed, NoMemory>
+    requires bucket { IsUtf8 at.now.bucket }
+    requires key { IsUtf8 at.now.key }
+    requires short { length (key_name at.now) ≤ LONGEST_NAME }
+    requires bodyless { needs_no_body act.now ≡ true }
+    requires kind { IsKind (kind_of act.now) }
+    ensures { IfOk result (λ deed. deed.commit ≡ key_deed at.now act.now mode) }
+{
+    let key = at.clone()?;
+    let done = act.clone()?;
+    let commit = Commit::Key {
+        at: key,
+        mode,
+        act: done,
+    };
+    Ok(KeyDeed { commit })
+}
+
+/// How far it is after the look at its bucket.
+pub(crate) fn after_look(alloc: Global, at: &Key, act: &Act, looked: Looked) -> DeedState
+    requires bucket { IsUtf8 at.now.bucket }
+    requires key { IsUtf8 at.now.key }
+    requires short { length (key_name at.now) ≤ LONGEST_NAME }
+    requires bodyless { needs_no_body act.now ≡ true }
+    requires kind { IsKind (kind_of act.now) }
+    ensures { AfterLook at.now act.now looked result }
+{
+    match looked {
+        Looked::There(mode) => match deed_of(alloc, at, mode, act) {
+            Ok(deed) => DeedState::Committing(deed),
+            Err(_) => DeedState::Told(Some(Cut::NoMemory)),
+        },
+        Looked::Refused(why) => DeedState::Telling(Reply::Refused(why)),
+        Looked::LacksMemory => DeedState::Told(Some(Cut::NoMemory)),
+    }
+}
+
+/// How far it is after its commit. Want of memory has no reply.
+pub(crate) fn after_commit(answer: Result<Committed, SlotFault>) -> DeedState
+    ensures { AfterCommit answer result }
+{
+    match answer {
+        Ok(made) => DeedState::Telling(made.done),
+        Err(fault) => match call_refusal(&fault) {
+            Some(why) => DeedState::Telling(Reply::Refused(why)),
+            None => DeedState::Told(Some(Cut::NoMemory)),
+        },
+    }
+}
+
+/// How far it is where its look or its commit can't be done.
+pub(crate) fn barred_state(why: Barred) -> DeedState
+    ensures { result ≡ barred_state why }
+{
+    match why {
+        Barred::Spent => DeedState::Telling(Reply::Refused(Refusal::SeqSpent)),
+        Barred::NoMemory => DeedState::Told(Some(Cut::NoMemory)),
     }
 }
 
@@ -136,11 +163,21 @@ impl Op for DeedOp {
         disks: &mut [D],
     ) -> Option<Stub> {
         match &self.state {
-            DeedState::Looking => self.look(alloc, slot, disks),
-            DeedState::Committing(_) => self.commit(alloc, slot, disks),
+            DeedState::Looking => {
+                let look = look_at_bucket(alloc, slot, disks, self.name.as_str());
+                self.state = after_look(alloc, &self.at, &self.act, look.looked);
+                look.stub
+            }
+            DeedState::Committing(deed) => {
+                let turn = slot.commit(alloc, disks, &deed.commit, None, self.now);
+                self.state = after_commit(turn.answer);
+                self.clearing.begin();
+                turn.stub
+            }
             DeedState::Telling(_) => unreachable!(),
             DeedState::Told(_) => {
-                self.clear(alloc, slot);
+                self.clearing
+                    .take(alloc, &self.set, key_slot(&self.at), slot);
                 None
             }
         }

@@ -1,35 +1,90 @@
-//! The sections of a PutObject.
+//! PutObject: how it begins, and its steps.
 
-ghost use Rattle.std.specs.Prelude.{◌≡◌, ◌+◌, ◌<◌, ◌^◌, List, None, Option, IsTrue, length, false, true};
-ghost use Rattle.call_types.specs.declared.feed.Cut.{Cut as CutSpec};
-ghost use Rattle.drive_base.specs.View.{DriveView, views};
-ghost use Rattle.put_stage.specs.declared.stage.StageNext.TheVariants.{Finish};
+ghost use Rattle.std.specs.Prelude.{◌≡◌, ◌<◌, ◌≤◌, ℕ, [], IfOk, IsTrue, false, length};
+ghost use Rattle.desk_base.specs.Calls.{IsKey, longest_kind, most_body, stated_length};
+ghost use Rattle.version_list.specs.State.{IsMoment};
+ghost use Rattle.op_steps.specs.Claims.{no_claim};
+ghost use Rattle.object_ops.specs.PutStands.{IsAtCommit, IsNewPut, IsPut, PutStands, ask_of, left_of, step_of};
+ghost use Rattle.object_ops.specs.PutTarget.{key_of, kind_of};
+ghost use Rattle.desk_base.specs.Answering.{Task};
+ghost use Rattle.receipts.specs.Paying.{Pays};
 ghost use Rattle.slot_history.specs.Names.{bucket_slot, key_slot};
-ghost use Rattle.slot_core.specs.Numbers.{NumbersMove};
-ghost use Rattle.slot_core.specs.Views.{numbers_of};
-ghost use Rattle.slot_core.specs.declared.handles.Flight.{Flight as FlightSpec};
-ghost use Rattle.op_steps.specs.Store.{slot_seen};
-ghost use Rattle.op_steps.specs.Words.{TurnsSo};
-ghost use Rattle.object_ops.specs.PutStands.{IsAtCommit, IsSamePut, PutStands, left_of};
-ghost use Rattle.object_ops.specs.PutTarget.{key_of};
-ghost use Rattle.object_ops.specs.declared.put_state.PutState.TheVariants as state;
-ghost use Rattle.object_ops.specs.declared.put_work.Work.{Work as WorkSpec};
+ghost use Rattle.object_ops.specs.Put.{cut_of, task_of, work_step};
 
+use crate::clearing::Clearing;
 use crate::put_op::PutOp;
-use crate::put_state::{PutState, go_to};
-use crate::put_working::begun;
-use crate::putting::{PutEnd, after_look, end_of, put_committed};
+use crate::put_outcome::barred_after;
+use crate::put_stage_calls::{PutFed, fed};
+use crate::put_state::PutState;
+use crate::put_target::PutTarget;
+use crate::telling::tell_head;
 use audit_trail::Audit;
-use call_types::{Cut, Mode, Reply};
-use drive_base::Drive;
-use op_steps::look_at_bucket;
+use call_types::{Cut, Feed};
+use desk_base::{Call, Teller};
+use drive_base::{Drive, SetPlan};
+use fault_base::NoMemory;
+use op_steps::{Op, OpNext};
 use put_stage::StageNext;
-use slot_core::{Slot, Stub, Turn};
-use slot_history::key_slot;
+use receipts::Barred;
+use slot_core::{Slot, Stub};
+use slot_history::{bucket_name, bucket_slot, key_slot};
 use std::alloc::Global;
-use std::mem;
 
 impl PutOp {
+    /// The op of a PutObject, made in this Unix second, on a store over this set. It has done nothing yet.
+    pub fn new(alloc: Global, set: SetPlan, call: &Call, now: u64) -> Result<PutOp, NoMemory>
+        requires put { IsPut call.now }
+        requires moment { IsMoment now }
+        ensures set { IfOk result (λ op. ⟦<PutOp as Op>⟧.set op ≡ set) }
+        ensures task { IfOk result (λ op. ⟦<PutOp as Op>⟧.asked op ≡ record { call = call.now; now = now }) }
+        ensures taken { IfOk result (λ op. ⟦<PutOp as Op>⟧.taken op ≡ 0) }
+        ensures begins { IfOk result (λ op. (slot : ℕ) × (slot < 64) × ⟦<PutOp as Op>⟧.stands op (no_claim slot) []) }
+    {
+        match call {
+            Call::Put {
+                at,
+                kind,
+                md5,
+                length,
+            } => {
+                let target = PutTarget::object(alloc, at, kind)?;
+                PutOp::of(alloc, set, target, *md5, *length, now)
+            }
+            _ => Err(NoMemory),
+        }
+    }
+
+    /// The op of a put of this target.
+    fn of(
+        alloc: Global,
+        set: SetPlan,
+        target: PutTarget,
+        md5: Option<[u8; 16]>,
+        long: u64,
+        now: u64,
+    ) -> Result<PutOp, NoMemory>
+        requires key { IsKey (key_of target) }
+        requires kind { length (kind_of target) ≤ longest_kind }
+        requires few { long ≤ most_body }
+        requires moment { IsMoment now }
+        ensures { IfOk result (IsNewPut set target md5 long now) }
+    {
+        let name = bucket_name(alloc, &target.key().bucket)?;
+        let register = target.register(alloc)?;
+        Ok(PutOp {
+            set,
+            target,
+            md5,
+            long,
+            name,
+            register,
+            now,
+            read: 0,
+            state: PutState::Looking,
+            clearing: Clearing::none(alloc),
+        })
+    }
+
     /// Whether the section that commits comes next: the stage of the body is over, and all is staged. It takes no memory.
     pub fn at_commit(&self) -> bool
         ensures yes { IsTrue result → IsAtCommit self.entry.now }
@@ -48,154 +103,118 @@ impl PutOp {
             | PutState::Told(_) => false,
         }
     }
+}
 
-    /// How far it is. What is left behind is that nothing is to be told.
-    pub(crate) fn moved_out(&mut self) -> PutState
-        ensures out { result ≡ self.old.state }
-        ensures state { self.new.state ≡ state.Told None }
-        ensures same { IsSamePut self.old self.new }
-        ensures read { self.new.read ≡ self.old.read }
-        ensures clearing { self.new.clearing ≡ self.old.clearing }
-    {
-        mem::replace(&mut self.state, PutState::Told(None))
+/// The next step of a put whose stage has this next.
+fn work_next(next: StageNext, slot: u8) -> OpNext
+    ensures { result ≡ work_step slot next }
+{
+    match next {
+        StageNext::Fill => OpNext::Feed,
+        StageNext::Step => OpNext::Data,
+        StageNext::Finish => OpNext::Section(slot),
+    }
+}
+
+impl Op for PutOp {
+    ghost set = { λ op. op.set };
+
+    ghost Asked = { Task };
+
+    ghost asked = { λ op. task_of (ask_of op) };
+
+    ghost owed = { λ set task cut log. Pays set task cut log };
+
+    ghost stated = { λ task. stated_length task.call };
+
+    ghost step = { λ op. step_of op };
+
+    ghost left = { λ op. left_of op };
+
+    ghost taken = { λ op. op.read };
+
+    ghost stands = { λ op claim log. PutStands op claim log };
+
+    ghost cut_at = { λ op. cut_of op.state };
+
+    fn next(&self) -> OpNext {
+        match &self.state {
+            PutState::Looking => OpNext::Section(bucket_slot(&self.target.key().bucket)),
+            PutState::Beginning(_) | PutState::Dropping(_, _) => {
+                OpNext::Section(key_slot(self.target.key()))
+            }
+            PutState::Staging(work) => work_next(work.next, key_slot(self.target.key())),
+            PutState::Draining(_) => OpNext::Feed,
+            PutState::Telling(_) => OpNext::Tell,
+            PutState::Told(_) => self.clearing.next(key_slot(self.target.key())),
+        }
     }
 
-    /// Looks at the bucket.
-    pub(crate) fn look<D: Drive, A: Audit>(
+    fn section<D: Drive, A: Audit>(
         &mut self,
         alloc: Global,
         slot: &mut Slot<D, A>,
         disks: &mut [D],
-    ) -> Option<Stub>
-        requires state { self.old.state ≡ state.Looking }
-        requires next { (numbers_of slot.old).index ≡ bucket_slot (key_of self.old.target).bucket }
-        requires turns { (numbers_of slot.old).turns + 1 < 2 ^ 64 }
-        requires slot_set { (numbers_of slot.old).set ≡ self.old.set }
-        requires disks { length disks.old ≡ self.old.set.drives }
-        ensures same { IsSamePut self.old self.new }
-        ensures left { left_of self.new < left_of self.old }
-        ensures read { self.new.read ≡ self.old.read }
-        ensures disks { length disks.new ≡ length disks.old }
-        ensures numbers { NumbersMove (numbers_of slot.old) (numbers_of slot.new) }
-        ensures turns { TurnsSo D.Drive (PutStands self.old) (PutStands self.new) result
-            (slot_seen A.entries A.count slot.old) (slot_seen A.entries A.count slot.new) (views D.Drive disks.old) (views D.Drive disks.new) }
-    {
-        let look = look_at_bucket(alloc, slot, disks, self.name.as_str());
-        go_to(&mut self.state, after_look(look.looked, self.long));
-        look.stub
-    }
-
-    /// Begins the put of the key, and the stage of its body. Where there is no memory for the stage the put is given up.
-    pub(crate) fn begin<D: Drive, A: Audit>(
-        &mut self,
-        alloc: Global,
-        slot: &mut Slot<D, A>,
-        mode: Mode,
-    ) -> Option<Stub>
-        requires state { self.old.state ≡ state.Beginning mode }
-        requires next { (numbers_of slot.old).index ≡ key_slot (key_of self.old.target) }
-        requires turns { (numbers_of slot.old).turns + 1 < 2 ^ 64 }
-        requires slot_set { (numbers_of slot.old).set ≡ self.old.set }
-        ensures same { IsSamePut self.old self.new }
-        ensures left { left_of self.new < left_of self.old }
-        ensures read { self.new.read ≡ self.old.read }
-        ensures numbers { NumbersMove (numbers_of slot.old) (numbers_of slot.new) }
-        ensures turns { (disks : List DriveView) → length disks ≡ self.old.set.drives → TurnsSo D.Drive (PutStands self.old) (PutStands self.new) result
-            (slot_seen A.entries A.count slot.old) (slot_seen A.entries A.count slot.new) disks disks }
-    {
-        let Turn { answer, stub } = slot.begin_put(alloc, self.target.key());
-        let state = begun(
-            alloc,
-            self.set,
-            self.register.as_str(),
-            self.long,
-            self.md5,
-            mode,
-            answer,
-        );
-        go_to(&mut self.state, state);
-        stub
-    }
-
-    /// Ends the put, whose stage is over: it is committed, or given up.
-    pub(crate) fn end<D: Drive, A: Audit>(
-        &mut self,
-        alloc: Global,
-        slot: &mut Slot<D, A>,
-        disks: &mut [D],
-    ) -> Option<Stub>
-        requires state { (work : WorkSpec) × (self.old.state ≡ state.Staging work) × (work.next ≡ Finish) }
-        requires next { (numbers_of slot.old).index ≡ key_slot (key_of self.old.target) }
-        requires turns { (numbers_of slot.old).turns + 1 < 2 ^ 64 }
-        requires slot_set { (numbers_of slot.old).set ≡ self.old.set }
-        requires disks { length disks.old ≡ self.old.set.drives }
-        ensures same { IsSamePut self.old self.new }
-        ensures left { left_of self.new < left_of self.old }
-        ensures read { self.new.read ≡ self.old.read }
-        ensures disks { length disks.new ≡ length disks.old }
-        ensures numbers { NumbersMove (numbers_of slot.old) (numbers_of slot.new) }
-        ensures turns { TurnsSo D.Drive (PutStands self.old) (PutStands self.new) result
-            (slot_seen A.entries A.count slot.old) (slot_seen A.entries A.count slot.new) (views D.Drive disks.old) (views D.Drive disks.new) }
-    {
-        let PutState::Staging(work) = self.moved_out() else {
-            unreachable!()
-        };
-        self.clearing.begin();
-        let mode = work.mode;
-        let flight = work.flight;
-        match end_of(alloc, &self.target, mode, flight.id(), work.stage) {
-            PutEnd::Commits(deed) => {
-                let turn = slot.commit(alloc, disks, &deed, Some(flight), self.now);
-                drop(deed);
-                go_to(&mut self.state, put_committed(turn.answer));
-                turn.stub
+    ) -> Option<Stub> {
+        match &self.state {
+            PutState::Looking => self.look(alloc, slot, disks),
+            PutState::Beginning(mode) => {
+                let mode = *mode;
+                self.begin(alloc, slot, mode)
             }
-            PutEnd::GivesUp(why) => {
-                go_to(&mut self.state, PutState::Telling(Reply::Refused(why)));
-                slot.drop_put(flight).stub
-            }
-            PutEnd::LacksMemory => {
-                go_to(&mut self.state, PutState::Told(Some(Cut::NoMemory)));
-                slot.drop_put(flight).stub
+            PutState::Staging(_) => self.end(alloc, slot, disks),
+            PutState::Dropping(_, _) => self.give_up(slot),
+            PutState::Draining(_) | PutState::Telling(_) => unreachable!(),
+            PutState::Told(_) => {
+                self.clear(alloc, slot);
+                None
             }
         }
     }
 
-    /// Gives the put up, and the call is cut.
-    pub(crate) fn give_up<D: Drive, A: Audit>(&mut self, slot: &mut Slot<D, A>) -> Option<Stub>
-        requires state { (flight : FlightSpec) × (cut : CutSpec) × (self.old.state ≡ state.Dropping flight cut) }
-        requires next { (numbers_of slot.old).index ≡ key_slot (key_of self.old.target) }
-        requires turns { (numbers_of slot.old).turns + 1 < 2 ^ 64 }
-        requires slot_set { (numbers_of slot.old).set ≡ self.old.set }
-        ensures same { IsSamePut self.old self.new }
-        ensures left { left_of self.new < left_of self.old }
-        ensures read { self.new.read ≡ self.old.read }
-        ensures numbers { NumbersMove (numbers_of slot.old) (numbers_of slot.new) }
-        ensures turns { (disks : List DriveView) → TurnsSo D.Drive (PutStands self.old) (PutStands self.new) result
-            (slot_seen A.entries A.count slot.old) (slot_seen A.entries A.count slot.new) disks disks }
-    {
-        let PutState::Dropping(flight, cut) = self.moved_out() else {
-            unreachable!()
-        };
-        self.clearing.begin();
-        go_to(&mut self.state, PutState::Told(Some(cut)));
-        slot.drop_put(flight).stub
+    fn barred(&mut self, why: Barred) {
+        if let PutState::Told(_) = &self.state {
+            self.clearing.pass_over();
+        } else {
+            let state = self.moved_out();
+            self.state = barred_after(state, why, self.read, self.long);
+        }
     }
 
-    /// Takes trash of the key's slot.
-    pub(crate) fn clear<D: Drive, A: Audit>(&mut self, alloc: Global, slot: &mut Slot<D, A>)
-        requires state { (cut : Option CutSpec) × (self.old.state ≡ state.Told cut) }
-        requires takes { self.old.clearing.takes ≡ true }
-        requires next { (numbers_of slot.old).index ≡ key_slot (key_of self.old.target) }
-        requires turns { (numbers_of slot.old).turns + 1 < 2 ^ 64 }
-        ensures same { IsSamePut self.old self.new }
-        ensures left { left_of self.new < left_of self.old }
-        ensures read { self.new.read ≡ self.old.read }
-        ensures numbers { NumbersMove (numbers_of slot.old) (numbers_of slot.new) }
-        ensures turns { (disks : List DriveView) → TurnsSo D.Drive (PutStands self.old) (PutStands self.new) None
-            (slot_seen A.entries A.count slot.old) (slot_seen A.entries A.count slot.new) disks disks }
-    {
-        self.clearing
-            .take(alloc, &self.set, key_slot(self.target.key()), slot);
+    fn data<D: Drive>(&mut self, _alloc: Global, disks: &mut [D]) {
+        let OpNext::Data = self.next() else {
+            return;
+        };
+        if let PutState::Told(_) = &self.state {
+            self.clearing.remove(disks);
+        } else {
+            self.work_on(disks);
+        }
+    }
+
+    fn feed<F: Feed>(&mut self, alloc: Global, feed: &mut F) {
+        let state = self.moved_out();
+        let PutFed { state, read } = fed(alloc, state, self.read, self.long, feed);
+        self.read = read;
+        self.state = state;
+    }
+
+    fn tell<T: Teller>(&mut self, _alloc: Global, teller: &mut T) {
+        if let PutState::Telling(reply) = &self.state {
+            let cut = tell_head(teller, reply);
+            self.state = PutState::Told(cut);
+        }
+    }
+
+    fn cut(&self) -> Option<Cut> {
+        match &self.state {
+            PutState::Told(cut) => *cut,
+            PutState::Looking
+            | PutState::Beginning(_)
+            | PutState::Staging(_)
+            | PutState::Dropping(_, _)
+            | PutState::Draining(_)
+            | PutState::Telling(_) => None,
+        }
     }
 }

@@ -3,10 +3,9 @@
 ghost use Rattle.std.specs.Prelude.{◌≡◌, ◌≤◌, IsUtf8, length, string_bytes};
 ghost use Rattle.slot_history.specs.Names.{bucket_name, key_slot};
 ghost use Rattle.version_list.specs.State.{IsMoment};
-ghost use Rattle.object_ops.specs.Clearing.{files_left};
+ghost use Rattle.object_ops.specs.Clearing.{files_left, AreDue};
 ghost use Rattle.object_ops.specs.Put.{drives_by, long_by, reach_by};
 ghost use Rattle.object_ops.specs.PutTarget.{key_of, kind_of, register_of};
-ghost use Rattle.object_ops.specs.Removing.{AreDue};
 ghost use Rattle.drive_base.specs.declared.drive.TheConstants.{LONGEST_NAME};
 ghost use Rattle.desk_base.specs.Calls.{most_body, longest_kind};
 

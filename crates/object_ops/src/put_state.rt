@@ -1,9 +1,10 @@
-//! How far a PutObject is.
+//! The states of a PutObject, and its work while the body is staged.
 
 ghost use Rattle.std.specs.Prelude.{◌≡◌};
+ghost use Rattle.put_stage.specs.Steps.{IsNext};
 
-use crate::put_work::Work;
 use call_types::{Cut, Mode, Reply};
+use put_stage::{Stage, StageNext};
 use slot_core::Flight;
 use std::mem;
 
@@ -31,4 +32,18 @@ pub(crate) fn go_to(state: &mut PutState, next: PutState)
     ensures { state.new ≡ next }
 {
     drop(mem::replace(state, next));
+}
+
+/// A put under way.
+#[derive(Drop)]
+pub struct Work {
+    /// The mode of its bucket.
+    pub(crate) mode: Mode,
+    /// Its flight.
+    pub(crate) flight: Flight,
+    /// The stage of its body.
+    pub(crate) stage: Stage,
+    /// What comes next for that.
+    pub(crate) next: StageNext,
+    pub ghost is_next: { ∥ IsNext stage next ∥₁ },
 }

@@ -1,10 +1,9 @@
 use Rattle.std.proofs.Common.{List, Result, subst, sym}
 use Rattle.stamp_id.specs.declared.version.VersionId.{VersionId}
 use Rattle.slot_core.specs.Views.{holding_of, pins_of}
-use Rattle.slot_core.specs.declared.fault.SlotFault.{SlotFault}
+use Rattle.slot_core.specs.declared.slot.SlotFault.{SlotFault}
 use Rattle.op_steps.specs.Store.{slot_seen}
-use Rattle.object_ops.specs.Clearing.{IsPlannedOf}
-use Rattle.object_ops.specs.Removing.{files_of}
+use Rattle.object_ops.specs.Clearing.{IsPlannedOf, files_of}
 use Rattle.object_ops.proofs.OrderLemmas.{planned_due, planned_few}
 use Rattle.object_ops.proofs.TrashLemmas.{takes_trash}
 use Rattle.object_ops.proofs.clearing.Clearing.take.Goals as goal

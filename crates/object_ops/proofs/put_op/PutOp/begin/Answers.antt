@@ -6,7 +6,7 @@ use Rattle.slot_core.specs.Sections.{PutHolds}
 use Rattle.slot_core.specs.Views.{holding_of, numbers_of}
 use Rattle.op_steps.specs.Store.{slot_seen}
 use Rattle.object_ops.specs.PutStands.{ask_of}
-use Rattle.object_ops.specs.PutWork.{BeginsTo}
+use Rattle.object_ops.specs.PutStageCalls.{BeginsTo}
 use Rattle.object_ops.specs.PutTarget.{key_of}
 use Rattle.object_ops.proofs.PutRefused.{begin_so}
 use Rattle.object_ops.proofs.PutLefts.{begin_to_left, none_read_yet}

@@ -8,10 +8,10 @@ use Rattle.op_steps.specs.Words.{TurnsSo}
 use Rattle.object_ops.specs.Put.{left_at}
 use Rattle.object_ops.specs.PutStands.{PutStands, PutStandsAt, ask_of}
 use Rattle.receipts.specs.Registers.{key_slot}
-use Rattle.object_ops.specs.Putting.{Ends}
-use Rattle.object_ops.specs.Removing.{AreDue, files_of}
+use Rattle.object_ops.specs.PutOutcome.{Ends}
+use Rattle.object_ops.specs.Clearing.{AreDue, files_of}
 use Rattle.object_ops.specs.PutTarget.{key_of}
-use Rattle.object_ops.specs.declared.removal.Removal.{Removal}
+use Rattle.object_ops.specs.declared.data_files.Removal.{Removal}
 use Rattle.object_ops.specs.declared.put_state.PutState.TheVariants.{Telling, Told}
 use Rattle.object_ops.proofs.PutAnswers.{drop_says, end_commits, end_gives_up, end_lacks, finishing, lawful_end, named_end, short_end}
 use Rattle.object_ops.proofs.PutLefts.{all_read, committed_left, over_left, staging_over}
