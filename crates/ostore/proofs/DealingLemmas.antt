@@ -6,7 +6,7 @@ use Rattle.store_shared.specs.Parting.{AreJoined, IsCutAt, IsSplit, parts_at, pa
 use Rattle.store_shared.specs.SharedPasses.{drives_of, pass_at, pass_holds, passes_in, shared_holds}
 use Rattle.store_shared.specs.declared.shared.SharedPass.{SharedPass}
 use Rattle.turn_lock.specs.declared.pass.Pass.{Pass}
-use Rattle.store_shared.specs.declared.turned.TurnedSlot.{TurnedSlot}
+use Rattle.store_shared.specs.declared.shared.TurnedSlot.{TurnedSlot}
 use Rattle.ostore.specs.Workers.{AreDealt, AreUnited}
 
 module _ {D A : Type 0} where

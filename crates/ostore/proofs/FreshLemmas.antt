@@ -12,7 +12,7 @@ use Rattle.drive_memory.specs.declared.drive.MemDrive.{MemDrive}
 use Rattle.slot_core.specs.declared.slot.SlotParts.{SlotParts}
 use Rattle.slot_data.specs.Disks.{Disks}
 use Rattle.store_shared.specs.Holders.{AreBare, BareRigHolds, IsBare, RigHolds, RigIsBare, nothing_done}
-use Rattle.store_shared.specs.declared.opened.StoreParts.{StoreParts}
+use Rattle.store_shared.specs.declared.pass.StoreParts.{StoreParts}
 use Rattle.ostore.specs.Fresh.{IsFreshDrive, IsFreshRig, IsFreshSlot}
 use Rattle.ostore.specs.Lives.{Holds}
 use Rattle.ostore.specs.Rigs.{IsRigOf}

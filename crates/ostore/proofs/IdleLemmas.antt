@@ -11,7 +11,7 @@ use Rattle.store_shared.specs.Parting.{IsCutAt, IsFirstAt}
 use Rattle.store_shared.specs.SharedPasses.{drives_of, pass_at, set_held, shared_holds}
 use Rattle.store_shared.specs.Turned.{turns_in}
 use Rattle.store_shared.specs.declared.shared.SharedPass.{SharedPass}
-use Rattle.store_shared.specs.declared.turned.TurnedSlot.{TurnedSlot}
+use Rattle.store_shared.specs.declared.shared.TurnedSlot.{TurnedSlot}
 use Rattle.ostore.specs.Workers.{AreDealt, AreUnited}
 
 module _ {D A : Type 0} where

@@ -1,4 +1,3 @@
-mod ClosingLemmas
 mod DealingLemmas
 mod DocumentLemmas
 mod DoorsLemmas

@@ -9,23 +9,25 @@ use Rattle.slot_core.specs.Views.{numbers_of}
 use Rattle.slot_core.specs.declared.slot.Slot.{Slot}
 use Rattle.slot_core.specs.declared.slot.SlotParts.{SlotParts}
 use Rattle.slot_data.specs.Disks.{Disks}
-use Rattle.op_steps.specs.Calling.{AllWent, CallsKeep, joined}
+use Rattle.log_laws.specs.Calling.{AllWent, CallsKeep, joined}
 use Rattle.op_steps.specs.Claims.{disks_of as counted}
-use Rattle.op_steps.specs.Leading.{AllLead, Standing}
-use Rattle.op_steps.specs.Requests.{CallsComplete}
+use Rattle.log_laws.specs.Laws.{AllLead}
+use Rattle.op_steps.specs.Leading.{Standing}
+use Rattle.log_laws.specs.Requests.{CallsComplete}
 use Rattle.op_steps.specs.Steps.{IsSlotAt}
 use Rattle.op_steps.specs.Store.{SlotSeen, slot_seen, slots_seen}
 use Rattle.receipts.specs.Events.{Log}
+use Rattle.store_shared.proofs.OrderLemmas.{seen_at, some_of}
+use Rattle.store_shared.proofs.ShutLemmas.{shut_apart}
 use Rattle.store_shared.proofs.OpeningLemmas.{opened_count}
 use Rattle.store_shared.specs.Holders.{ClosedStoreHolds, IsLastUsed, IsTakenApart, KeptDrivesRest, OpenedStoreHolds, RigHolds}
 use Rattle.store_shared.specs.Laws.{PassesAreInOrder}
 use Rattle.store_shared.specs.Opening.{AreOpened, with_out}
 use Rattle.store_shared.specs.Passes.{disks_of, set_of, slots_of}
-use Rattle.store_shared.specs.declared.opened.StoreParts.{StoreParts}
+use Rattle.store_shared.specs.declared.pass.StoreParts.{StoreParts}
 use Rattle.ostore.specs.Lives.{LivesAreComplete, LivesGoOn}
 use Rattle.ostore.specs.Logs.{pipe_logs}
-use Rattle.ostore.specs.Rigs.{AreClosed}
-use Rattle.ostore.proofs.PlaceLemmas.{closed_at, closed_count, opened_at, seen_at, some_of}
+use Rattle.ostore.proofs.PlaceLemmas.{opened_at}
 
 -- whichever drives are out, terms are kept as before
 last_of_set : (set : SetPlan) (out used : ℕ) (disks : List DriveView) → IsLastUsed (with_out set out) used disks → IsLastUsed set used disks
@@ -62,41 +64,9 @@ module _ {D A : Type 0} (ghosts : Ghosts D) (entries : A → Option (List Entry)
       let e = some_of first k inside in
       let d = some_of old k before in
       let is = opened_at entries count set term 0 old first opened k d e before in
-      let goes = went k (slot_seen entries count (slice_index_or first k e)) now (seen_at ghosts entries count first k e inside) there in
+      let goes = went k (slot_seen entries count (slice_index_or first k e)) now (seen_at entries count first k e inside) there in
       let same : now.numbers.term ≡ term = goes.term ∙ ap (λ n. n.term) is.numbers in
       omega (arith, same)
-
-  -- few numbers were drawn of any slot
-  few_numbers : (last : List (Slot D A)) (k : ℕ) (now : SlotSeen D) → IsSlotAt (slots_seen entries count last) k now → now.numbers.seq < 2 ^ 64
-  few_numbers last k now there =
-      let counted_last = length-map last (slot_seen entries count) in
-      let within = there.0 in
-      let behind : k < length last = omega (arith, within, counted_last) in
-      let e = some_of last k behind in
-      let slot = slice_index_or last k e in
-      let seen = seen_at ghosts entries count last k e behind in
-      let same : now.numbers.seq ≡ (numbers_of slot).seq = ap (λ (s : SlotSeen D). s.numbers.seq) (sym (there.1 now) ∙ seen.1 now) in
-      let few = slot.seq_fits in
-      omega (arith, same, few)
-
-  -- what a store left that was closed are its drives, and the lanes of its slots
-  taken_apart : (term : ℕ) (last : List (Slot D A)) (disks : List DriveView) (parts : StoreParts D A) → AreClosed last parts.slots.items
-      → views ghosts parts.disks.items ≡ disks
-      → ((k : ℕ) (now : SlotSeen D) → IsSlotAt (slots_seen entries count last) k now → now.numbers.term ≤ term)
-      → IsTakenApart ghosts term (slots_seen entries count last) disks parts
-  taken_apart term last disks parts closed same low = record {
-    disks_are = same;
-    lanes_are = λ k of there.
-        let counted_parts = closed_count last parts.slots.items closed in
-        let within = there.0 in
-        let behind : k < length last = omega (arith, within, counted_parts) in
-        let e = some_of last k behind in
-        let slot = slice_index_or last k e in
-        let left = closed_at last parts.slots.items closed k e of behind in
-        (slot_seen entries count slot, seen_at ghosts entries count last k e behind, ap (λ (p : SlotParts D A). p.lanes.items) (sym (there.1 of)) ∙ left.lanes);
-    low = low;
-    fits = few_numbers last;
-  }
 
   pub lives_go_on : ((set : SetPlan) → CallsKeep ghosts set) → PassesAreInOrder ghosts entries count
       → OpenedStoreHolds ghosts entries count → KeptDrivesRest → ClosedStoreHolds A ghosts → LivesGoOn ghosts entries count
@@ -122,7 +92,7 @@ module _ {D A : Type 0} (ghosts : Ghosts D) (entries : A → Option (List Entry)
       let rest = kept_rest (set_of opened) term (set_of opened).out before behind run.drives open_holds.disks open_holds.lost_are in
       let left : StoreParts D A = record { slots = after.slots; disks = run.closed.row } in
       let low = low_terms (set_of opened) term (joined logs) run.parts.slots.items (slots_of opened) (slots_of stop) run.opens.slots long went.slots_went in
-      let apart = taken_apart term (slots_of stop) behind left run.closed.slots (ap (λ (l : List D). views ghosts l) run.closed.disks) low in
+      let apart = shut_apart ghosts entries count stop left (record { slots = run.closed.slots; disks = run.closed.disks }) term low in
       let held = closes (set_of opened) term files last behind ([] ++ later.left) later.later left later_order rest.0 rest.1 later.holds apart in
       let of_opened : RigHolds ghosts (with_out set out) term out files later.later left =
       subst (λ (s : SetPlan). RigHolds ghosts s term s.out files later.later left) run.opens.set_is held in

@@ -16,7 +16,7 @@ use Rattle.turn_lock.specs.declared.pass.Pass.{Pass}
 use Rattle.store_shared.specs.Parting.{HasAllParts, IsCutAt, IsJoinedAt, LacksParts, parts_at, parts_in}
 use Rattle.store_shared.specs.SharedPasses.{SharedHolds, pass_at, pass_holds, passes_in, shared_holds}
 use Rattle.store_shared.specs.declared.shared.SharedPass.{SharedPass}
-use Rattle.store_shared.specs.declared.turned.TurnedSlot.{TurnedSlot}
+use Rattle.store_shared.specs.declared.shared.TurnedSlot.{TurnedSlot}
 use Rattle.serve_loop.specs.Doors.{WorkBegan}
 use Rattle.ostore.specs.Workers.{AreDealt, AreUnited, DoorsServed, HasServed, IsPost, Worker, begun_by, pass_by}
 use Rattle.ostore.proofs.WorkerLemmas.{all_of_map, picked_map, picked_some}

@@ -12,7 +12,7 @@ use Rattle.store_shared.specs.Parting.{IsCutAt, IsFirstAt, IsJoinedAt}
 use Rattle.store_shared.specs.Sections.{TurnedSection, turn_by, turns_by}
 use Rattle.store_shared.specs.SharedPasses.{pass_at}
 use Rattle.store_shared.specs.declared.shared.SharedPass.{SharedPass}
-use Rattle.store_shared.specs.declared.turned.TurnedSlot.{TurnedSlot}
+use Rattle.store_shared.specs.declared.shared.TurnedSlot.{TurnedSlot}
 use Rattle.ostore.specs.ServedLife.{Made}
 use Rattle.ostore.specs.Workers.{AreDealt, AreUnited}
 

@@ -5,8 +5,8 @@ use Rattle.audit_trail.specs.declared.entry.Entry.{Entry}
 use Rattle.drive_base.specs.View.{DriveView, views}
 use Rattle.drive_base.specs.declared.drive.Drive.{Ghosts}
 use Rattle.drive_base.specs.declared.plan.SetPlan.{SetPlan}
-use Rattle.op_steps.specs.Calling.{CallsKeep, joined}
-use Rattle.op_steps.specs.Laws.{DrivesKeep}
+use Rattle.log_laws.specs.Calling.{CallsKeep, joined}
+use Rattle.op_steps.specs.Moves.{DrivesKeep}
 use Rattle.op_steps.specs.Store.{slot_seen, slots_seen}
 use Rattle.store_shared.proofs.HolderFileLemmas.{each_tells, opened_spares_others}
 use Rattle.store_shared.proofs.HolderKeptLemmas.{kept_stays}
@@ -14,7 +14,7 @@ use Rattle.store_shared.specs.Laws.{AnswersAreCalls, PassesAreInOrder}
 use Rattle.store_shared.specs.OpeningAll.{StoreIsOpen}
 use Rattle.store_shared.specs.Passes.{disks_of, set_of, slots_of}
 use Rattle.store_shared.specs.Trails.{PlainAnswersHaveTrails}
-use Rattle.store_shared.specs.declared.opened.StoreParts.{StoreParts}
+use Rattle.store_shared.specs.declared.pass.StoreParts.{StoreParts}
 use Rattle.store_shared.specs.declared.pass.PlainPass.{PlainPass}
 use Rattle.term_gate.specs.Terms.{EachTells, IsKept}
 use Rattle.ostore.specs.History.{AllRan, ClosedSlotRan}

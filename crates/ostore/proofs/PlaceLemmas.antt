@@ -10,18 +10,15 @@ use Rattle.slot_core.specs.Opening.{IsOpened}
 use Rattle.slot_core.specs.Views.{numbers_of}
 use Rattle.slot_core.specs.declared.slot.Slot.{Slot}
 use Rattle.slot_core.specs.declared.slot.SlotParts.{SlotParts}
-use Rattle.op_steps.specs.Calling.{AllWent}
+use Rattle.log_laws.specs.Calling.{AllWent}
 use Rattle.op_steps.specs.Steps.{IsSlotAt}
 use Rattle.op_steps.specs.Store.{AreInOrder, slot_seen, slots_seen}
 use Rattle.store_shared.specs.Opening.{AreOpened}
+use Rattle.store_shared.specs.Closing.{SlotsAreShut}
 use Rattle.store_shared.proofs.OpeningLemmas.{opened_count}
+use Rattle.store_shared.proofs.OrderLemmas.{seen_at, some_of}
+use Rattle.store_shared.proofs.ShutLemmas.{shut_at}
 use Rattle.ostore.specs.History.{AllRan, ClosedSlotRan}
-use Rattle.ostore.specs.Rigs.{AreClosed, IsClosed}
-
--- some element of a list that has one
-pub some_of : {X : Type 0} (xs : List X) (k : ℕ) → k < length xs → X
-some_of [] k inside = absurd (omega (arith, inside))
-some_of (x ∷ xs) k inside = x
 
 module _ {D A : Type 0} (entries : A → Option (List Entry)) (count : A → ℕ) where
   -- the slot in each place is open over the lanes and the audit there
@@ -39,29 +36,7 @@ module _ {D A : Type 0} (entries : A → Option (List Entry)) (count : A → ℕ
       (subst (λ n. IsOpened entries count set n term (slice_index_or more k d) (slice_index_or rest k e)) same
       (opened_at set term (index + 1) more rest others k d e (omega (arith, inside))))
 
--- as many were left as there were slots
-pub closed_count : {D A : Type 0} (slots : List (Slot D A)) (parts : List (SlotParts D A)) → AreClosed slots parts → length parts ≡ length slots
-closed_count [] parts none = ap length none
-closed_count (slot ∷ slots) parts (first, rest, is, closed, others) = ap length is ∙ ap suc (closed_count slots rest others)
-
--- what is in each place was left by the slot there
-pub closed_at : {D A : Type 0} (slots : List (Slot D A)) (parts : List (SlotParts D A)) → AreClosed slots parts → (k : ℕ) (e : Slot D A) (d : SlotParts D A)
-    → k < length slots → IsClosed (slice_index_or slots k e) (slice_index_or parts k d)
-closed_at [] parts none k e d inside = absurd (omega (arith, inside))
-closed_at (slot ∷ slots) parts (first, rest, is, closed, others) zero e d inside =
-    subst (λ (l : List (SlotParts _ _)). IsClosed slot (slice_index_or l 0 d)) (sym is) closed
-closed_at (slot ∷ slots) parts (first, rest, is, closed, others) (suc k) e d inside =
-    subst (λ (l : List (SlotParts _ _)). IsClosed (slice_index_or slots k e) (slice_index_or l (suc k) d)) (sym is)
-    (closed_at slots rest others k e d (omega (arith, inside)))
-
 module _ {D A : Type 0} (ghosts : Ghosts D) (entries : A → Option (List Entry)) (count : A → ℕ) where
-  -- what is seen of the slot in a place
-  pub seen_at : (slots : List (Slot D A)) (k : ℕ) (e : Slot D A) → k < length slots
-      → IsSlotAt (slots_seen entries count slots) k (slot_seen entries count (slice_index_or slots k e))
-  seen_at slots k e inside =
-      let long = length-map slots (slot_seen entries count) in
-      (omega (arith, long, inside), λ d. get_or-map (slot_seen entries count) slots k e d inside)
-
   -- its index is its place
   index_at : (set : SetPlan) (slots : List (Slot D A)) (disks : List DriveView) → AreInOrder set (slots_seen entries count slots) disks
       → (k : ℕ) (e : Slot D A) → k < length slots → (numbers_of (slice_index_or slots k e)).index ≡ k
@@ -74,16 +49,16 @@ module _ {D A : Type 0} (ghosts : Ghosts D) (entries : A → Option (List Entry)
   pub all_ran : (set : SetPlan) (term : ℕ) (log : Log) (old new : List (SlotParts D A)) (first last : List (Slot D A))
       (disks : List DriveView) → ClosedSlotRan entries count ghosts.tells ghosts.files → AreOpened entries count set term 0 old first
       → length first ≡ length last → AreInOrder set (slots_seen entries count last) disks
-      → AllWent ghosts set log (slots_seen entries count first) (slots_seen entries count last) → AreClosed last new
+      → AllWent ghosts set log (slots_seen entries count first) (slots_seen entries count last) → SlotsAreShut last new
       → AllRan entries ghosts.tells ghosts.files set term log old new
   all_ran set term log old new first last disks law opened long order went closed k d inside =
       let counted = opened_count entries count set term 0 old first opened in
       let within : k < length first = omega (arith, counted, inside) in
       let behind : k < length last = omega (arith, long, within) in
       let e = some_of first k within in
-      let left = closed_at last new closed k e d behind in
+      let left = shut_at last new closed k e d behind in
       let same : 0 + k ≡ k = omega arith in
       law set term k log (slice_index_or old k d) (slice_index_or new k d) (slice_index_or first k e) (slice_index_or last k e)
       (subst (λ n. IsOpened entries count set n term (slice_index_or old k d) (slice_index_or first k e)) same (opened_at entries count set term 0 old first opened k d e inside))
-      (went k (slot_seen entries count (slice_index_or first k e)) (slot_seen entries count (slice_index_or last k e)) (seen_at first k e within) (seen_at last k e behind))
+      (went k (slot_seen entries count (slice_index_or first k e)) (slot_seen entries count (slice_index_or last k e)) (seen_at entries count first k e within) (seen_at entries count last k e behind))
       (index_at set last disks order k e behind) left.lanes left.audit

@@ -10,7 +10,7 @@ use Rattle.slot_core.specs.declared.slot.SlotParts.{SlotParts}
 use Rattle.term_gate.specs.declared.refusal.OpenRefusal.{OpenRefusal}
 use Rattle.term_gate.specs.declared.refusal.OpenRefusal.TheVariants.{NoMemory}
 use Rattle.store_shared.specs.Holders.{ArePartsAt, IsTried, RigHolds, TriedRigHolds}
-use Rattle.store_shared.specs.declared.opened.StoreParts.{StoreParts}
+use Rattle.store_shared.specs.declared.pass.StoreParts.{StoreParts}
 use Rattle.ostore.specs.Lives.{RefusalsLeave}
 use Rattle.ostore.specs.Opening.{AreLeft, SetIsRefused, SlotIsRefused}
 

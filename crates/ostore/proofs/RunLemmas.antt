@@ -6,8 +6,7 @@ use Rattle.drive_base.specs.declared.plan.SetPlan.{SetPlan}
 use Rattle.slot_core.specs.Opening.{OpenedSlotStands}
 use Rattle.slot_core.specs.Standing.{SlotStands}
 use Rattle.slot_core.specs.Views.{SlotNumbers, holding_of, numbers_of}
-use Rattle.op_steps.specs.Laws.{with_entries}
-use Rattle.op_steps.specs.Leading.{LeadsTo, entered_at, entries_at}
+use Rattle.op_steps.specs.Leading.{LeadsTo, entered_at, entries_at, with_entries}
 use Rattle.ostore.specs.History.{ClosedSlotRan}
 
 module _ {D A : Type 0} (entries : A → Option (List Entry)) (count : A → ℕ) (tells : D → Bool) (files : D → Files) where

@@ -10,7 +10,7 @@ use Rattle.audit_trail.specs.declared.audit.Audit.{Ghosts as AuditGhosts}
 use Rattle.drive_base.specs.declared.drive.Drive.{Ghosts}
 use Rattle.slot_core.specs.contracts.slot.Slot as Slot
 use Rattle.turn_lock.specs.contracts.pass.Pass as Pass
-use Rattle.store_shared.specs.contracts.turned.TurnedSlot as Turned
+use Rattle.store_shared.specs.contracts.shared.TurnedSlot as Turned
 use Rattle.store_shared.specs.contracts.shared.SharedDesk as Desk
 use Rattle.store_shared.specs.contracts.shared.SharedPass as Way
 

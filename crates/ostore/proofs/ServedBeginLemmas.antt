@@ -20,7 +20,8 @@ use Rattle.store_shared.specs.Passes.{set_of, slots_of}
 use Rattle.store_shared.proofs.OpeningLemmas.{opened_count}
 use Rattle.ostore.specs.History.{LanesBegin}
 use Rattle.ostore.specs.ServedLaws.{ServesBegin}
-use Rattle.ostore.proofs.PlaceLemmas.{opened_at, seen_at, some_of}
+use Rattle.ostore.proofs.PlaceLemmas.{opened_at}
+use Rattle.store_shared.proofs.OrderLemmas.{seen_at, some_of}
 
 module _ {D A : Type 0} (ghosts : Ghosts D) (entries : A → Option (List Entry)) (count : A → ℕ) where
   -- the lanes of a slot that was opened, and stands for a state, are those from which a history begins
@@ -55,5 +56,5 @@ module _ (R G C : Type 0) {D A O S T Root : Type 0} (ghosts : Ghosts D) (root : 
             (opened_at entries count set term 0 rig.slots.items slots (subst (λ l. AreOpened entries count set term 0 l slots) x.are.slots x.opens.slots) k d e
             (omega (arith, olds, inside))) in
             lanes_begin ghosts entries count set term k (slice_index_or rig.slots.items k d) (slice_index_or slots k e) (at k) is
-            (held.holds k (slot_seen entries count (slice_index_or slots k e)) (seen_at ghosts entries count slots k e within)).stands,
+            (held.holds k (slot_seen entries count (slice_index_or slots k e)) (seen_at entries count slots k e within)).stands,
       )

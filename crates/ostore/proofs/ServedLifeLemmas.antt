@@ -20,13 +20,16 @@ use Rattle.slot_core.specs.Opening.{IsOpened}
 use Rattle.slot_core.specs.Views.{SlotNumbers, numbers_of}
 use Rattle.slot_core.specs.declared.slot.Slot.{Slot}
 use Rattle.slot_core.specs.declared.slot.SlotParts.{SlotParts}
-use Rattle.op_steps.specs.Store.{any_effect, slot_seen}
+use Rattle.op_steps.specs.Store.{slot_seen}
 use Rattle.op_steps.proofs.StepLemmas.{same_went}
 use Rattle.turn_lock.specs.History.{IsHistory}
 use Rattle.turn_lock.specs.Passes.{made_with}
 use Rattle.turn_lock.specs.Tickets.{last_ticket}
 use Rattle.turn_lock.specs.declared.lock.TurnLock.{TurnLock}
 use Rattle.turn_lock.specs.declared.pass.Pass.{Pass}
+use Rattle.store_shared.proofs.OrderLemmas.{some_of}
+use Rattle.store_shared.proofs.ShutLemmas.{shut_at}
+use Rattle.store_shared.specs.Closing.{SlotIsShut}
 use Rattle.store_shared.specs.Among.{seen_in}
 use Rattle.store_shared.specs.Opening.{AreOpened}
 use Rattle.store_shared.specs.Parting.{HasAllParts, IsApart, IsClosedAt, IsMade}
@@ -35,13 +38,13 @@ use Rattle.store_shared.specs.Sections.{AnswersHaveSections, IsSection, Sections
 use Rattle.store_shared.specs.SharedPasses.{drives_of, locks_of, pass_at, shared_holds}
 use Rattle.store_shared.specs.Trails.{SharedAnswersHaveTrails}
 use Rattle.store_shared.specs.Turned.{made_slot, name_of, slot_in, turns_in}
-use Rattle.store_shared.specs.declared.parts.PassParts.{PassParts}
+use Rattle.store_shared.specs.declared.pass.PassParts.{PassParts}
 use Rattle.store_shared.specs.declared.pass.PlainPass.{PlainPass}
 use Rattle.store_shared.specs.declared.shared.SharedDesk.{SharedDesk}
 use Rattle.store_shared.specs.declared.shared.SharedPass.{SharedPass}
-use Rattle.store_shared.specs.declared.turned.TurnedSlot.{TurnedSlot}
+use Rattle.store_shared.specs.declared.shared.TurnedSlot.{TurnedSlot}
 use Rattle.ostore.specs.History.{ClosedSlotRan}
-use Rattle.ostore.specs.Rigs.{IsClosed, StoreIsClosed}
+use Rattle.ostore.specs.Rigs.{StoreIsClosed}
 use Rattle.ostore.specs.Served.{IsDeskEnd, IsHanded, IsStoreEnd, Served}
 use Rattle.ostore.specs.ServedLaws.{workers_by, workers_in}
 use Rattle.ostore.specs.ServedLife.{HadAllTurns, LifeServed, Made, WorkerDid, caller_of}
@@ -53,7 +56,7 @@ use Rattle.ostore.specs.declared.serving.StoreEnd.{StoreEnd}
 use Rattle.store_shared.proofs.OpeningLemmas.{opened_count}
 use Rattle.ostore.proofs.PassPartLemmas.{all_parts, none_lacks}
 use Rattle.ostore.proofs.PassTurnLemmas.{HasMade, HasNone, SpentAt, all_made, dealt_none, first_none, united_made, united_none, united_spent}
-use Rattle.ostore.proofs.PlaceLemmas.{closed_at, opened_at, some_of}
+use Rattle.ostore.proofs.PlaceLemmas.{opened_at}
 use Rattle.ostore.proofs.TrailLemmas.{none_called}
 use Rattle.ostore.proofs.WorkedLemmas.{BeganWithNone, Worked, worked}
 use Rattle.ostore.proofs.WorkerLemmas.{all_of_map, picked_some}
@@ -74,7 +77,7 @@ module _ {D A O S T : Type 0} (ghosts : Ghosts D) (entries : A → Option (List 
       → ((k : ℕ) → k < 64 → SlotLed ghosts entries count k (opened k) (closed k) (all_made made k))
       → ((k : ℕ) (d : SlotParts D A) → k < 64 → IsOpened entries count set k term (slice_index_or old k d) (slot_in (opened k)))
       → ((k : ℕ) → k < 64 → (numbers_of (slot_in (closed k))).index ≡ k)
-      → ((k : ℕ) (d : SlotParts D A) → k < 64 → IsClosed (slot_in (closed k)) (slice_index_or new k d))
+      → ((k : ℕ) (d : SlotParts D A) → k < 64 → SlotIsShut (slot_in (closed k)) (slice_index_or new k d))
       → LifeServed ghosts entries count door source sink moment set term slots old new workers []
   life set term slots old new workers made did opened closed is_of all_had found at_first own at_last = record {
     made = made;
@@ -112,7 +115,7 @@ module _ {D A : Type 0} (ghosts : Ghosts D) (entries : A → Option (List Entry)
     in_order = record { ordered = []; same = IsPermutation-refl []; follow = refl };
     are = All-nil (IsSection ghosts entries count k);
     counted = refl;
-    went = same_went ghosts any_effect any_effect k (slot_seen entries count (slot_in turned)) (slot_seen entries count (slot_in turned)) refl;
+    went = same_went ghosts k (slot_seen entries count (slot_in turned)) (slot_seen entries count (slot_in turned)) refl;
   }
 
 -- a lock that is closed has the history of its slot
@@ -216,7 +219,7 @@ module _ (R G : Type 0) {D A O S T C Root : Type 0} (ghosts : Ghosts D) (root : 
   -- the slots of a desk as they were put behind its locks, and as they were closed
   module _ (set : SetPlan) (term : ℕ) (old new : List (SlotParts D A)) (slots : List (Slot D A)) (stop : List (Slot D A)) (olds : length old ≡ 64) (lasts : length stop ≡ 64)
       (at_first : (k : ℕ) (d : SlotParts D A) (e : Slot D A) → k < 64 → IsOpened entries count set k term (slice_index_or old k d) (slice_index_or slots k e))
-      (at_last : (k : ℕ) (e : Slot D A) (d : SlotParts D A) → k < 64 → IsClosed (slice_index_or stop k e) (slice_index_or new k d)) where
+      (at_last : (k : ℕ) (e : Slot D A) (d : SlotParts D A) → k < 64 → SlotIsShut (slice_index_or stop k e) (slice_index_or new k d)) where
     desk_life : (desk : SharedDesk R D A G) (parts handed : PassParts D A) (first whole : SharedPass D A)
         (workers : List (Worker (SharedDesk R D A G) C (SharedPass D A) O)) → IsMade parts desk first → parts.slots.items ≡ slots → IsApart desk whole handed
         → handed.slots.items ≡ stop → DoorsDid workers whole
@@ -296,8 +299,8 @@ module _ (R G : Type 0) {D A O S T C Root : Type 0} (ghosts : Ghosts D) (root : 
       subst (λ n. IsOpened entries count set n term (slice_index_or rig.slots.items k d) (slice_index_or slots k e)) same
       (opened_at entries count set term 0 rig.slots.items slots (subst (λ l. AreOpened entries count set term 0 l slots) x.are.slots opens) k d e
       (omega (arith, olds, inside))) in
-      let at_last : (k : ℕ) (e : Slot D A) (d : SlotParts D A) → k < 64 → IsClosed (slice_index_or stop k e) (slice_index_or after.slots.items k d) =
-      λ k e d inside. closed_at stop after.slots.items l.closed.slots k e d (omega (arith, lasts, inside)) in
+      let at_last : (k : ℕ) (e : Slot D A) (d : SlotParts D A) → k < 64 → SlotIsShut (slice_index_or stop k e) (slice_index_or after.slots.items k d) =
+      λ k e d inside. shut_at stop after.slots.items l.closed.slots k e d (omega (arith, lasts, inside)) in
       ended_life set term rig.slots.items after.slots.items slots stop olds lasts at_first at_last x.begun l.handed doors faults faults_after x.end x.slots_are x.served
       l.is (sym l.slots)
 

@@ -18,7 +18,7 @@ use Rattle.slot_core.specs.Views.{numbers_of}
 use Rattle.slot_core.specs.declared.slot.Slot.{Slot}
 use Rattle.store_shared.specs.Parting.{AreBack}
 use Rattle.store_shared.specs.Passes.{disks_of, set_of, slots_of}
-use Rattle.store_shared.specs.declared.parts.PassParts.{PassParts}
+use Rattle.store_shared.specs.declared.pass.PassParts.{PassParts}
 use Rattle.store_shared.specs.declared.pass.PlainPass.{PlainPass}
 use Rattle.store_shared.specs.declared.shared.SharedPass.{SharedPass}
 use Rattle.ostore.specs.Program.{Does}

@@ -8,7 +8,7 @@ use Rattle.drive_base.specs.View.{DriveView, views}
 use Rattle.drive_base.specs.declared.drive.Drive.{Ghosts}
 use Rattle.drive_base.specs.declared.plan.SetPlan.{SetPlan}
 use Rattle.receipts.specs.Events.{Log}
-use Rattle.op_steps.specs.Calling.{CallsKeep, CallsRan}
+use Rattle.log_laws.specs.Calling.{CallsKeep, CallsRan}
 use Rattle.op_steps.specs.Store.{AreInOrder, SlotSeen, slots_seen}
 use Rattle.serve_loop.specs.Deeds.{Wires}
 use Rattle.serve_loop.specs.Session.{Session}
@@ -17,7 +17,7 @@ use Rattle.store_shared.specs.Answers.{PlainAnswers}
 use Rattle.store_shared.specs.Laws.{AnswersAreCalls, PassesAreInOrder}
 use Rattle.store_shared.specs.Passes.{disks_of, set_of, slots_of}
 use Rattle.store_shared.specs.declared.pass.PlainPass.{PlainPass}
-use Rattle.store_shared.specs.declared.receipt.Receipt.{Receipt}
+use Rattle.store_shared.specs.declared.op_desk.Receipt.{Receipt}
 use Rattle.ostore.specs.Logs.{desk_answers, desk_log, pipe_logs}
 use Rattle.ostore.proofs.LogLemmas.{leads_session}
 

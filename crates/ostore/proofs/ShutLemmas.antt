@@ -11,11 +11,12 @@ use Rattle.slot_core.specs.declared.slot.SlotParts.{SlotParts}
 use Rattle.store_shared.proofs.OpeningLemmas.{opened_count}
 use Rattle.store_shared.specs.Opening.{AreOpened, SetRefuses, SlotRefuses, with_out}
 use Rattle.store_shared.specs.OpeningAll.{OpensStore, StoreIsOpen}
-use Rattle.store_shared.specs.declared.opened.NotOpened.{NotOpened}
-use Rattle.store_shared.specs.declared.opened.StoreParts.{StoreParts}
+use Rattle.store_shared.specs.declared.pass.NotOpened.{NotOpened}
+use Rattle.store_shared.specs.declared.pass.StoreParts.{StoreParts}
 use Rattle.term_gate.specs.declared.refusal.OpenRefusal.TheVariants.{NoMemory}
 use Rattle.ostore.specs.Opening.{AreLeft, IsAway, IsShop, IsShut, NotOpens, SetIsRefused, SlotIsRefused}
-use Rattle.ostore.specs.Rigs.{AreClosed, ArePartsOf, IsRigOf}
+use Rattle.ostore.specs.Rigs.{ArePartsOf, IsRigOf}
+use Rattle.store_shared.specs.Closing.{SlotsAreShut}
 use Rattle.ostore.specs.declared.opening.Shop.{Shop}
 use Rattle.ostore.specs.declared.opening.Shut.{Shut}
 use Rattle.ostore.specs.declared.rig.Rig.{Rig}
@@ -37,10 +38,10 @@ module _ {D A : Type 0} where
 module _ {D A : Type 0} (ghosts : Ghosts D) (entries : A → Option (List Entry)) (count : A → ℕ) where
   -- slots that were opened and closed again
   opened_closed : (set : SetPlan) (term index : ℕ) (all : List (SlotParts D A)) (slots : List (Slot D A)) (more : List (SlotParts D A))
-      → AreOpened entries count set term index all slots → AreClosed slots more → AreLeft ghosts entries count term all more
-  opened_closed set term index [] slots more none closed = subst (λ l. AreClosed l more) none closed
+      → AreOpened entries count set term index all slots → SlotsAreShut slots more → AreLeft ghosts entries count term all more
+  opened_closed set term index [] slots more none closed = subst (λ l. SlotsAreShut l more) none closed
   opened_closed set term index (parts ∷ all) slots more (slot, rest, is, opened, others) closed =
-      let c : AreClosed (slot ∷ rest) more = subst (λ l. AreClosed l more) is closed in (
+      let c : SlotsAreShut (slot ∷ rest) more = subst (λ l. SlotsAreShut l more) is closed in (
         c.0,
         c.1,
         c.2,
@@ -119,7 +120,7 @@ module _ {D A : Type 0} (ghosts : Ghosts D) (entries : A → Option (List Entry)
       set_is_refused : SetRefuses entries count set back.why (views ghosts parts.disks.items) (views ghosts back.parts.disks.items) parts.slots.items
           back.parts.slots.items [] back.slots.items → SetIsRefused ghosts entries count set back.why parts left_parts
       set_is_refused r =
-          let none : is.slots.0 ≡ [] = subst (λ (l : List (Slot D A)). AreClosed (reverse l) is.slots.0) r.slots_are is.slots.2 in
+          let none : is.slots.0 ≡ [] = subst (λ (l : List (Slot D A)). SlotsAreShut (reverse l) is.slots.0) r.slots_are is.slots.2 in
           record {
             slots = is.slots.1 ∙ (ap (λ l. back.parts.slots.items ++ l) none ∙ (append-nil back.parts.slots.items ∙ r.left_is));
             cause = r.cause;

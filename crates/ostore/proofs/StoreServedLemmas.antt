@@ -20,7 +20,7 @@ use Rattle.store_shared.specs.Parting.{IsMade}
 use Rattle.store_shared.specs.Passes.{disks_of, set_of, slots_of}
 use Rattle.store_shared.specs.SharedPasses.{drives_of, locks_of, pass_at}
 use Rattle.store_shared.specs.Turned.{made_slot}
-use Rattle.store_shared.specs.declared.parts.PassParts.{PassParts}
+use Rattle.store_shared.specs.declared.pass.PassParts.{PassParts}
 use Rattle.store_shared.specs.declared.pass.PlainPass.{PlainPass}
 use Rattle.store_shared.specs.declared.shared.SharedDesk.{SharedDesk}
 use Rattle.store_shared.specs.declared.shared.SharedPass.{SharedPass}
@@ -35,7 +35,7 @@ use Rattle.ostore.specs.declared.rig.Rig.{Rig}
 use Rattle.ostore.specs.declared.serving.StoreEnd.{StoreEnd}
 use Rattle.ostore.proofs.DoorsLemmas.{all_reverse}
 use Rattle.ostore.proofs.IdleLemmas.{IsIdle, dealt_drives, dealt_idle, first_idle, seen_so, united_drives}
-use Rattle.ostore.proofs.PlaceLemmas.{some_of}
+use Rattle.store_shared.proofs.OrderLemmas.{some_of}
 use Rattle.ostore.proofs.ServedLifeLemmas.{apart, left}
 use Rattle.ostore.proofs.WorkerLemmas.{all_of_map, counts_map, map_both, picked_map, picked_some}
 

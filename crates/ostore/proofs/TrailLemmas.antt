@@ -5,7 +5,7 @@ use Rattle.audit_trail.specs.declared.entry.Entry.{Entry}
 use Rattle.drive_base.specs.Trail.{DriveCall}
 use Rattle.drive_base.specs.declared.drive.Drive.{Ghosts}
 use Rattle.receipts.specs.Events.{Log}
-use Rattle.op_steps.specs.Calling.{joined}
+use Rattle.log_laws.specs.Calling.{joined}
 use Rattle.op_steps.specs.Trails.{LeadsTrail}
 use Rattle.serve_loop.specs.Deeds.{Wires}
 use Rattle.serve_loop.specs.Doors.{DoorView, ServedSince, Sight}

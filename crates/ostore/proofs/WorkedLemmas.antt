@@ -20,9 +20,9 @@ use Rattle.store_shared.specs.SharedAnswers.{SharedAnswers}
 use Rattle.store_shared.specs.SharedLaws.{TurnsRise}
 use Rattle.store_shared.specs.SharedPasses.{drives_of, pass_at, shared_holds}
 use Rattle.store_shared.specs.Trails.{SharedAnswersHaveTrails}
-use Rattle.store_shared.specs.declared.receipt.Receipt.{Receipt}
+use Rattle.store_shared.specs.declared.op_desk.Receipt.{Receipt}
 use Rattle.store_shared.specs.declared.shared.SharedPass.{SharedPass}
-use Rattle.store_shared.specs.declared.turned.TurnedSlot.{TurnedSlot}
+use Rattle.store_shared.specs.declared.shared.TurnedSlot.{TurnedSlot}
 use Rattle.ostore.specs.ServedLife.{Made, WorkerDid}
 use Rattle.ostore.specs.Trails.{AreUncalled}
 use Rattle.ostore.specs.Workers.{HasServed, Worker, pass_by, view_of}

@@ -11,8 +11,7 @@ use Rattle.slot_core.specs.Views.{SlotNumbers, audit_of, lanes_of, last_of, numb
 use Rattle.slot_core.specs.declared.slot.Slot.{Slot}
 use Rattle.slot_core.specs.declared.slot.SlotParts.{SlotParts}
 use Rattle.slot_history.specs.Standing.{Flying, Stands}
-use Rattle.op_steps.specs.Laws.{WentOn, with_entries}
-use Rattle.op_steps.specs.Leading.{Entered, LeadsTo, Standing, entered_at, entries_at, entries_of}
+use Rattle.op_steps.specs.Leading.{Entered, LeadsTo, Standing, WentOn, entered_at, entries_at, entries_of, with_entries}
 use Rattle.op_steps.specs.Store.{slot_seen}
 
 module _ {D A : Type 0} (entries : A → Option (List Entry)) (tells : D → Bool) (files : D → Files) where

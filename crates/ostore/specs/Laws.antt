@@ -6,7 +6,7 @@ use Rattle.serve_loop.specs.Deeds.{Wires}
 use Rattle.serve_loop.specs.Session.{Session}
 use Rattle.serve_loop.specs.declared.ends.ConnectionEnd.{ConnectionEnd}
 use Rattle.store_shared.specs.OpeningAll.{StoreIsOpen}
-use Rattle.store_shared.specs.declared.opened.StoreParts.{StoreParts}
+use Rattle.store_shared.specs.declared.pass.StoreParts.{StoreParts}
 use Rattle.store_shared.specs.declared.pass.PlainPass.{PlainPass}
 use Rattle.ostore.specs.Logs.{desk_answers}
 use Rattle.ostore.specs.Rigs.{ArePartsOf, StoreIsClosed}

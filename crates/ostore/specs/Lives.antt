@@ -6,17 +6,18 @@ use Rattle.drive_base.specs.declared.drive.Drive.{Ghosts}
 use Rattle.drive_base.specs.declared.plan.SetPlan.{SetPlan}
 use Rattle.slot_data.specs.Disks.{Disks}
 use Rattle.receipts.specs.Events.{Log}
-use Rattle.op_steps.specs.Calling.{joined}
+use Rattle.log_laws.specs.Calling.{joined}
 use Rattle.op_steps.specs.Claims.{disks_of as counted}
-use Rattle.op_steps.specs.Leading.{AllLead, Standing}
-use Rattle.op_steps.specs.Requests.{EachComplete}
+use Rattle.log_laws.specs.Laws.{AllLead}
+use Rattle.op_steps.specs.Leading.{Standing}
+use Rattle.log_laws.specs.Requests.{EachComplete}
 use Rattle.op_steps.specs.Store.{slots_seen}
 use Rattle.serve_loop.specs.Deeds.{Wires}
 use Rattle.serve_loop.specs.declared.ends.ConnectionEnd.{ConnectionEnd}
 use Rattle.store_shared.specs.Holders.{LostServe, RigHolds}
 use Rattle.store_shared.specs.Opening.{with_out}
 use Rattle.store_shared.specs.Passes.{disks_of, set_of, slots_of}
-use Rattle.store_shared.specs.declared.opened.StoreParts.{StoreParts}
+use Rattle.store_shared.specs.declared.pass.StoreParts.{StoreParts}
 use Rattle.term_gate.specs.declared.refusal.OpenRefusal.{OpenRefusal}
 use Rattle.ostore.specs.Logs.{pipe_logs}
 use Rattle.ostore.specs.Opening.{NotOpens}

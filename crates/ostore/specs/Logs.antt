@@ -18,7 +18,7 @@ use Rattle.serve_loop.specs.declared.manner.Manner.{Manner}
 use Rattle.store_shared.specs.Answers.{PlainAnswers}
 use Rattle.store_shared.specs.Sections.{AnswersAmong, TurnedSection}
 use Rattle.store_shared.specs.declared.pass.PlainPass.{PlainPass}
-use Rattle.store_shared.specs.declared.receipt.Receipt.{Receipt}
+use Rattle.store_shared.specs.declared.op_desk.Receipt.{Receipt}
 
 -- what a desk answers, over moments M, with receipts R
 abbrev pub Answering : (M R : Type 0) → Type 1

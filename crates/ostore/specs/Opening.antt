@@ -6,17 +6,17 @@ use Rattle.drive_base.specs.View.{views}
 use Rattle.drive_base.specs.declared.drive.Drive.{Ghosts}
 use Rattle.drive_base.specs.declared.plan.SetPlan.{SetPlan}
 use Rattle.slot_core.specs.Opening.{opening}
-use Rattle.slot_core.specs.declared.slot.Slot.{Slot}
 use Rattle.slot_core.specs.declared.slot.SlotParts.{SlotParts}
+use Rattle.store_shared.specs.Closing.{ShutBehind}
 use Rattle.store_shared.specs.Opening.{AuditRefuses, IsTermTaken}
 use Rattle.store_shared.specs.OpeningAll.{StoreIsOpen}
-use Rattle.store_shared.specs.declared.opened.NotOpened.{NotOpened}
-use Rattle.store_shared.specs.declared.opened.StoreParts.{StoreParts}
+use Rattle.store_shared.specs.declared.pass.NotOpened.{NotOpened}
+use Rattle.store_shared.specs.declared.pass.StoreParts.{StoreParts}
 use Rattle.term_gate.specs.Opening.{Opens}
 use Rattle.term_gate.specs.declared.opening.Opened.{Opened}
 use Rattle.term_gate.specs.declared.refusal.OpenRefusal.{OpenRefusal}
 use Rattle.term_gate.specs.declared.refusal.OpenRefusal.TheVariants.{NoMemory}
-use Rattle.ostore.specs.Rigs.{AreClosed, ArePartsOf}
+use Rattle.ostore.specs.Rigs.{ArePartsOf}
 use Rattle.ostore.specs.declared.opening.Away.{Away}
 use Rattle.ostore.specs.declared.opening.Shop.{Shop}
 use Rattle.ostore.specs.declared.opening.Shut.{Shut}
@@ -30,15 +30,11 @@ module _ {D A : Type 0} where
     pub no_rows : away.data.items ≡ []
     pub room_for_row : 1 ≤ vec_capacity away.data
 
-  -- slots were closed, and what they gave back stands behind what was there
-  abbrev pub ClosesBehind : List (Slot D A) → List (SlotParts D A) → List (SlotParts D A) → Type 0
-  ClosesBehind slots old new = (more : List (SlotParts D A)) × (new ≡ old ++ more) × AreClosed slots more
-
   -- a store that was not opened is a rig of this set again: what was not opened, and behind it what its open slots gave back
   pub record IsShut (set : SetPlan) (back : NotOpened D A) (shut : Shut D A) : Type 0 where
     pub why : shut.why ≡ back.why
     pub set_is : shut.rig.set ≡ set
-    pub slots : ClosesBehind (reverse back.slots.items) back.parts.slots.items shut.rig.slots.items
+    pub slots : ShutBehind (reverse back.slots.items) back.parts.slots.items shut.rig.slots.items
     pub disks : shut.rig.data.items ≡ back.parts.disks ∷ []
 
 module _ {D A : Type 0} (ghosts : Ghosts D) (entries : A → Option (List Entry)) (count : A → ℕ) where

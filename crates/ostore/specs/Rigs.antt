@@ -1,12 +1,11 @@
 -- The rig of a run.
-use Rattle.std.specs.Prelude.{◌≡◌, ℕ, ◌<◌, List, [], ◌∷◌, ◌++◌, Vec, length, slice_index_or}
+use Rattle.std.specs.Prelude.{◌≡◌, ℕ, ◌<◌, List, [], ◌∷◌, Vec, length, slice_index_or}
 use Rattle.std.specs.Global.{Global}
 use Rattle.drive_base.specs.declared.plan.SetPlan.{SetPlan}
-use Rattle.slot_core.specs.Views.{audit_of, lanes_of}
 use Rattle.slot_core.specs.declared.slot.SlotParts.{SlotParts}
-use Rattle.slot_core.specs.declared.slot.Slot.{Slot}
+use Rattle.store_shared.specs.Closing.{SlotsAreShut}
 use Rattle.store_shared.specs.Passes.{disks_of, slots_of}
-use Rattle.store_shared.specs.declared.opened.StoreParts.{StoreParts}
+use Rattle.store_shared.specs.declared.pass.StoreParts.{StoreParts}
 use Rattle.store_shared.specs.declared.pass.PlainPass.{PlainPass}
 use Rattle.ostore.specs.declared.rig.Rig.{Rig}
 
@@ -33,19 +32,10 @@ module _ {D A : Type 0} where
     pub slots : parts.slots.items ≡ rig.slots.items
     pub disks : rig.data.items ≡ parts.disks ∷ []
 
-  -- a slot was closed, and left this
-  pub record IsClosed (slot : Slot D A) (parts : SlotParts D A) : Type 0 where
-    pub lanes : parts.lanes.items ≡ lanes_of slot
-    pub audit : parts.audit ≡ audit_of slot
-
-  abbrev pub AreClosed : List (Slot D A) → List (SlotParts D A) → Type 0
-  AreClosed [] parts = parts ≡ []
-  AreClosed (slot ∷ slots) parts = (first : SlotParts D A) × (rest : List (SlotParts D A)) × (parts ≡ first ∷ rest) × IsClosed slot first × AreClosed slots rest
-
   -- a store was closed, and left this rig, of the same set
   pub record StoreIsClosed (set : SetPlan) (pass : PlainPass D A) (rig : Rig D A) : Type 0 where
     pub set_is : rig.set ≡ set
-    pub slots : AreClosed (slots_of pass) rig.slots.items
+    pub slots : SlotsAreShut (slots_of pass) rig.slots.items
     pub row : Vec D Global
     pub rows : rig.data.items ≡ row ∷ []
     pub disks : row.items ≡ disks_of pass

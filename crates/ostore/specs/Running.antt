@@ -3,15 +3,15 @@ use Rattle.std.specs.Prelude.{◌≡◌, ◌⊎◌, ℕ, List, Option, Some, Non
 use Rattle.audit_trail.specs.declared.entry.Entry.{Entry}
 use Rattle.drive_base.specs.View.{views}
 use Rattle.drive_base.specs.declared.drive.Drive.{Ghosts}
-use Rattle.op_steps.specs.Calling.{CallsRan, HoldsOn, joined}
-use Rattle.op_steps.specs.Laws.{DrivesKeep}
+use Rattle.log_laws.specs.Calling.{CallsRan, HoldsOn, joined}
+use Rattle.op_steps.specs.Moves.{DrivesKeep}
 use Rattle.op_steps.specs.Store.{slots_seen}
 use Rattle.serve_loop.specs.Deeds.{Wires}
 use Rattle.serve_loop.specs.Session.{Session}
 use Rattle.serve_loop.specs.declared.ends.ConnectionEnd.{ConnectionEnd}
 use Rattle.store_shared.specs.OpeningAll.{StoreIsOpen}
 use Rattle.store_shared.specs.Passes.{disks_of, set_of, slots_of}
-use Rattle.store_shared.specs.declared.opened.StoreParts.{StoreParts}
+use Rattle.store_shared.specs.declared.pass.StoreParts.{StoreParts}
 use Rattle.store_shared.specs.declared.pass.PlainPass.{PlainPass}
 use Rattle.term_gate.specs.Terms.{EachTells, IsKept}
 use Rattle.term_gate.specs.declared.refusal.OpenRefusal.{OpenRefusal}

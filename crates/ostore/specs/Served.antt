@@ -13,8 +13,8 @@ use Rattle.store_shared.specs.OpeningAll.{StoreIsOpen}
 use Rattle.store_shared.specs.Parting.{IsApart, IsMade, LacksParts}
 use Rattle.store_shared.specs.Passes.{disks_of, set_of, slots_of}
 use Rattle.store_shared.specs.SharedPasses.{shared_holds}
-use Rattle.store_shared.specs.declared.opened.StoreParts.{StoreParts}
-use Rattle.store_shared.specs.declared.parts.PassParts.{PassParts}
+use Rattle.store_shared.specs.declared.pass.StoreParts.{StoreParts}
+use Rattle.store_shared.specs.declared.pass.PassParts.{PassParts}
 use Rattle.store_shared.specs.declared.pass.PlainPass.{PlainPass}
 use Rattle.store_shared.specs.declared.shared.SharedDesk.{SharedDesk}
 use Rattle.store_shared.specs.declared.shared.SharedPass.{SharedPass}

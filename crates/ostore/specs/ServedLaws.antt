@@ -13,7 +13,7 @@ use Rattle.slot_core.specs.declared.slot.SlotParts.{SlotParts}
 use Rattle.op_steps.specs.Leading.{Standing}
 use Rattle.store_shared.specs.Holders.{LostServe, RigHolds}
 use Rattle.store_shared.specs.Passes.{disks_of, set_of, slots_of}
-use Rattle.store_shared.specs.declared.parts.PassParts.{PassParts}
+use Rattle.store_shared.specs.declared.pass.PassParts.{PassParts}
 use Rattle.store_shared.specs.declared.shared.SharedDesk.{SharedDesk}
 use Rattle.store_shared.specs.declared.shared.SharedPass.{SharedPass}
 use Rattle.ostore.specs.History.{LanesBegin}

@@ -12,16 +12,16 @@ use Rattle.slot_core.specs.Opening.{IsOpened}
 use Rattle.slot_core.specs.declared.slot.Slot.{Slot}
 use Rattle.slot_core.specs.declared.slot.SlotParts.{SlotParts}
 use Rattle.turn_lock.specs.Tickets.{last_ticket}
+use Rattle.store_shared.specs.Closing.{SlotIsShut}
 use Rattle.store_shared.specs.Among.{seen_in}
 use Rattle.store_shared.specs.Sections.{AnswersAmong, IsSection, SlotLed, TurnedSection, events_by, turns_by}
 use Rattle.store_shared.specs.SharedLaws.{TurnsRise}
 use Rattle.store_shared.specs.SharedPasses.{drives_of, pass_at, shared_holds}
 use Rattle.store_shared.specs.Turned.{slot_in, turns_in}
 use Rattle.store_shared.specs.declared.shared.SharedPass.{SharedPass}
-use Rattle.store_shared.specs.declared.turned.TurnedSlot.{TurnedSlot}
+use Rattle.store_shared.specs.declared.shared.TurnedSlot.{TurnedSlot}
 use Rattle.ostore.specs.History.{SlotRan}
 use Rattle.ostore.specs.Logs.{among_log, served_logs}
-use Rattle.ostore.specs.Rigs.{IsClosed}
 use Rattle.ostore.specs.Trails.{AreUncalled, LogsLeadTrails}
 use Rattle.ostore.specs.Workers.{Worker, view_of}
 
@@ -77,7 +77,7 @@ module _ {D A O S T : Type 0} (ghosts : Ghosts D) (entries : A → Option (List 
     pub opened_is : (k : ℕ) (d : Slot D A) → k < 64 → slot_in (opened k) ≡ slice_index_or slots k d
     pub begins : (k : ℕ) (d : SlotParts D A) → k < 64 → IsOpened entries count set k term (slice_index_or old k d) (slot_in (opened k))
     pub closed : ℕ → TurnedSlot D A
-    pub ends : (k : ℕ) (d : SlotParts D A) → k < 64 → IsClosed (slot_in (closed k)) (slice_index_or new k d)
+    pub ends : (k : ℕ) (d : SlotParts D A) → k < 64 → SlotIsShut (slot_in (closed k)) (slice_index_or new k d)
     pub led : (k : ℕ) → k < 64 → SlotLed ghosts entries count k (opened k) (closed k) (flat_map (λ (m : Made D A). m k) (made_beside ++ made))
     pub spent : (k : ℕ) → k < 64 → All (HadAllTurns k (closed k)) (callers ++ map caller_of workers)
     pub ran : (k : ℕ) (inside : k < 64) (d : SlotParts D A) → SlotRan entries ghosts.tells ghosts.files set term k (events_by k (led k inside).in_order.ordered)

@@ -2,7 +2,7 @@
 use Rattle.std.specs.Prelude.{◌≡◌, ℕ, List, []}
 use Rattle.drive_base.specs.declared.drive.Drive.{Ghosts}
 use Rattle.receipts.specs.Events.{Log}
-use Rattle.op_steps.specs.Calling.{joined}
+use Rattle.log_laws.specs.Calling.{joined}
 use Rattle.op_steps.specs.Trails.{LeadsTrail}
 use Rattle.store_shared.specs.Trails.{trail_at}
 

@@ -10,7 +10,7 @@ use desk_base::Gate;
 use drive_base::Drive;
 use drive_file::Share;
 use io_base::{Clock, Door};
-use op_steps::{calls_law, requests_law};
+use log_laws::{calls_law, requests_law};
 use slot_core::open_law;
 use store_shared::{answers_law, opened_law, pass_law, sections_law, trails_law};
 

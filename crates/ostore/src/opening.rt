@@ -1,7 +1,7 @@
 //! Opening a store over a rig, and handing the rig back.
 
-ghost use Rattle.std.specs.Prelude.{◌≡◌, ◌+◌, ◌<◌, ◌≤◌, ◌++◌, ℕ, length, reverse, slice_index_or, vec_capacity, vec_len};
-ghost use Rattle.ostore.specs.Opening.{ClosesBehind, IsAway, IsShut, OpensRig};
+ghost use Rattle.std.specs.Prelude.{◌≡◌, ◌+◌, ◌<◌, ◌≤◌, ℕ, length, slice_index_or, vec_len};
+ghost use Rattle.ostore.specs.Opening.{IsAway, IsShut, OpensRig};
 ghost use Rattle.ostore.specs.Rigs.{ArePartsOf, IsRigOf, StoreIsClosed};
 ghost use Rattle.ostore.specs.declared.rig.Rig.{Rig};
 ghost use Rattle.slot_core.specs.declared.slot.SlotParts.{SlotParts};
@@ -9,9 +9,9 @@ ghost use Rattle.slot_core.specs.declared.slot.SlotParts.{SlotParts};
 use crate::rig::Rig;
 use audit_trail::Audit;
 use drive_base::{Drive, SetPlan};
-use slot_core::{Slot, SlotParts};
+use slot_core::SlotParts;
 use std::alloc::Global;
-use store_shared::{NotOpened, PassParts, PlainPass, StoreParts, open_all, pass_law};
+use store_shared::{NotOpened, PlainPass, StoreParts, open_all};
 use term_gate::OpenRefusal;
 
 /// How many slots a store has.
@@ -93,27 +93,16 @@ fn handed_back<D: Drive, A: Audit>(away: Away<D, A>, back: NotOpened<D, A>) -> S
     requires few { vec_len back.parts.slots + vec_len back.slots ≤ 64 }
     ensures { IsShut away.set back result }
 {
-    let NotOpened { parts, slots, why } = back;
-    let StoreParts {
-        disks,
-        slots: mut left,
-    } = parts;
     let Away {
         set,
-        mut home,
+        home,
         mut data,
     } = away;
-    turn_round(&mut left);
-    move_each(left, &mut home);
-    close_each(slots, &mut home);
+    let (StoreParts { disks, slots }, why) = back.into_parts(home);
     data.push_reserved(disks);
     Shut {
         why,
-        rig: Rig {
-            set,
-            slots: home,
-            data,
-        },
+        rig: Rig { set, slots, data },
     }
 }
 
@@ -122,55 +111,12 @@ pub fn close<D: Drive, A: Audit>(pass: PlainPass<D, A>, away: Away<D, A>) -> Rig
     requires away { IsAway away }
     ensures { StoreIsClosed away.set pass result }
 {
-    pass_law::<D, A>();
-    let PassParts {
-        set: _,
-        mut slots,
-        disks,
-    } = pass.into_parts();
     let Away {
         set,
-        mut home,
+        home,
         mut data,
     } = away;
-    turn_round(&mut slots);
-    close_each(slots, &mut home);
+    let StoreParts { disks, slots } = pass.shut(home);
     data.push_reserved(disks);
-    Rig {
-        set,
-        slots: home,
-        data,
-    }
-}
-
-/// Puts what stands in one order in the other one.
-fn turn_round<T>(items: &mut Vec<T>)
-    ensures items { items.new.items ≡ reverse items.old.items }
-    ensures len { vec_len items.new ≡ vec_len items.old }
-{
-    items.as_mut_slice().reverse();
-}
-
-/// Closes slots, the last one first, and puts what they give back behind what is there.
-fn close_each<D: Drive, A: Audit>(mut slots: Vec<Slot<D, A>>, home: &mut Vec<SlotParts<D, A>>)
-    requires room { vec_len home.old + vec_len slots ≤ vec_capacity home.old }
-    ensures { ClosesBehind (reverse slots.items) home.old.items home.new.items }
-{
-    while let Some(slot) = slots.pop() {
-        home.push_reserved(slot.close());
-    }
-    slots.destroy_empty();
-}
-
-/// Takes the parts of slots, the last one first, and puts them behind what is there.
-fn move_each<D: Drive, A: Audit>(mut left: Vec<SlotParts<D, A>>, home: &mut Vec<SlotParts<D, A>>)
-    requires room { vec_len home.old + vec_len left ≤ vec_capacity home.old }
-    ensures items { home.new.items ≡ home.old.items ++ reverse left.items }
-    ensures len { vec_len home.new ≡ vec_len home.old + vec_len left }
-    ensures capacity { vec_capacity home.new ≡ vec_capacity home.old }
-{
-    while let Some(parts) = left.pop() {
-        home.push_reserved(parts);
-    }
-    left.destroy_empty();
+    Rig { set, slots, data }
 }

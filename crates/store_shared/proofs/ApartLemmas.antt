@@ -10,11 +10,11 @@ use Rattle.turn_lock.specs.declared.pass.Pass.{Pass}
 use Rattle.store_shared.specs.Parting.{AreClosed, HasAllParts, IsApart, IsClosedAt, LacksParts, LacksSome, parts_in}
 use Rattle.store_shared.specs.SharedPasses.{drives_of, locks_of, pass_holds, passes_hold, passes_in, set_of_desk, shared_holds}
 use Rattle.store_shared.specs.Turned.{SlotName, name_of}
-use Rattle.store_shared.specs.declared.parts.PassParts.{PassParts}
+use Rattle.store_shared.specs.declared.pass.PassParts.{PassParts}
 use Rattle.store_shared.specs.declared.shared.SharedDesk.{SharedDesk}
 use Rattle.store_shared.specs.declared.shared.SharedPass.{SharedPass}
-use Rattle.store_shared.specs.declared.turned.TurnedSlot.{TurnedSlot}
-use Rattle.store_shared.proofs.PlaceLemmas.{some_of}
+use Rattle.store_shared.specs.declared.shared.TurnedSlot.{TurnedSlot}
+use Rattle.store_shared.proofs.OrderLemmas.{some_of}
 use Rattle.store_shared.proofs.TurnedLemmas.{desk_name}
 
 module _ {D A : Type 0} where

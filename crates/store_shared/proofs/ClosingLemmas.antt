@@ -6,7 +6,7 @@ use Rattle.slot_core.specs.declared.slot.Slot.{Slot}
 use Rattle.turn_lock.specs.declared.lock.TurnLock.{TurnLock}
 use Rattle.turn_lock.specs.declared.pass.Pass.{Pass}
 use Rattle.store_shared.specs.Parting.{AreClosed, IsClosed, IsClosedAt}
-use Rattle.store_shared.specs.declared.turned.TurnedSlot.{TurnedSlot}
+use Rattle.store_shared.specs.declared.shared.TurnedSlot.{TurnedSlot}
 use Rattle.store_shared.proofs.PartingLemmas.{each_more}
 
 module _ {D A : Type 0} (all_locks : List (TurnLock (TurnedSlot D A))) (all_passes : List (Option (Pass (TurnedSlot D A)))) where

@@ -4,7 +4,7 @@ use Rattle.std.proofs.Props.{props}
 use Rattle.turn_lock.specs.declared.lock.TurnLock.{TurnLock}
 use Rattle.store_shared.specs.SharedPasses.{FitsDesk, IsOfLock, PassHolds, SharedHolds}
 use Rattle.store_shared.specs.declared.shared.SharedDesk.{SharedDesk}
-use Rattle.store_shared.specs.declared.turned.TurnedSlot.{TurnedSlot}
+use Rattle.store_shared.specs.declared.shared.TurnedSlot.{TurnedSlot}
 
 module _ {D A : Type 0} where
   turned_set : IsSet D → IsSet A → IsSet (TurnedSlot D A)

@@ -15,7 +15,8 @@ use Rattle.drive_base.specs.declared.plan.SetPlan.{SetPlan}
 use Rattle.file_access.specs.Writing.{IsInPlace, Touches, WriteLeaves}
 use Rattle.body_print.specs.Names.{manifest_name}
 use Rattle.stamp_id.specs.declared.version.VersionId.{VersionId}
-use Rattle.op_steps.specs.Claims.{HasHonestManifests, IsUnsealed as IsNoManifest}
+use Rattle.op_steps.specs.Claims.{HasHonestManifests, IsUnsealed as IsNoManifest, ShowsNoOther}
+use Rattle.op_steps.proofs.DataLemmas.{no_other_stays}
 use Rattle.term_gate.specs.Formats.{IsUnsealed, format_name, loose_format_name}
 use Rattle.term_gate.specs.Opening.{Follows, IsMadeAndOpened, IsOpenedOrNot, Opens, TakesTerm}
 use Rattle.term_gate.specs.Reading.{why_at}
@@ -152,10 +153,10 @@ each_honest old new honest keep k lt =
     honest_stays (view_at old k).files (view_at new k).files (keep.each k here).honesty (honest k here)
 
 -- damage of manifests stays honest
-manifest_stays : (old new : DriveView) (id : VersionId) → SparesOthers old new → IsHonestAt IsNoManifest (manifest_name id) old.files
-    → IsHonestAt IsNoManifest (manifest_name id) new.files
-manifest_stays old new id keep (inl same) = inl (keep.shown (manifest_name id) refl ∙ (same ∙ sym (keep.kept (manifest_name id) refl)))
-manifest_stays old new id keep (inr (bytes, is, unsealed)) = inr (bytes, keep.shown (manifest_name id) refl ∙ is, unsealed)
+manifest_stays : (old new : DriveView) (id : VersionId) → SparesOthers old new → ShowsNoOther IsNoManifest (manifest_name id) old.files
+    → ShowsNoOther IsNoManifest (manifest_name id) new.files
+manifest_stays old new id keep = no_other_stays IsNoManifest (manifest_name id) old.files new.files
+    (inr (keep.kept (manifest_name id) refl, keep.shown (manifest_name id) refl))
 
 -- on each drive of a set that isn't lost
 pub manifests_on : (set : SetPlan) (lost : ℕ) (old new : List DriveView) → length old ≡ set.drives → EachSparesOthers old new

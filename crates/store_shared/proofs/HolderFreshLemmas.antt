@@ -133,8 +133,8 @@ module _ {D : Type 0} (ghosts : Ghosts D) where
           lived = λ k bit. absurd (none_set k bit);
           lack = λ k bit. absurd (none_set k bit);
         };
-        manifests = λ k within in_use id.
+        manifests = λ k within in_use id bytes is.
             let none = (bare_view set parts.disks.items bare.disks k within).none in
-            inl (none.shown (manifest_name id) ∙ sym (none.kept (manifest_name id)));
+            absurd (none-some bytes (sym (none.shown (manifest_name id)) ∙ is));
         slots = λ k of at. bare_rests fresh fresh_data set unseen k parts.disks.items of.lanes.items bare.disks (bare.lanes k of at);
       }

@@ -7,7 +7,7 @@ use Rattle.drive_base.specs.View.{DriveView, view_at, views}
 use Rattle.drive_base.specs.declared.drive.Drive.{Ghosts}
 use Rattle.drive_base.specs.declared.plan.SetPlan.{SetPlan}
 use Rattle.put_stage.specs.Cells.{data_of}
-use Rattle.put_stage.specs.Working.{HasNoneLoose}
+use Rattle.put_stage.specs.Work.{HasNoneLoose}
 use Rattle.body_print.specs.Names.{manifest_name, shard_name}
 use Rattle.register_core.specs.Loose.{loose_name}
 use Rattle.register_core.specs.Records.{HasLane, IsHonest}

@@ -7,7 +7,7 @@ use Rattle.drive_base.specs.declared.drive.Drive.{Ghosts}
 use Rattle.drive_base.specs.declared.plan.SetPlan.{SetPlan}
 use Rattle.drive_base.proofs.ViewLemmas.{length-views, view_at-views}
 use Rattle.put_stage.specs.Cells.{data_of}
-use Rattle.put_stage.specs.Working.{HasNoneLoose}
+use Rattle.put_stage.specs.Work.{HasNoneLoose}
 use Rattle.stamp_id.specs.declared.version.VersionId.{VersionId}
 use Rattle.body_print.specs.Names.{loose_manifest_name, loose_shard_name, manifest_name, shard_name}
 use Rattle.register_core.specs.Loose.{loose_name}

@@ -19,7 +19,7 @@ use Rattle.op_steps.proofs.TellLemmas.{told_pays}
 use Rattle.store_shared.specs.Answers.{NotesAre, cut_by}
 use Rattle.store_shared.specs.Later.{HasNoStub, IsLater, TellsLater}
 use Rattle.store_shared.specs.Serving.{IsToldAlone}
-use Rattle.store_shared.specs.declared.receipt.Receipt.{Receipt}
+use Rattle.store_shared.specs.declared.op_desk.Receipt.{Receipt}
 use Rattle.store_shared.proofs.UnitLemmas.{tell_any}
 use Rattle.store_shared.proofs.WireLemmas.{WiresRan, wires}
 

@@ -24,9 +24,11 @@ pub mod RiseLemmas
 pub mod SectionLemmas
 pub mod ServeLemmas
 pub mod SharedLemmas
+pub mod ShutLemmas
 pub mod StrikingLemmas
 pub mod TermLemmas
 pub mod TrailLemmas
+pub mod TroubleLemmas
 pub mod TurnedLemmas
 pub mod UnitLemmas
 pub mod WireLemmas

@@ -17,9 +17,9 @@ use Rattle.store_shared.specs.Parting.{IsFirst, IsFirstAt, parts_in}
 use Rattle.store_shared.specs.SharedPasses.{IsOfLock, pass_holds, passes_hold}
 use Rattle.store_shared.specs.Turned.{made_slot, made_slots, name_of, turns_in}
 use Rattle.store_shared.specs.declared.making.Fresh.{Fresh}
-use Rattle.store_shared.specs.declared.turned.TurnedSlot.{TurnedSlot}
+use Rattle.store_shared.specs.declared.shared.TurnedSlot.{TurnedSlot}
 use Rattle.store_shared.proofs.PartingLemmas.{IsLocked, each_more}
-use Rattle.store_shared.proofs.PlaceLemmas.{some_of}
+use Rattle.store_shared.proofs.OrderLemmas.{some_of}
 
 module _ {X : Type 0} (P : X → Type 0) where
   -- what holds of all elements holds of the first ones and of the last one

@@ -7,11 +7,12 @@ use Rattle.drive_base.specs.View.{DriveView}
 use Rattle.drive_base.specs.declared.plan.SetPlan.{SetPlan}
 use Rattle.slot_core.specs.Views.{numbers_of}
 use Rattle.slot_core.specs.declared.slot.Slot.{Slot}
+use Rattle.op_steps.specs.Steps.{IsSlotAt}
 use Rattle.op_steps.specs.Store.{AreInOrder, SlotSeen, slot_seen, slots_seen}
 use Rattle.store_shared.specs.Passes.{SlotsFit}
 
 -- some element of a list that has one
-some_of : {X : Type 0} (xs : List X) (k : ℕ) → k < length xs → X
+pub some_of : {X : Type 0} (xs : List X) (k : ℕ) → k < length xs → X
 some_of [] k inside = absurd (omega (arith, inside))
 some_of (x ∷ xs) k inside = x
 
@@ -20,6 +21,13 @@ module _ {D A : Type 0} (entries : A → Option (List Entry)) (count : A → ℕ
   seen_is : (slots : List (Slot D A)) (k : ℕ) (d : SlotSeen D) (e : Slot D A) → k < length slots
       → slice_index_or (slots_seen entries count slots) k d ≡ slot_seen entries count (slice_index_or slots k e)
   seen_is slots k d e inside = get_or-map (slot_seen entries count) slots k e d inside
+
+  -- so it is the slot there
+  pub seen_at : (slots : List (Slot D A)) (k : ℕ) (e : Slot D A) → k < length slots
+      → IsSlotAt (slots_seen entries count slots) k (slot_seen entries count (slice_index_or slots k e))
+  seen_at slots k e inside =
+      let long = length-map slots (slot_seen entries count) in
+      (omega (arith, long, inside), λ d. seen_is slots k d e inside)
 
   pub slots_fit : (set : SetPlan) (slots : List (Slot D A)) → length slots ≡ 64
       → ((k : ℕ) (d : Slot D A) → k < length slots → (numbers_of (slice_index_or slots k d)).index ≡ k)

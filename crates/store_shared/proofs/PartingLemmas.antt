@@ -10,7 +10,7 @@ use Rattle.store_shared.specs.Parting.{AreJoined, IsCutAt, IsJoinedAt, IsSplit}
 use Rattle.store_shared.specs.SharedPasses.{AreOfLocks, FitsDesk, IsOfLock, drives_of, locks_of, pass_at, pass_holds, passes_hold, passes_in, set_held, set_of_desk, shared_holds}
 use Rattle.store_shared.specs.declared.shared.SharedDesk.{SharedDesk}
 use Rattle.store_shared.specs.declared.shared.SharedPass.{SharedPass}
-use Rattle.store_shared.specs.declared.turned.TurnedSlot.{TurnedSlot}
+use Rattle.store_shared.specs.declared.shared.TurnedSlot.{TurnedSlot}
 
 -- what holds below a number and at it holds below the next one
 pub each_more : (P : ℕ → Type 0) (n : ℕ) → ((k : ℕ) → k < n → P k) → P n → (k : ℕ) → k < n + 1 → P k

@@ -7,12 +7,8 @@ use Rattle.turn_lock.specs.declared.lock.TurnLock.{TurnLock}
 use Rattle.turn_lock.specs.declared.pass.Pass.{Pass}
 use Rattle.store_shared.specs.Parting.{parts_in}
 use Rattle.store_shared.specs.SharedPasses.{AreOfLocks, IsOfLock, pass_holds, passes_hold}
-use Rattle.store_shared.specs.declared.turned.TurnedSlot.{TurnedSlot}
-
--- some lock of a list that has one
-pub some_of : {X : Type 0} (xs : List X) (k : ℕ) → k < length xs → X
-some_of [] k inside = absurd (omega (arith, inside))
-some_of (x ∷ xs) k inside = x
+use Rattle.store_shared.specs.declared.shared.TurnedSlot.{TurnedSlot}
+use Rattle.store_shared.proofs.OrderLemmas.{some_of}
 
 -- what stands in a place that there is, whatever stands for places that there aren't
 pub place_is : {X : Type 0} (xs : List X) (k : ℕ) (d x : X) → k < length xs → x ≡ get_or xs k x → get_or xs k d ≡ x

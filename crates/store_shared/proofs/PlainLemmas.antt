@@ -19,7 +19,7 @@ use Rattle.store_shared.specs.Answers.{PlainAnswers, any_teller}
 use Rattle.store_shared.specs.Passes.{disks_of, set_of, slots_of, store_at}
 use Rattle.store_shared.specs.Serving.{AnswersAlone, IsDone, IsReceiptOf, WasServed}
 use Rattle.store_shared.specs.declared.pass.PlainPass.{PlainPass}
-use Rattle.store_shared.specs.declared.receipt.Receipt.{Receipt}
+use Rattle.store_shared.specs.declared.op_desk.Receipt.{Receipt}
 use Rattle.store_shared.proofs.ServeLemmas.{done_cause, done_serves, op_done}
 use Rattle.store_shared.proofs.UnitLemmas.{ran_any, told_ran, unseen}
 use Rattle.store_shared.proofs.WireLemmas.{WiresRan, wires, wires_of, wires_ran}

@@ -8,10 +8,10 @@ use Rattle.drive_base.specs.declared.drive.Drive.{Ghosts}
 use Rattle.drive_base.specs.declared.plan.SetPlan.{SetPlan}
 use Rattle.receipts.specs.Events.{Event, Log}
 use Rattle.receipts.specs.Events.Event.{BarredFrom, Called, Fed, Told, Turned}
-use Rattle.op_steps.specs.Laws.{WentOn}
+use Rattle.op_steps.specs.Leading.{WentOn}
 use Rattle.op_steps.specs.Leading.{Entered, entered_at, entered_by, entered_in}
 use Rattle.op_steps.specs.Notes.{entry_in}
-use Rattle.op_steps.specs.Store.{SlotSeen, any_effect, slot_seen}
+use Rattle.op_steps.specs.Store.{SlotSeen, slot_seen}
 use Rattle.op_steps.proofs.StepLemmas.{same_went, went_turn, went_twice}
 use Rattle.turn_lock.specs.History.{Follow, IsHistory}
 use Rattle.turn_lock.specs.declared.view.Turn.{Turn}
@@ -21,7 +21,7 @@ use Rattle.store_shared.specs.Sections.{AnswersHaveSections, AreCounted, HasSect
 use Rattle.store_shared.specs.SharedLaws.{AreTurnsOf, SharedAnswersHaveTurns, TurnsRise}
 use Rattle.store_shared.specs.SharedPasses.{pass_at, set_held, shared_holds}
 use Rattle.store_shared.specs.Turned.{SlotName, name_of, slot_in, turns_in}
-use Rattle.store_shared.specs.declared.turned.TurnedSlot.{TurnedSlot}
+use Rattle.store_shared.specs.declared.shared.TurnedSlot.{TurnedSlot}
 
 module _ {D A : Type 0} (ghosts : Ghosts D) (entries : A → Option (List Entry)) (count : A → ℕ) (k : ℕ) where
   -- what is seen of a slot behind a turn
@@ -37,7 +37,7 @@ module _ {D A : Type 0} (ghosts : Ghosts D) (entries : A → Option (List Entry)
   went_section s (set, is) =
       let own = ap (λ (n : SlotName). n.index) is.slot in
       let went = subst (λ i. WentOn ghosts.tells ghosts.files i (seen s.turn.from) (seen s.turn.to) (entered_by (entry_in s.note) s.shown)) own
-      (went_turn ghosts any_effect any_effect (seen s.turn.from) (seen s.turn.to) s.note s.shown is.did.claim is.did.later is.did.disks is.did.disks_after is.did.moves) in
+      (went_turn ghosts (seen s.turn.from) (seen s.turn.to) s.note s.shown is.did.claim is.did.later is.did.disks is.did.disks_after is.did.moves) in
       elim (eqb_tells k k) [
         | inl hit ↦ subst (λ b. Went s.turn.from s.turn.to (cond b (entered_by (entry_in s.note) s.shown) [])) (sym hit.0) went
         | inr miss ↦ absurd (miss.1 refl)
@@ -46,12 +46,12 @@ module _ {D A : Type 0} (ghosts : Ghosts D) (entries : A → Option (List Entry)
   -- by sections that follow one another
   went_sections : (first : TurnedSlot D A) (sections : List (TurnedSection D A)) (last : TurnedSlot D A) → All (IsSection ghosts entries count k) sections
       → Follow turn_by first sections last → Went first last (entered_at k (events_by k sections))
-  went_sections first [] last all same = same_went ghosts any_effect any_effect k (seen first) (seen last) (ap seen same)
+  went_sections first [] last all same = same_went ghosts k (seen first) (seen last) (ap seen same)
   went_sections first (s ∷ sections) last all (begins, more) =
       let one = subst (λ f. Went f s.turn.to (entered_in k (Turned k s.note s.shown))) begins
       (went_section s (All-head (IsSection ghosts entries count k) s sections all)) in
       let rest = went_sections s.turn.to sections last (All-tail (IsSection ghosts entries count k) s sections all) more in
-      went_twice ghosts any_effect any_effect k (seen first) (seen s.turn.to) (seen last) (entered_in k (Turned k s.note s.shown))
+      went_twice ghosts k (seen first) (seen s.turn.to) (seen last) (entered_in k (Turned k s.note s.shown))
       (entered_at k (events_by k sections)) one rest
 
   -- their tickets are the counts of turns at which they were done

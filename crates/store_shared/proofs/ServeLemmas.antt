@@ -18,7 +18,7 @@ use Rattle.op_steps.specs.declared.run.Served.{Served}
 use Rattle.op_steps.proofs.TellLemmas.{none_pays}
 use Rattle.store_shared.specs.Answers.{NotesAre, cut_by}
 use Rattle.store_shared.specs.Serving.{IsDone, IsReceiptOf, IsToldAlone, WasServed}
-use Rattle.store_shared.specs.declared.receipt.Receipt.{Receipt}
+use Rattle.store_shared.specs.declared.op_desk.Receipt.{Receipt}
 use Rattle.store_shared.proofs.WireLemmas.{NoneFailed, OneFailed, OneEnded, Wires, WiresRan, ended_so, ends_there, gave_all, reads_rise, reads_stay, wires}
 use Rattle.store_shared.proofs.WireTellLemmas.{broke_so, told_all, writes_stay}
 

@@ -18,7 +18,7 @@ use Rattle.store_shared.specs.AmongSteps.{IsBarredAmong, RanAmong, TurnsAmong}
 use Rattle.store_shared.specs.Serving.{AnswersAlone, IsDone, IsReceiptOf, WasServed}
 use Rattle.store_shared.specs.SharedAnswers.{SharedAnswers}
 use Rattle.store_shared.specs.SharedPasses.{drives_of, passes_in, reach_at, set_held, shared_holds}
-use Rattle.store_shared.specs.declared.receipt.Receipt.{Receipt}
+use Rattle.store_shared.specs.declared.op_desk.Receipt.{Receipt}
 use Rattle.store_shared.specs.declared.shared.SharedPass.{SharedPass}
 use Rattle.store_shared.proofs.ServeLemmas.{done_cause, done_serves, op_done}
 use Rattle.store_shared.proofs.UnitLemmas.{ran_any, told_ran, unseen}

@@ -10,7 +10,7 @@ use Rattle.turn_lock.specs.declared.pass.Pass.{Pass}
 use Rattle.turn_lock.specs.declared.view.Turn.{Turn}
 use Rattle.store_shared.specs.Among.{PassSeen, pass_seen, refused, with_turn}
 use Rattle.store_shared.specs.Turned.{SlotName, made_slot, made_slots, name_of}
-use Rattle.store_shared.specs.declared.turned.TurnedSlot.{TurnedSlot}
+use Rattle.store_shared.specs.declared.shared.TurnedSlot.{TurnedSlot}
 
 -- what is seen of a pass, part by part
 abbrev seen_of : {D A : Type 0} → List (Turn (TurnedSlot D A)) → ℕ → Bool → PassSeen D A

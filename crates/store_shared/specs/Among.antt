@@ -4,7 +4,7 @@ use Rattle.op_steps.specs.Store.{StoreOver}
 use Rattle.turn_lock.specs.Passes.{is_spent, seen_by, turns_of}
 use Rattle.turn_lock.specs.declared.pass.Pass.{Pass}
 use Rattle.turn_lock.specs.declared.view.Turn.{Turn}
-use Rattle.store_shared.specs.declared.turned.TurnedSlot.{TurnedSlot}
+use Rattle.store_shared.specs.declared.shared.TurnedSlot.{TurnedSlot}
 
 -- of the pass of one lock: the turns of the slot that it made, each with its ticket and the slot before and after; how many turns of the slot it has seen;
 -- and whether the lock had no ticket left for it

@@ -15,7 +15,7 @@ use Rattle.op_steps.specs.Store.{slot_seen, store_of}
 use Rattle.turn_lock.specs.declared.view.Turn.{Turn}
 use Rattle.store_shared.specs.Among.{IsPassAt, PassSeen, Reach, refused, with_turn}
 use Rattle.store_shared.specs.Turned.{name_of, slot_in, turns_in}
-use Rattle.store_shared.specs.declared.turned.TurnedSlot.{TurnedSlot}
+use Rattle.store_shared.specs.declared.shared.TurnedSlot.{TurnedSlot}
 
 -- a turn of the slot of this index, of this set, that a pass got: the ticket is how many turns the slot had, and the pass had seen no more than those
 pub record IsTurnOf {D A : Type 0} (set : SetPlan) (k : ℕ) (was : PassSeen D A) (turn : Turn (TurnedSlot D A)) : Type 0 where

@@ -15,7 +15,7 @@ use Rattle.op_steps.specs.Store.{FeedSeen, TellerSeen, any_effect, teller_of}
 use Rattle.op_steps.specs.Words.{LetsGo}
 use Rattle.store_shared.specs.Passes.{set_of, store_at}
 use Rattle.store_shared.specs.declared.pass.PlainPass.{PlainPass}
-use Rattle.store_shared.specs.declared.receipt.Receipt.{Receipt}
+use Rattle.store_shared.specs.declared.op_desk.Receipt.{Receipt}
 
 -- a teller of which only the count of faults is seen
 abbrev pub any_teller : ℕ → TellerSeen (Unit {0})

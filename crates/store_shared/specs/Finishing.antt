@@ -5,7 +5,7 @@ use Rattle.drive_base.specs.View.{views}
 use Rattle.drive_base.specs.declared.drive.Drive.{Ghosts}
 use Rattle.receipts.specs.Events.{Log, notes_of}
 use Rattle.slot_core.specs.declared.stub.Stub.{Stub}
-use Rattle.op_steps.specs.Calling.{CallRan}
+use Rattle.op_steps.specs.Going.{CallRan}
 use Rattle.op_steps.specs.Claims.{Claim, no_claim}
 use Rattle.op_steps.specs.Notes.{notes_by}
 use Rattle.op_steps.specs.Store.{FeedSeen, any_effect, slots_seen}

@@ -8,7 +8,7 @@ use Rattle.drive_base.specs.View.{DriveView, view_at, views}
 use Rattle.drive_base.specs.declared.drive.Drive.{Ghosts}
 use Rattle.drive_base.specs.declared.plan.SetPlan.{SetPlan}
 use Rattle.put_stage.specs.Cells.{data_of}
-use Rattle.put_stage.specs.Working.{HasNoneLoose}
+use Rattle.put_stage.specs.Work.{HasNoneLoose}
 use Rattle.stamp_id.specs.declared.version.VersionId.{VersionId}
 use Rattle.vote_core.specs.Lane.{blank_lane}
 use Rattle.slot_history.specs.Contents.{number_of_id}
@@ -21,7 +21,7 @@ use Rattle.slot_core.specs.Views.{SlotNumbers, last_of}
 use Rattle.slot_core.specs.declared.slot.SlotParts.{SlotParts}
 use Rattle.op_steps.specs.Claims.{Claim, HasHonestManifests, disks_of as counted}
 use Rattle.op_steps.specs.Holding.{StoreHolds}
-use Rattle.op_steps.specs.Laws.{DrivesKeep}
+use Rattle.op_steps.specs.Moves.{DrivesKeep}
 use Rattle.op_steps.specs.Leading.{Standing}
 use Rattle.op_steps.specs.Steps.{IsSlotAt}
 use Rattle.op_steps.specs.Store.{AreInOrder, SlotSeen, slots_seen}
@@ -33,7 +33,7 @@ use Rattle.term_gate.specs.declared.refusal.OpenRefusal.{OpenRefusal}
 use Rattle.store_shared.specs.Opening.{with_out}
 use Rattle.store_shared.specs.OpeningAll.{StoreIsOpen}
 use Rattle.store_shared.specs.Passes.{disks_of, set_of, slots_of}
-use Rattle.store_shared.specs.declared.opened.StoreParts.{StoreParts}
+use Rattle.store_shared.specs.declared.pass.StoreParts.{StoreParts}
 use Rattle.store_shared.specs.declared.pass.PlainPass.{PlainPass}
 
 -- no earlier life used a term above this one: there was none, or as many drives as must take a write keep a format with a term not below it

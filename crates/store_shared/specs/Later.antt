@@ -10,7 +10,7 @@ use Rattle.desk_base.specs.declared.call.Call.TheVariants.{ListBuckets, CreateBu
 use Rattle.op_steps.specs.Moves.{TellMoves}
 use Rattle.op_steps.specs.Store.{TellerSeen}
 use Rattle.store_shared.specs.Answers.{cut_by}
-use Rattle.store_shared.specs.declared.receipt.Receipt.{Receipt}
+use Rattle.store_shared.specs.declared.op_desk.Receipt.{Receipt}
 
 -- a call is not served yet
 abbrev pub IsLater : Call → Type 0

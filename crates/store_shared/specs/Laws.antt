@@ -6,12 +6,12 @@ use Rattle.desk_base.specs.Answering.{Task}
 use Rattle.desk_base.specs.Telling.{Telling}
 use Rattle.drive_base.specs.View.{views}
 use Rattle.drive_base.specs.declared.drive.Drive.{Ghosts}
-use Rattle.op_steps.specs.Calling.{CallRan}
+use Rattle.op_steps.specs.Going.{CallRan}
 use Rattle.op_steps.specs.Store.{AreInOrder, slots_seen}
 use Rattle.store_shared.specs.Answers.{PlainAnswers}
 use Rattle.store_shared.specs.Passes.{disks_of, set_of, slots_of}
 use Rattle.store_shared.specs.declared.pass.PlainPass.{PlainPass}
-use Rattle.store_shared.specs.declared.receipt.Receipt.{Receipt}
+use Rattle.store_shared.specs.declared.op_desk.Receipt.{Receipt}
 
 module _ {D A : Type 0} (ghosts : Ghosts D) (entries : A → Option (List Entry)) (count : A → ℕ) where
   -- the slots and the drives of a pass are those of a store, in order

@@ -1,6 +1,7 @@
 pub mod Among
 pub mod AmongSteps
 pub mod Answers
+pub mod Closing
 pub mod Finishing
 pub mod Holders
 pub mod Homes

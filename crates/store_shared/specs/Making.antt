@@ -6,7 +6,7 @@ use Rattle.turn_lock.specs.declared.pass.Pass.{Pass}
 use Rattle.store_shared.specs.Parting.{IsFirst, IsFirstAt}
 use Rattle.store_shared.specs.Turned.{made_slot}
 use Rattle.store_shared.specs.declared.making.Fresh.{Fresh}
-use Rattle.store_shared.specs.declared.turned.TurnedSlot.{TurnedSlot}
+use Rattle.store_shared.specs.declared.shared.TurnedSlot.{TurnedSlot}
 
 module _ {D A : Type 0} where
   -- new locks, each with its first pass

@@ -7,8 +7,8 @@ use Rattle.drive_base.specs.declared.plan.SetPlan.{SetPlan}
 use Rattle.term_gate.specs.declared.opening.Opened.{Opened}
 use Rattle.store_shared.specs.Opening.{AreOpened, IsTermTaken, SetRefuses, SlotRefuses, with_out}
 use Rattle.store_shared.specs.Passes.{disks_of, set_of, slots_of}
-use Rattle.store_shared.specs.declared.opened.NotOpened.{NotOpened}
-use Rattle.store_shared.specs.declared.opened.StoreParts.{StoreParts}
+use Rattle.store_shared.specs.declared.pass.NotOpened.{NotOpened}
+use Rattle.store_shared.specs.declared.pass.StoreParts.{StoreParts}
 use Rattle.store_shared.specs.declared.pass.PlainPass.{PlainPass}
 
 module _ {D A : Type 0} (ghosts : Ghosts D) (entries : A → Option (List Entry)) (count : A → ℕ) where

@@ -6,12 +6,12 @@ use Rattle.drive_base.specs.declared.drive.Drive.{Ghosts}
 use Rattle.register_caller.specs.Steps.{FilesStay}
 use Rattle.register_core.specs.Loops.{CountsRise, TellsStay}
 use Rattle.slot_core.specs.Hands.{HandsStay}
-use Rattle.slot_core.specs.Listing.{ListsNames, SaysNothing, ShowsNames}
+use Rattle.slot_core.specs.NameList.{ListsNames, SaysNothing, ShowsNames}
 use Rattle.slot_core.specs.Stubs.{Says}
-use Rattle.slot_core.specs.Turning.{Leaves, TurnsUnspent}
+use Rattle.slot_core.specs.Turns.{Leaves, TurnsUnspent}
 use Rattle.slot_core.specs.Views.{audit_of, holding_of, lanes_of, numbers_of}
-use Rattle.slot_core.specs.declared.fault.SlotFault.{SlotFault}
-use Rattle.slot_core.specs.declared.fault.SlotFault.TheVariants.{SeqSpent}
+use Rattle.slot_core.specs.declared.slot.SlotFault.{SlotFault}
+use Rattle.slot_core.specs.declared.slot.SlotFault.TheVariants.{SeqSpent}
 use Rattle.slot_core.specs.declared.slot.Slot.{Slot}
 use Rattle.slot_core.specs.declared.stub.Stub.{Stub}
 use Rattle.turn_lock.specs.Tickets.{last_ticket}

@@ -8,10 +8,10 @@ use Rattle.turn_lock.specs.declared.lock.TurnLock.{TurnLock}
 use Rattle.turn_lock.specs.declared.pass.Pass.{Pass}
 use Rattle.store_shared.specs.SharedPasses.{FitsDesk, PassHolds, SharedHolds, drives_of, locks_of, pass_at, passes_in, set_held, set_of_desk, shared_holds}
 use Rattle.store_shared.specs.Turned.{made_slots, name_of, turns_in}
-use Rattle.store_shared.specs.declared.parts.PassParts.{PassParts}
+use Rattle.store_shared.specs.declared.pass.PassParts.{PassParts}
 use Rattle.store_shared.specs.declared.shared.SharedDesk.{SharedDesk}
 use Rattle.store_shared.specs.declared.shared.SharedPass.{SharedPass}
-use Rattle.store_shared.specs.declared.turned.TurnedSlot.{TurnedSlot}
+use Rattle.store_shared.specs.declared.shared.TurnedSlot.{TurnedSlot}
 use Rattle.turn_lock.specs.declared.lock.TheConstants.{ALL_PARTS}
 use Rattle.turn_lock.specs.Tickets.{last_ticket}
 

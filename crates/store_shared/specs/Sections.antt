@@ -9,7 +9,7 @@ use Rattle.drive_base.specs.declared.drive.Drive.{Ghosts}
 use Rattle.drive_base.specs.declared.plan.SetPlan.{SetPlan}
 use Rattle.receipts.specs.Events.{Event, Log, Note, Shown}
 use Rattle.receipts.specs.Events.Event.{BarredFrom, Called, Fed, Told, Turned}
-use Rattle.op_steps.specs.Laws.{WentOn}
+use Rattle.op_steps.specs.Leading.{WentOn}
 use Rattle.op_steps.specs.Leading.{entered_at}
 use Rattle.op_steps.specs.Store.{slot_seen}
 use Rattle.turn_lock.specs.History.{Arranged, IsHistory}
@@ -19,9 +19,9 @@ use Rattle.store_shared.specs.SharedAnswers.{SharedAnswers}
 use Rattle.store_shared.specs.SharedLaws.{IsSectionIn, TurnsRise}
 use Rattle.store_shared.specs.SharedPasses.{pass_at}
 use Rattle.store_shared.specs.Turned.{name_of, slot_in, turns_in}
-use Rattle.store_shared.specs.declared.receipt.Receipt.{Receipt}
+use Rattle.store_shared.specs.declared.op_desk.Receipt.{Receipt}
 use Rattle.store_shared.specs.declared.shared.SharedPass.{SharedPass}
-use Rattle.store_shared.specs.declared.turned.TurnedSlot.{TurnedSlot}
+use Rattle.store_shared.specs.declared.shared.TurnedSlot.{TurnedSlot}
 
 -- a section and its turn: the slot before and after it with the ticket, its note, if it left one, and what it showed
 pub record TurnedSection (D A : Type 0) : Type 0 where

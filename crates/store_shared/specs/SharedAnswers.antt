@@ -13,7 +13,7 @@ use Rattle.op_steps.specs.Words.{LetsGo}
 use Rattle.store_shared.specs.AmongSteps.{RanAmong}
 use Rattle.store_shared.specs.Answers.{NotesAre, any_teller, cut_by}
 use Rattle.store_shared.specs.SharedPasses.{reach_at, set_held, shared_holds}
-use Rattle.store_shared.specs.declared.receipt.Receipt.{Receipt}
+use Rattle.store_shared.specs.declared.op_desk.Receipt.{Receipt}
 use Rattle.store_shared.specs.declared.shared.SharedPass.{SharedPass}
 
 -- a log of a call's steps among those of others leads from the pass before, of which the call held nothing, to the pass after. Something of it is still held

@@ -19,10 +19,10 @@ use Rattle.store_shared.specs.Among.{PassSeen, seen_in}
 use Rattle.store_shared.specs.SharedAnswers.{SharedAnswers}
 use Rattle.store_shared.specs.SharedPasses.{FitsDesk, SharedHolds, pass_at, set_held, shared_holds}
 use Rattle.store_shared.specs.Turned.{name_of, slot_in, turns_in}
-use Rattle.store_shared.specs.declared.receipt.Receipt.{Receipt}
+use Rattle.store_shared.specs.declared.op_desk.Receipt.{Receipt}
 use Rattle.store_shared.specs.declared.shared.SharedDesk.{SharedDesk}
 use Rattle.store_shared.specs.declared.shared.SharedPass.{SharedPass}
-use Rattle.store_shared.specs.declared.turned.TurnedSlot.{TurnedSlot}
+use Rattle.store_shared.specs.declared.shared.TurnedSlot.{TurnedSlot}
 
 module _ {D A : Type 0} where
   -- the tickets of turns rise: each is not below what was seen before its turn, and then that turn is seen too

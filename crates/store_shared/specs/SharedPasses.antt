@@ -12,7 +12,7 @@ use Rattle.turn_lock.specs.declared.pass.Pass.{Pass}
 use Rattle.store_shared.specs.Among.{Reach, passes_seen}
 use Rattle.store_shared.specs.declared.shared.SharedDesk.{SharedDesk}
 use Rattle.store_shared.specs.declared.shared.SharedPass.{SharedPass}
-use Rattle.store_shared.specs.declared.turned.TurnedSlot.{TurnedSlot}
+use Rattle.store_shared.specs.declared.shared.TurnedSlot.{TurnedSlot}
 
 -- what no call changes of the pass of a lock: which lock it is of, what that was made with, and its parts of the right to close it
 pub record PassHolds (D A : Type 0) : Type 0 where

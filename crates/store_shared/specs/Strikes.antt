@@ -11,7 +11,7 @@ use Rattle.op_steps.specs.Claims.{HasHonestManifests}
 use Rattle.op_steps.specs.Leading.{Standing}
 use Rattle.store_shared.specs.Holders.{AreLost, ArePartsAt, DrivesRest, RigHolds}
 use Rattle.store_shared.specs.Opening.{with_out}
-use Rattle.store_shared.specs.declared.opened.StoreParts.{StoreParts}
+use Rattle.store_shared.specs.declared.pass.StoreParts.{StoreParts}
 
 -- between two lives a drive was struck by trouble, or stopped: it tells as before and keeps what it kept; of files that were being written each stays or is gone
 pub record IsStruck (old new : DriveView) : Type 0 where

@@ -13,7 +13,7 @@ use Rattle.store_shared.specs.Passes.{disks_of}
 use Rattle.store_shared.specs.SharedAnswers.{SharedAnswers}
 use Rattle.store_shared.specs.SharedPasses.{drives_of}
 use Rattle.store_shared.specs.declared.pass.PlainPass.{PlainPass}
-use Rattle.store_shared.specs.declared.receipt.Receipt.{Receipt}
+use Rattle.store_shared.specs.declared.op_desk.Receipt.{Receipt}
 use Rattle.store_shared.specs.declared.shared.SharedPass.{SharedPass}
 
 -- the calls that were made of the drive of an index, the newest first

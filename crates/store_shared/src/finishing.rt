@@ -1,21 +1,21 @@
 //! The work of an op that nobody waits for.
 
-ghost use Rattle.std.specs.Prelude.{◌≡◌, ◌<◌, ℕ, [], length};
-ghost use Rattle.drive_base.specs.View.{views};
+ghost use Rattle.std.specs.Prelude.{◌<◌, ◌≡◌, None, [], length, true, ℕ};
+ghost use Rattle.op_steps.specs.Words.{HasEnded};
+ghost use Rattle.op_steps.specs.declared.next.OpNext.TheVariants.{Done};
 ghost use Rattle.op_steps.specs.Claims.{no_claim};
 ghost use Rattle.op_steps.specs.Going.{IsFeedAt, OpLed};
 ghost use Rattle.op_steps.specs.Steps.{RanOver};
-ghost use Rattle.op_steps.specs.Store.{store_of, teller_of};
 ghost use Rattle.store_shared.specs.Finishing.{AloneFinished, AmongFinished};
 ghost use Rattle.store_shared.specs.Passes.{set_of};
+ghost use Rattle.store_shared.specs.Serving.{reached};
 ghost use Rattle.store_shared.specs.SharedPasses.{FitsDesk, set_held, shared_holds};
 
-use crate::nobody::{NoBody, NoReply};
 use crate::pass::PlainPass;
-use crate::plain::PlainDesk;
+use crate::plain_desk::PlainDesk;
 use crate::shared::{SharedDesk, SharedPass};
 use audit_trail::Audit;
-use call_types::Feed;
+use call_types::{Cut, Feed, Reply};
 use desk_base::{Gate, Teller};
 use drive_base::Drive;
 use op_steps::{Op, Served, Turns, run_op};
@@ -39,13 +39,14 @@ fn finish_on<O: Op, D: Drive, P: Turns<D>, F: Feed, T: Teller>(
     ensures fits { P.fits turns.now (O.set op.old) slots.new }
     ensures holds { P.holds slots.new ≡ P.holds slots.old }
     ensures disks { length disks.new.items ≡ length disks.old.items }
+    ensures set { O.set op.new ≡ O.set op.old }
+    ensures asked { O.asked op.new ≡ O.asked op.old }
+    ensures ended { O.step op.new ≡ Done }
     ensures done { (slot : ℕ) → O.stands op.old (no_claim slot) []
-        → OpLed (O.owed (O.set op.old) (O.asked op.old) result.cut) result.stubs.items slot
+        → OpLed (λ log. O.owed (O.set op.old) (O.asked op.old) result.cut log × HasEnded (O.stands op.new) log) result.stubs.items slot
         (λ log claim later. RanOver (P.gives (O.set op.old) T) (P.bars T) T.takes T.breaks (O.set op.old) log
-        (store_of (P.seen slots.old) (views D.Drive disks.old.items) claim
-        (record { view = F.seen feed.old; faults = F.faults feed.old }) (teller_of teller.old (T.faults teller.old)))
-        (store_of (P.seen slots.new) (views D.Drive disks.new.items) later
-        (record { view = F.seen feed.new; faults = F.faults feed.new }) (teller_of teller.new (T.faults teller.new)))) }
+        (reached D.Drive F.Feed T.Teller (P.seen slots.old) disks.old.items feed.old teller.old claim)
+        (reached D.Drive F.Feed T.Teller (P.seen slots.new) disks.new.items feed.new teller.new later)) }
 {
     let mut stubs = Vec::new(alloc);
     run_op(
@@ -72,8 +73,12 @@ impl<D: Drive, A: Audit> PlainDesk<D, A> {
         requires stated { O.stated (O.asked op.old) ≡ 0 }
         requires taken { O.taken op.old ≡ 0 }
         ensures same { set_of pass.new ≡ set_of pass.old }
+        ensures set { O.set op.new ≡ O.set op.old }
+        ensures asked { O.asked op.new ≡ O.asked op.old }
+        ensures ended { O.step op.new ≡ Done }
         ensures done { (slot : ℕ) → slot < 64 → O.stands op.old (no_claim slot) []
-            → AloneFinished D.Drive A.entries A.count (O.owed (O.set op.old) (O.asked op.old) result.cut) result.stubs.items pass.old pass.new }
+            → AloneFinished D.Drive A.entries A.count (λ log. O.owed (O.set op.old) (O.asked op.old) result.cut log × HasEnded (O.stands op.new) log)
+            result.stubs.items pass.old pass.new }
     {
         finish_on(
             self,
@@ -96,8 +101,12 @@ impl<R: Wait, D: Drive, A: Audit, G: Gate> SharedDesk<R, D, A, G> {
         requires stated { O.stated (O.asked op.old) ≡ 0 }
         requires taken { O.taken op.old ≡ 0 }
         ensures holds { shared_holds pass.new ≡ shared_holds pass.old }
+        ensures set { O.set op.new ≡ O.set op.old }
+        ensures asked { O.asked op.new ≡ O.asked op.old }
+        ensures ended { O.step op.new ≡ Done }
         ensures done { (slot : ℕ) → slot < 64 → O.stands op.old (no_claim slot) []
-            → AmongFinished D.Drive A.entries A.count (O.owed (O.set op.old) (O.asked op.old) result.cut) result.stubs.items pass.old pass.new }
+            → AmongFinished D.Drive A.entries A.count (λ log. O.owed (O.set op.old) (O.asked op.old) result.cut log × HasEnded (O.stands op.new) log)
+            result.stubs.items pass.old pass.new }
     {
         finish_on(
             self,
@@ -109,5 +118,39 @@ impl<R: Wait, D: Drive, A: Audit, G: Gate> SharedDesk<R, D, A, G> {
             &mut NoBody {},
             &mut NoReply {},
         )
+    }
+}
+
+/// A feed that has nothing.
+#[derive(Drop)]
+pub(crate) struct NoBody {}
+
+impl Feed for NoBody {
+    ghost seen = { λ feed. record { stated = 0; given = 0; left = None; taken = None; ended = true } };
+
+    ghost faults = { λ feed. 0 };
+
+    fn take(&mut self, _into: &mut [u8]) -> Result<usize, Cut> {
+        Ok(0)
+    }
+}
+
+/// A teller that takes nothing.
+#[derive(Drop)]
+pub(crate) struct NoReply {}
+
+impl Teller for NoReply {
+    ghost takes = { λ old telling new. ⊥ };
+
+    ghost breaks = { λ old telling new. ⊥ };
+
+    ghost faults = { λ teller. 0 };
+
+    fn head(&mut self, _reply: &Reply) -> Result<(), Cut> {
+        Err(Cut::NoMemory)
+    }
+
+    fn piece(&mut self, _bytes: &[u8]) -> Result<(), Cut> {
+        Err(Cut::NoMemory)
     }
 }

@@ -15,46 +15,26 @@
 //! their stubs, on `turn_lock` for turns, and on `desk_base` for what a desk is.
 #![tactic(auto)]
 
-mod among;
 mod calls;
 mod closing;
-mod desk;
 mod finishing;
-mod homes;
-mod later;
 mod laws;
-mod lives;
 mod making;
-mod nobody;
 mod op_desk;
-mod opened;
 mod opening;
-mod paging;
-mod parts;
 mod pass;
-mod plain;
-mod receipt;
-mod serving;
+mod plain_desk;
+mod plain_pass;
 mod shared;
 mod shared_desk;
-mod shared_paging;
 mod shared_pass;
-mod shared_serving;
-mod splitting;
-mod stepping;
-mod striking;
-mod stubs;
-mod turned;
-mod turning;
-mod turns;
 
-pub use laws::{answers_law, fits_law, pass_law, sections_law, shared_answers_law, trails_law};
-pub use lives::{opened_law, struck_law};
-pub use opened::{NotOpened, StoreParts};
+pub use laws::{
+    answers_law, fits_law, opened_law, pass_law, sections_law, shared_answers_law, struck_law,
+    trails_law, trouble_law,
+};
+pub use op_desk::Receipt;
 pub use opening::open_all;
-pub use parts::PassParts;
-pub use pass::PlainPass;
-pub use plain::PlainDesk;
-pub use receipt::Receipt;
-pub use shared::{SharedDesk, SharedPass};
-pub use turned::TurnedSlot;
+pub use pass::{NotOpened, PassParts, PlainPass, StoreParts};
+pub use plain_desk::PlainDesk;
+pub use shared::{SharedDesk, SharedPass, TurnedSlot};

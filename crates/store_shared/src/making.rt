@@ -1,18 +1,17 @@
 //! The beginning of a shared desk.
 
-ghost use Rattle.std.specs.Prelude.{◌≡◌, ◌+◌, ◌<◌, ◌≤◌, ◌++◌, ℕ, [], IfErr, IfOk, IfSome, IsTrue, MatchOption, All, length, reverse, slice_index_or, vec_capacity, vec_len};
+ghost use Rattle.std.specs.Prelude.{◌++◌, ◌+◌, ◌<◌, ◌≡◌, ◌≤◌, IfErr, IfOk, IsTrue, [], length, slice_index_or, vec_capacity, vec_len, ℕ};
 ghost use Rattle.slot_core.specs.Views.{numbers_of};
 ghost use Rattle.slot_core.specs.declared.slot.Slot.{Slot};
-ghost use Rattle.turn_lock.specs.declared.lock.TurnLock.{TurnLock};
 ghost use Rattle.store_shared.specs.Making.{AreFirst, AreFresh, unlocked};
 ghost use Rattle.store_shared.specs.Parting.{AreBack, IsMade};
 ghost use Rattle.store_shared.specs.Turned.{made_slots};
-ghost use Rattle.store_shared.specs.declared.turned.TurnedSlot.{TurnedSlot};
+ghost use Rattle.store_shared.specs.declared.shared.TurnedSlot.{TurnedSlot};
+ghost use Rattle.turn_lock.specs.declared.lock.TurnLock.{TurnLock};
 
-use crate::parts::PassParts;
-use crate::shared::{Room, SharedDesk, SharedPass};
+use crate::pass::PassParts;
+use crate::shared::{Room, SharedDesk, SharedPass, TurnedSlot};
 use crate::shared_pass::pass_over;
-use crate::turned::TurnedSlot;
 use audit_trail::Audit;
 use drive_base::Drive;
 use slot_core::Slot;

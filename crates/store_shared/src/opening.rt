@@ -1,16 +1,15 @@
 //! The opening of a store.
 
-ghost use Rattle.std.specs.Prelude.{◌≡◌, ◌+◌, ◌<◌, ◌≤◌, ◌^◌, ℕ, IfOk, OnOk, length, reverse, slice_index_or, vec_capacity, vec_len};
-ghost use Rattle.slot_core.specs.declared.slot.SlotParts.{SlotParts};
+ghost use Rattle.std.specs.Prelude.{◌+◌, ◌<◌, ◌^◌, ◌≡◌, ◌≤◌, IfOk, OnOk, length, reverse, slice_index_or, vec_capacity, vec_len, ℕ};
 ghost use Rattle.drive_base.specs.View.{views};
+ghost use Rattle.slot_core.specs.declared.slot.SlotParts.{SlotParts};
 ghost use Rattle.store_shared.specs.Opening.{OpensLast, OpensOn, OpensRest, refusal_by, with_out};
 ghost use Rattle.store_shared.specs.OpeningAll.{OpensStore};
 ghost use Rattle.term_gate.specs.Opening.{Opens};
 ghost use Rattle.term_gate.specs.Terms.{IsFresh};
 
-use crate::opened::{NotOpened, StoreParts};
-use crate::parts::PassParts;
-use crate::pass::PlainPass;
+use crate::closing::turn_round;
+use crate::pass::{NotOpened, PassParts, PlainPass, StoreParts};
 use audit_trail::{Audit, AuditFault};
 use drive_base::{Drive, DriveSet, SetPlan};
 use slot_core::{Slot, SlotParts};
@@ -144,13 +143,6 @@ fn open_on<D: Drive, A: Audit>(
         }
         Err(why) => Err(why),
     }
-}
-
-/// Puts slots in the order of their indices that stand in the other one.
-fn turn_round<D: Drive, A: Audit>(slots: &mut Vec<Slot<D, A>>)
-    ensures { slots.new.items ≡ reverse slots.old.items }
-{
-    slots.as_mut_slice().reverse();
 }
 
 /// Opens a store over its data drives and the lanes and audits of its 64 slots: the set under a new term, and then each slot under it, with the drives out

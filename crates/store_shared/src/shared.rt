@@ -1,16 +1,34 @@
-//! The desk of several callers, and the way of each to it.
+//! The desk of several callers, the slots behind its locks, and the way of each caller to it.
 
-ghost use Rattle.std.specs.Prelude.{◌≡◌, ◌<◌, ◌≤◌, ℕ, [], length, slice_index_or, vec_capacity};
+ghost use Rattle.std.specs.Prelude.{◌<◌, ◌≡◌, ◌≤◌, [], length, slice_index_or, vec_capacity, ℕ};
 ghost use Rattle.slot_core.specs.Views.{numbers_of};
 ghost use Rattle.slot_core.specs.declared.slot.Slot.{Slot};
-ghost use Rattle.store_shared.specs.Turned.{made_slots};
+ghost use Rattle.store_shared.specs.Turned.{SlotName, made_slots, name_of, turns_in};
 
-use crate::turned::TurnedSlot;
 use audit_trail::Audit;
 use drive_base::{Drive, SetPlan};
 use slot_core::Slot;
 use std::sync::Mutex;
-use turn_lock::{Pass, TurnLock};
+use turn_lock::{Pass, TurnLock, Turned};
+
+/// A slot behind a turn lock, with one turn more after each section. Its name is its set and its index.
+#[derive(Drop)]
+pub struct TurnedSlot<D, A> {
+    /// The slot.
+    pub(crate) slot: Slot<D, A>,
+}
+
+impl<D: Drive, A: Audit> Turned for TurnedSlot<D, A> {
+    ghost Name = { SlotName };
+
+    ghost name = { λ turned. name_of turned };
+
+    ghost turn = { λ turned. turns_in turned };
+
+    fn turns(&self) -> u64 {
+        self.slot.turns()
+    }
+}
 
 /// Room for 64 things, of which none is there.
 #[derive(Drop)]

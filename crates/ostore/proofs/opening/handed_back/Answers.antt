@@ -1,6 +1,4 @@
-use Rattle.std.proofs.Common.{◌≡◌, ◌∙◌, ◌∷◌, [], ◌++◌, ap, length, refl, reverse, subst, arith}
-use Rattle.std.proofs.lemmas.List.{reverse-reverse}
-use Rattle.ostore.specs.Opening.{ClosesBehind}
+use Rattle.std.proofs.Common.{◌∙◌, ◌∷◌, [], ◌++◌, ap, length, refl, arith}
 use Rattle.ostore.proofs.opening.handed_back.Goals as goal
 
 pub push_reserved-requires : goal.push_reserved-requires
@@ -12,13 +10,10 @@ push_reserved-requires g c =
 
 pub returns : goal.returns
 returns g c =
-    let away = c.requires.away in
-    let left = c.args.back.parts.slots.items in
-    let moved : c.move_each.new.home.items ≡ left = c.move_each.ensures.items ∙ (ap (λ l. l ++ reverse c.turn_round.new.items.items) away.empty
-    ∙ (ap reverse c.turn_round.ensures.items ∙ reverse-reverse left)) in
+    let parts = c.into_parts-disks in
     record {
-      why = refl;
+      why = parts.ensures.why;
       set_is = refl;
-      slots = subst (λ l. ClosesBehind (reverse c.args.back.slots.items) l c.close_each.new.home.items) moved c.close_each.ensures;
-      disks = c.push_reserved.ensures.items ∙ ap (λ l. l ++ c.args.back.parts.disks ∷ []) away.no_rows;
+      slots = parts.ensures.slots;
+      disks = c.push_reserved.ensures.items ∙ (ap (λ l. l ++ parts.result.0.disks ∷ []) c.requires.away.no_rows ∙ ap (λ d. d ∷ []) parts.ensures.disks);
     }

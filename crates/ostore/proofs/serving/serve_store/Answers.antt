@@ -2,7 +2,7 @@ use Rattle.std.proofs.Common.{◌∙◌, refl, subst, sym}
 use Rattle.io_base.specs.Spawner.{spawner_faults}
 use Rattle.store_shared.specs.SharedPasses.{drives_of}
 use Rattle.ostore.specs.Sharing.{AreShared}
-use Rattle.ostore.proofs.ClosingLemmas.{whole_slice}
+use Rattle.store_shared.proofs.OrderLemmas.{whole_slice}
 use Rattle.ostore.proofs.ServingLemmas.{doors_come_back, rows_to, served_end, shares_back, shares_disks, unserved_end, without_error}
 use Rattle.ostore.proofs.serving.serve_store.Goals as goal
 

@@ -1,7 +1,7 @@
 use Rattle.std.proofs.Common.{◌∙◌, inl, inr, refl}
 use Rattle.turn_lock.specs.Passes.{lent_to, ticket_of, turns_so_far}
 use Rattle.turn_lock.specs.declared.view.Turn.{Turn}
-use Rattle.store_shared.specs.declared.turned.TurnedSlot.{TurnedSlot}
+use Rattle.store_shared.specs.declared.shared.TurnedSlot.{TurnedSlot}
 use Rattle.store_shared.proofs.TurnedLemmas.{desk_name, refused_seen, turn_seen}
 use Rattle.store_shared.proofs.shared.SharedDesk.page_in_turn.Goals as goal
 

@@ -6,7 +6,7 @@ use Rattle.turn_lock.specs.declared.view.Turn.{Turn}
 use Rattle.op_steps.specs.declared.next.OpNext.TheVariants.{Section}
 use Rattle.store_shared.specs.Among.{pass_seen}
 use Rattle.store_shared.specs.Turned.{SlotName}
-use Rattle.store_shared.specs.declared.turned.TurnedSlot.{TurnedSlot}
+use Rattle.store_shared.specs.declared.shared.TurnedSlot.{TurnedSlot}
 use Rattle.store_shared.proofs.AmongLemmas.{bar_goes, turn_goes}
 use Rattle.store_shared.proofs.TurnedLemmas.{desk_name, refused_seen, turn_seen}
 use Rattle.store_shared.proofs.shared.SharedDesk.turn_by.Goals as goal
@@ -35,11 +35,11 @@ returns-in-Ok-clause-steps g c =
     ∙ (desk_name desk.set desk.locks.items c.args.index c.index-lock.result.now desk.count c.requires.index desk.index desk.of_set c.index-lock.ensures
     ∙ ap (λ s. record { set = s; index = c.args.index }) (sym c.requires.set)) in
     turn_goes g.D.Drive g.A.Audit.entries g.A.Audit.count g.T.Teller.takes g.T.Teller.breaks (g.O.Op.set c.args.op.now) (g.O.Op.stands c.args.op.now)
-    (g.O.Op.stands c.section-stub.new.self) c.args.index c.section-stub.result turn (pass_seen c.args.own) (pass_seen c.give.result)
+    (g.O.Op.stands c.section-stub.new.self) (g.O.Op.step c.args.op.now) c.args.index c.section-stub.result turn (pass_seen c.args.own) (pass_seen c.give.result)
     (views g.D.Drive c.args.disks.now) (views g.D.Drive c.section-stub.new.disks) c.args.stubs.now.items c.keep.new.stubs.items
     (record { slot = name; ticket = c.in-Ok.ensures.value.0; later = c.in-Ok.ensures.ticket.0; unspent = c.in-Ok.ensures.spent })
     (turn_seen c.args.own c.give.result (turns_so_far held) (ticket_of held) (lent_to held) held.value to c.in-Ok.ensures.turns.0 c.in-Ok.ensures.turns.1
-    c.give.ensures.turns c.give.ensures.pass.2 c.give.ensures.pass.3) c.section-stub.ensures.turns c.keep.ensures
+    c.give.ensures.turns c.give.ensures.pass.2 c.give.ensures.pass.3) c.requires.next c.section-stub.ensures.turns c.keep.ensures
 
 pub returns-in-Err-clause-steps : goal.returns-in-Err-clause-steps
 returns-in-Err-clause-steps g c =
