@@ -3,10 +3,11 @@
 ghost use Rattle.std.specs.Prelude.{◌≡◌};
 ghost use Rattle.desk_base.specs.Calls.{IsLawful, stated_length};
 
+use crate::any_op::AnyOp;
 use crate::asks;
 use desk_base::Call;
 use drive_base::SetPlan;
-use object_ops::{DeedOp, GetOp, HeadOp, PutOp};
+use object_ops::{DeedOp, PutOp, ReadOp};
 use op_steps::{Op, OpNext};
 use receipts::Barred;
 use std::alloc::Global;
@@ -19,10 +20,10 @@ pub const NOW: u64 = 784_111_777;
 /// The ops that are under way, one of each kind.
 #[derive(Drop)]
 pub struct Callers {
-    pub head: Option<Caller<HeadOp>>,
-    pub get: Option<Caller<GetOp>>,
-    pub put: Option<Caller<PutOp>>,
-    pub delete: Option<Caller<DeedOp>>,
+    pub head: Option<Caller<ReadOp>>,
+    pub get: Option<Caller<AnyOp>>,
+    pub put: Option<Caller<AnyOp>>,
+    pub delete: Option<Caller<AnyOp>>,
 }
 
 impl Callers {
@@ -50,19 +51,19 @@ impl Callers {
     {
         match call {
             Call::Head { .. } => {
-                let op = HeadOp::new(alloc, *set, call, NOW)?;
+                let op = ReadOp::new(alloc, *set, call, NOW)?;
                 self.head = Some(Caller::new(alloc, op, *set, source));
             }
             Call::Get { .. } => {
-                let op = GetOp::new(alloc, *set, call, NOW)?;
+                let op = AnyOp::Get(ReadOp::new(alloc, *set, call, NOW)?);
                 self.get = Some(Caller::new(alloc, op, *set, source));
             }
             Call::Put { .. } => {
-                let op = PutOp::new(alloc, *set, call, NOW)?;
+                let op = AnyOp::Put(PutOp::new(alloc, *set, call, NOW)?);
                 self.put = Some(Caller::new(alloc, op, *set, source));
             }
             Call::Delete { .. } => {
-                let op = DeedOp::new(alloc, *set, call, NOW)?;
+                let op = AnyOp::Delete(DeedOp::new(alloc, *set, call, NOW)?);
                 self.delete = Some(Caller::new(alloc, op, *set, source));
             }
             _ => return Err(NoAnswer),
@@ -125,11 +126,19 @@ impl Callers {
                 self.go(alloc, store, "end", kind, 0)
             }
             "commits" => match &self.put {
-                Some(caller) => yes(alloc, caller.op.at_commit()),
+                Some(caller) => yes(alloc, at_commit(&caller.op)),
                 None => said(alloc, "no such op"),
             },
             _ => self.go(alloc, store, step, kind, number(rest)),
         }
+    }
+}
+
+/// Whether the section comes next that commits a put.
+fn at_commit(op: &AnyOp) -> bool {
+    match op {
+        AnyOp::Put(op) => op.at_commit(),
+        AnyOp::Get(_) | AnyOp::Delete(_) => false,
     }
 }
 

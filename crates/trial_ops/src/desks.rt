@@ -1,22 +1,25 @@
 //! The desks of a store over memory drives: for one caller, and for two in turn.
 
-ghost use Rattle.std.specs.Prelude.{◌≡◌, ◌<◌, ◌↔◌, IsTrue, length};
+ghost use Rattle.std.specs.Prelude.{◌≡◌, ◌<◌, ◌↔◌, IfSome, IsTrue, length};
 ghost use Rattle.std.specs.List.{All};
 ghost use Rattle.desk_base.specs.Calls.{IsLawful, stated_length};
 ghost use Rattle.slot_core.specs.declared.slot.SlotParts.{SlotParts};
+ghost use Rattle.store_shared.specs.Passes.{set_of};
 
 use crate::asks;
 use crate::callers::NOW;
 use crate::sharing::two;
 use desk_base::{Call, Desk};
-use drive_base::SetPlan;
-use drive_memory::MemDrive;
+use drive_base::{SetPlan, Trouble};
+use drive_memory::{Back, Lose, MemDrive};
+use object_ops::DeedOp;
+use op_steps::Served;
 use slot_core::{SlotParts, Turn};
 use std::alloc::Global;
 use std::sync::Wait;
 use store_shared::{PassParts, PlainDesk, PlainPass, StoreParts, open_all};
 use term_gate::OpenRefusal;
-use trial_base::{Names, NoAnswer, first, number, said};
+use trial_base::{Names, NoAnswer, first, number, said, yes};
 use trial_rig::{FrailAudit, Line, RecordingTeller, Source, say_cut, say_whys};
 
 /// The way to a store over memory drives.
@@ -55,15 +58,8 @@ fn fresh(alloc: Global, lost: u64) -> Result<MemStore, NoAnswer> {
 
 /// What the next life of a store is opened over.
 fn closed(alloc: Global, pass: MemPass) -> Result<MemStore, NoAnswer> {
-    let PassParts { slots, disks, .. } = pass.into_parts();
-    let mut parts = Vec::new(alloc);
-    for slot in slots {
-        parts.push(slot.close())?;
-    }
-    Ok(StoreParts {
-        disks,
-        slots: parts,
-    })
+    let home = Vec::with_capacity(alloc, 64)?;
+    Ok(pass.shut(home))
 }
 
 /// Whether a slot has four lanes.
@@ -170,6 +166,50 @@ fn names_in(alloc: Global, pass: &mut MemPass) -> Result<String, NoAnswer> {
     Ok(out)
 }
 
+/// The index of a drive of a store's set.
+fn index_of(pass: &MemPass, words: &str) -> Option<u8>
+    ensures { IfSome result (λ index. index < (set_of pass.now).drives) }
+{
+    let index = number(words);
+    let drives = pass.set().drives;
+    if index < u64::from(drives) {
+        return Some(index as u8);
+    }
+    None
+}
+
+/// Has trouble befall the lanes and the data drive of an index, and tells whether it befell that drive.
+fn struck<T: Trouble<MemDrive>>(
+    alloc: Global,
+    pass: &mut MemPass,
+    words: &str,
+    trouble: &mut T,
+) -> Result<String, NoAnswer> {
+    match index_of(pass, words) {
+        Some(index) => yes(alloc, pass.strike(index, trouble)),
+        None => Err(NoAnswer),
+    }
+}
+
+/// `delete KEY`: how many stubs the op gives that nobody waits for, and whether it was cut, as it is where its reply is told.
+fn finished(
+    alloc: Global,
+    names: &Names,
+    pass: &mut MemPass,
+    words: &str,
+) -> Result<String, NoAnswer> {
+    let call = asks::call(alloc, names, words)?;
+    let op = match &call {
+        Call::Delete { .. } => DeedOp::new(alloc, pass.set(), &call, NOW),
+        _ => return Err(NoAnswer),
+    };
+    let mut op = op?;
+    let Served { stubs, cut } = PlainDesk::new().finish(alloc, pass, &mut op);
+    let count = stubs.len();
+    let end = if cut.is_some() { "cut" } else { "whole" };
+    Ok(format!(in alloc; "{count} stubs, {end}")?)
+}
+
 /// A store that callers do calls on.
 #[derive(Drop)]
 pub struct Desks<R: Wait> {
@@ -216,6 +256,9 @@ impl<R: Wait + Copy + Drop + Sync> Desks<R> {
         match first(row) {
             ("call", words) => hear(alloc, names, &PlainDesk::new(), pass, words),
             ("names", _) => names_in(alloc, pass),
+            ("lose", words) => struck(alloc, pass, words, &mut Lose),
+            ("back", words) => struck(alloc, pass, words, &mut Back),
+            ("finish", words) => finished(alloc, names, pass, words),
             _ => said(alloc, "no such call"),
         }
     }

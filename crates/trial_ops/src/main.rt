@@ -5,6 +5,7 @@
 //! finds.
 #![tactic(auto)]
 
+mod any_op;
 mod asks;
 mod callers;
 mod desks;
