@@ -7,10 +7,11 @@ It fails on each of these, and says where it stands:
   - a link to a file or to a title that isn't there; links to other sites aren't looked at
   - a path between backticks that isn't there: one that begins with a folder of the repository, or on the page of a crate with one of that crate.
     NAME in a path and a `*` stand for anything
-  - a line of more than 120 columns, but in a table or a block of code. docs/CRATES.md is made of other pages, so they are looked at in its place
+  - a line of more than 120 columns, but in a table or a block of code
   - a figure of the README that isn't what the repository has: definitions and lines of the theorem, crates, must-fail edits; and a number under "Speed"
     that docs/PERFORMANCE.md hasn't
   - promises of the README that aren't those at the top of docs/THEOREM.md, word by word, or of which not each has its title in docs/PROMISES.md
+    and its chapter in docs/THEOREM.md
   - a must-fail edit, also one in must-fail/more, that can't be applied: each text behind 'old:' has to stand exactly once in its file, with the changes of the
     pairs before it. Beside 'file:', 'old:' and 'new:' it has no line but, in must-fail/more, one with 'fn:'
 The last line is 'N passed, M failed', of pages and edits; it ends with 1 where one failed.
@@ -27,7 +28,6 @@ import rows_page
 import theorem_size
 
 COLUMNS = 120
-MADE = "docs/CRATES.md"
 FOLDERS = ("docs", "tools", "crates", "bench", ".ci")
 FOLDERS_OF_CRATE = ("src", "specs", "proofs", "must-fail")
 # Files that a build makes, which are named before they are there.
@@ -93,7 +93,7 @@ def wrong_lines(page):
     for number, line, is_code in lines_of(page):
         if is_code:
             continue
-        if len(line) > COLUMNS and not line.lstrip().startswith("|") and page != MADE:
+        if len(line) > COLUMNS and not line.lstrip().startswith("|"):
             yield number, f"{len(line)} columns"
         for it in (*wrong_links(page, line), *wrong_paths(page, line)):
             yield number, it
@@ -181,7 +181,7 @@ def wrong_figures():
 def promises(page, begin, end):
     """The numbered sentences of a page between two texts, each with its number."""
     text = (TOP / page).read_text().partition(begin)[2].partition(end)[0]
-    return re.findall(r"^(?:> )?(\d+)\. (.+)$", text, re.M)
+    return re.findall(r"^(?:> )?- \*\*(P\d+)\*\* (.+)$", text, re.M)
 
 
 def wrong_promises():
@@ -189,9 +189,10 @@ def wrong_promises():
     said = promises("README.md", "## What you may rely on", "\n## ")
     if not said or said != promises("docs/THEOREM.md", "# The theorem", "**Proved**"):
         yield 0, "its promises aren't those at the top of docs/THEOREM.md"
-    titles = re.findall(r"^## Promises? (.+?),", (TOP / "docs/PROMISES.md").read_text(), re.M)
-    if [number for title in titles for number in re.findall(r"\d+", title)] != [number for number, _ in said]:
-        yield 0, "not each of its promises has its title in docs/PROMISES.md, in their order"
+    for page, form in (("docs/PROMISES.md", r"^## (P\d.*?),"), ("docs/THEOREM.md", r"^# .*\((P\d.*?)\)$")):
+        titles = re.findall(form, (TOP / page).read_text(), re.M)
+        if [number for title in titles for number in re.findall(r"P\d+", title)] != [number for number, _ in said]:
+            yield 0, f"not each of its promises has its title in {page}, in their order"
 
 
 def main():

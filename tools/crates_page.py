@@ -1,29 +1,30 @@
 #!/usr/bin/env python3
-"""Prints `docs/CRATES.md`: each layer of `crates.txt`, and each crate with what it is for, what it stands on, what is proved of it, only tested, and neither.
+"""Prints `docs/CRATES.md`, an index: each layer of `crates.txt`, and each crate with a link to its page, what it is, and how many lines it has.
 
     tools/crates_page.py            prints the page
-    tools/crates_page.py --check    fails where docs/CRATES.md is another, and says from which line on
+    tools/crates_page.py --check    fails where docs/CRATES.md is another, and says from which line on, or where the page of a crate lacks a part
 
-It takes the first paragraph of the head of `src/lib.rt` (of `src/main.rt` in a program), the line of `crates.txt`, and `crates/NAME/README.md`.
+What a crate is says the first sentence of the head of `src/lib.rt` (of `src/main.rt` in a program).
 A layer of `crates.txt` is a line `# NAME: WHAT` and the lines of its crates. A crate stands below those that name it, also in its layer.
+The page of a crate is `crates/NAME/README.md`, with the parts `Proved`, `Only tested` and `Neither`.
 """
 
 import itertools
 import pathlib
+import re
 import sys
-import textwrap
 
 TOP = pathlib.Path(__file__).resolve().parent.parent
 PAGE = TOP / "docs" / "CRATES.md"
 PARTS = ("Proved", "Only tested", "Neither")
+# The folders of a crate whose lines are counted, and what their files end with.
+COUNTED = (("src", "rt"), ("specs", "antt"), ("proofs", "antt"))
 HEAD = """# The crates
 
-Printed by `tools/crates_page.py` from the heads of the crates, `crates.txt` and `crates/NAME/README.md`; the gate compares it.
-Crates come after those that they stand on, layer by layer.
-
-Every function of every crate is proved safe (no index out of range, no overflow, no lost bits), and to meet its contract.
-It is proved to return, too, but where it waits for a peer or a turn: such a function has the bound `Wait`, or calls what waits in the system.
-Want of memory may be answered by whatever takes memory; no clause says when it comes.
+Printed by `tools/crates_page.py`; the gate compares it.
+A crate stands below those that use it, layer by layer, and its page says what is proved, what is only tested, and what
+is neither.
+Three columns count the lines of its code, its specs and its proofs, without empty ones.
 """
 
 
@@ -52,8 +53,19 @@ def stop_unless_lowest_first(found):
         done.add(name)
 
 
-def first_paragraph(name):
-    """What the head of the crate says it is for."""
+def stop_unless_whole(name):
+    """Ends where the page of a crate has another title, or lacks a part."""
+    page = (TOP / "crates" / name / "README.md").read_text()
+    if not page.startswith(f"# `{name}`\n"):
+        sys.exit(f"crates_page: crates/{name}/README.md has another title")
+    # How a row of a trial program is written stands on its page, too.
+    titles = tuple(it for it in re.findall(r"^## (.+)$", page, re.M) if it != "A row")
+    if titles != PARTS:
+        sys.exit(f"crates_page: crates/{name}/README.md has not the parts {', '.join(PARTS)}")
+
+
+def what_it_is(name):
+    """The first sentence of the head of the crate."""
     source = TOP / "crates" / name / "src"
     root = source / "lib.rt" if (source / "lib.rt").exists() else source / "main.rt"
     lines = []
@@ -61,79 +73,56 @@ def first_paragraph(name):
         if line.strip() in ("//!", "") or not line.startswith("//!"):
             break
         lines.append(line[3:].strip())
-    return " ".join(lines)
+    return re.match(r".*?[.](?= [A-Z]|$)", " ".join(lines))[0]
 
 
-def parts_of(name):
-    """The parts of the page of a crate, by their titles."""
-    page = (TOP / "crates" / name / "README.md").read_text()
-    if not page.startswith(f"# `{name}`\n"):
-        sys.exit(f"crates_page: crates/{name}/README.md has another title")
-    parts = {}
-    for part in page.split("\n## ")[1:]:
-        title, _, body = part.partition("\n")
-        parts[title] = body.strip()
-    # How a row of a trial program is written is on the page of rows.
-    parts.pop("A row", None)
-    if tuple(parts) != PARTS:
-        sys.exit(f"crates_page: crates/{name}/README.md has not the parts {', '.join(PARTS)}")
-    return parts
+def lines_in(name, folder, ending):
+    files = (TOP / "crates" / name / folder).rglob(f"*.{ending}")
+    return sum(1 for it in files for line in it.read_text().splitlines() if line.strip())
 
 
-def wrapped(text):
-    """A paragraph in lines of at most 150 columns."""
-    return textwrap.fill(text, 150, break_long_words=False, break_on_hyphens=False)
-
-
-def titled(title, body):
-    """A part with its title: a list begins below it."""
-    return f"**{title}.**" + ("\n\n" if body.startswith("- ") else " ") + body
-
-
-def section(name, named):
-    own = [it for it in named[name] if it in named]
-    kit = [it for it in named[name] if it not in named]
-    lists = [", ".join(f"`{it}`" for it in its) for its in (own, kit)]
-    stands = f"Stands on {lists[0]}." if own else "Stands on no crate of ours."
-    if kit:
-        stands += f" Of the kit: {lists[1]}."
-    lines = [f"### `{name}`", "", wrapped(first_paragraph(name)), "", wrapped(stands)]
-    for title, body in parts_of(name).items():
-        if body != "Nothing.":
-            lines += ["", titled(title, body)]
-    return "\n".join(lines) + "\n"
+def row(name, sums):
+    counts = [lines_in(name, *it) for it in COUNTED]
+    for place, number in enumerate(counts):
+        sums[place] += number
+    return f"| [`{name}`](../crates/{name}/README.md) | {what_it_is(name)} | {' | '.join(f'{it:,}' for it in counts)} |"
 
 
 def page():
-    found = layers()
+    found, sums = layers(), [0, 0, 0]
     stop_unless_lowest_first(found)
-    named = {name: below for _, crates in found for name, below in crates.items()}
     text = [HEAD]
     for title, crates in found:
-        text.append(f"\n## {title}\n")
-        text += ["\n" + section(name, named) for name in crates]
+        text.append(f"\n## {title}\n\n| Crate | What it is | Code | Specs | Proofs |\n|---|---|---|---|---|\n")
+        text += [row(name, sums) + "\n" for name in crates]
+    count = sum(len(crates) for _, crates in found)
+    text.append(f"\nIn all {count} crates: {sums[0]:,} lines of code, {sums[1]:,} of specs and {sums[2]:,} of proofs.\n")
     return "".join(text)
 
 
-def check(made):
-    found = PAGE.read_text()
+def check(path, made, tool):
+    """Whether a page is what its tool prints; where not, it says so."""
+    found = path.read_text() if path.is_file() else ""
     if found == made:
         return 0
     pairs = itertools.zip_longest(found.split("\n"), made.split("\n"))
     line = next(number for number, (one, other) in enumerate(pairs, 1) if one != other)
-    print(f"crates_page: docs/CRATES.md is another from line {line} on: print it anew", file=sys.stderr)
+    print(f"{tool}: {path.relative_to(TOP)} is another from line {line} on: print it anew (tools/dev pages)", file=sys.stderr)
     return 1
 
 
-def main():
-    made = page()
-    if sys.argv[1:] == ["--check"]:
-        return check(made)
-    if sys.argv[1:]:
+def main(words):
+    if words == ["--check"]:
+        for _, crates in layers():
+            for name in crates:
+                stop_unless_whole(name)
+        return check(PAGE, page(), "crates_page")
+    if words:
         print(__doc__, file=sys.stderr)
         return 2
-    sys.stdout.write(made)
+    sys.stdout.write(page())
     return 0
 
 
-sys.exit(main())
+if __name__ == "__main__":
+    sys.exit(main(sys.argv[1:]))

@@ -1,5 +1,5 @@
 #!/usr/bin/env python3
-"""Prints docs/ROWS.md: the trial programs, how a row of each is written, and how many rows there are of each crate.
+"""Prints docs/ROWS.md, an index: the trial programs, with a link to how a row of each is written, and how many rows there are of each crate.
 
     tools/rows_page.py              prints the page
     tools/rows_page.py --check      compares docs/ROWS.md with it, and the stdout of each program with its stdin
@@ -19,17 +19,19 @@ TOP = pathlib.Path(__file__).resolve().parent.parent
 PAGE = TOP / "docs" / "ROWS.md"
 HEAD = """# Rows
 
-What no clause says is shown by rows.
+Printed by `tools/rows_page.py`; the gate compares it.
+Rows show what no clause says.
 A program calls public functions on the rows of its standard input, and prints each row with the answer that it finds.
 The gate runs each program as two compilers build it, and wants `stdout`, which is a copy of `stdin`.
 Rattle's own compiler can't build `trial_slots` and `trial_ops`, since they are too large for its tables.
 A further row is a line in both files, and costs no proof.
 
-A row is `CRATE CALL WORDS = ANSWER`.
+A row is `CRATE CALL WORDS = ANSWER`, such as `poly_code encode 4 2 1 4142 = 4744`.
 A line that begins with `#` says what the rows below it show, and where their answers come from.
 `let NAME = BYTES` gives bytes a name for the rows below.
-Bytes are hex digits, `'text'`, or such a name; `PIECE*N` is a piece N times, and what is parted by a blank adjoins.
-This much is the same in all of them (`trial_base`).
+Bytes are hex digits, `'text'`, or such a name; `PIECE*N` is a piece N times, and a blank joins two of them.
+All programs share this much (`trial_base`).
+The page of each program, to which the table links, has its own words under "A row".
 """
 
 
@@ -60,14 +62,13 @@ def section(program, title):
 
 
 def page():
-    lines, total = [HEAD], 0
+    lines, total = [HEAD, "| Program | Rows of each crate | All |", "|---|---|---|"], 0
     for program in programs():
         rows = rows_of(program)
         total += sum(rows.values())
-        lines += [f"## `{program}`\n", section(program, "A row"), "\n| Crate | Rows |\n|---|---|"]
-        lines += [f"| `{crate}` | {number} |" for crate, number in sorted(rows.items())]
-        lines += [f"| all | {sum(rows.values())} |\n"]
-    return "\n".join([*lines, f"All programs have {total:,} rows."]) + "\n"
+        each = ", ".join(f"`{crate}` {number:,}" for crate, number in sorted(rows.items()))
+        lines.append(f"| [`{program}`](../crates/{program}/README.md#a-row) | {each} | {sum(rows.values()):,} |")
+    return "\n".join([*lines, f"\nAll programs have {total:,} rows."]) + "\n"
 
 
 def check():

@@ -32,10 +32,10 @@ TRAITS = [
 # enough drives which serve refuse nothing; and over which drives all of it holds.
 LAWS = [
     ("ostore", "laws.rt", "life_law"),
-    ("op_steps", "laws.rt", "live_law"),
-    ("op_steps", "laws.rt", "get_law"),
+    ("log_laws", "laws.rt", "live_law"),
+    ("log_laws", "laws.rt", "get_law"),
     ("slot_history", "laws.rt", "run_laws"),
-    ("store_shared", "lives.rt", "opened_law"),
+    ("store_shared", "laws.rt", "opened_law"),
 ]
 # The chapters: crates whose definitions are one, and the one definition that the other hangs on.
 HTTP = ("http_wire", "s3_request", "s3_reply", "s3_docs")

@@ -1,8 +1,9 @@
 #!/usr/bin/env python3
-"""Prints docs/LEMMAS.md: each lemma file, and the definitions that its lemmas speak of.
+"""Prints the lemma files: of each the crate, what its head says, the files of specs that it serves, and how many lemmas it has.
 
-    lemma_page.py            prints the page
-    lemma_page.py --check    compares it with docs/LEMMAS.md, and fails where they differ
+    lemmas.py               all of them, crate by crate
+    lemmas.py WORD..        those whose row has each of these words, in any case, such as a crate, a file of specs or what a lemma is about
+    lemmas.py --check       fails where a lemma file says in no head what it is about; the last line is 'N passed, M failed'
 
 A lemma file is a file of `crates/NAME/proofs` that isn't the answer to one function. It serves the files of `specs/`
 whose definitions its public statements name most; where they are of another crate, its name stands before the dot.
@@ -13,7 +14,6 @@ import sys
 from collections import Counter
 
 TOP = os.path.join(os.path.dirname(os.path.abspath(__file__)), "..")
-PAGE = os.path.join(TOP, "docs", "LEMMAS.md")
 IMPORT = re.compile(r"^use Rattle\.(\w+)\.specs\.([\w.]+?)(?:\.\{(.*)\}| as (\w+))$")
 PUBLIC = re.compile(r"^\s*(?:abbrev )?pub (?:record )?(\S+)[^:]*:(.*)$")
 
@@ -51,7 +51,7 @@ def served(crate, text):
 
 
 def rows(crate):
-    """The rows of a crate: the file, what its head says, and what it serves."""
+    """The rows of a crate: the file, what its head says, what it serves, and its number of lemmas."""
     folder = os.path.join(TOP, "crates", crate, "proofs")
     if not os.path.isdir(folder):
         return
@@ -65,31 +65,29 @@ def rows(crate):
             if not line.startswith("-- "):
                 break
             head.append(line[3:])
-        yield name[:-5], " ".join(head), ", ".join(served(crate, text))
+        count = sum(1 for line in text.split("\n") if PUBLIC.match(line))
+        yield name[:-5], " ".join(head), ", ".join(served(crate, text)), count
 
 
-def page():
-    """The whole page."""
-    out = [
-        "# The lemmas, and what they serve",
-        "",
-        "Printed by `tools/lemma_page.py`; the gate compares it.",
-        "One table for each crate: a file of its `proofs/`, what its head says, and the files of `specs/` that it serves.",
-        "It serves those whose definitions its public statements name most.",
-        "Files in folders of `proofs/` are the answers to single functions, by the function's name, and aren't listed.",
-    ]
-    for crate in sorted(os.listdir(os.path.join(TOP, "crates"))):
-        lines = list(rows(crate))
-        if lines:
-            out += ["", f"## `{crate}`", "", "| File | About | Serves |", "|---|---|---|"]
-            out += [f"| `{name}` | {head} | {serves} |" for name, head, serves in lines]
-    return "\n".join(out) + "\n"
+def check(found):
+    """Says which files have no head."""
+    failed = [f"{crate}/proofs/{name}.antt" for crate, name, head, _, _ in found if not head]
+    for it in failed:
+        print(f"lemmas: crates/{it} has no head that says what it is about", file=sys.stderr)
+    print(f"{len(found) - len(failed)} passed, {len(failed)} failed")
+    return 1 if failed else 0
+
+
+def main(words):
+    found = [(crate, *it) for crate in sorted(os.listdir(os.path.join(TOP, "crates"))) for it in rows(crate)]
+    if words == ["--check"]:
+        return check(found)
+    for crate, name, head, serves, count in found:
+        line = f"{crate}/{name}: {head} Serves {serves or 'no definition'}. {count} lemmas."
+        if all(it.lower() in line.lower() for it in words):
+            print(line)
+    return 0
 
 
 if __name__ == "__main__":
-    if "--check" in sys.argv[1:]:
-        with open(PAGE, encoding="utf-8") as kept:
-            if kept.read() != page():
-                sys.exit("docs/LEMMAS.md isn't what tools/lemma_page.py prints")
-    else:
-        sys.stdout.write(page())
+    sys.exit(main(sys.argv[1:]))
