@@ -7,11 +7,13 @@
 //!
 //! The crate stands on `shard_file` for stripes, blocks and roots, on `manifest_file` for the text under a print, and on
 //! `poly_code` for codewords. It has definitions, and [`body_laws`] carries their laws; the calls that run are those that make
-//! the names ([`name_of_manifest`], [`name_of_shard`] and the loose ones).
+//! the names ([`name_of_manifest`], [`name_of_shard`] and the loose ones), and [`data_plan`].
 #![tactic(auto)]
 
 mod laws;
 mod names;
+mod plans;
 
 pub use laws::body_laws;
 pub use names::{loose_name_of_manifest, loose_name_of_shard, name_of_manifest, name_of_shard};
+pub use plans::data_plan;

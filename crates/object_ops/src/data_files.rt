@@ -1,21 +1,12 @@
-//! The data of an id: the plan by which a body is coded, its files, and removals of these.
+//! The files of an id's data, and removals of these.
 
 ghost use Rattle.std.specs.Prelude.{◌≡◌, IfOk, string_bytes};
-ghost use Rattle.body_print.specs.Plans.{data_plan};
 ghost use Rattle.object_ops.specs.DataNames.{name_by};
 
 use body_print::{name_of_manifest, name_of_shard};
-use drive_base::SetPlan;
 use fault_base::NoMemory;
 use stamp_id::VersionId;
 use std::alloc::Global;
-
-/// The plan of the data of this id, in a store over this set: each body has the blocks and the parity of the set.
-pub(crate) fn data_plan(set: SetPlan, _id: VersionId) -> SetPlan
-    ensures { result ≡ data_plan set _id }
-{
-    set
-}
 
 /// A file of an id's data.
 #[derive(Clone, Copy, PartialEq, Eq)]

@@ -12,10 +12,10 @@ ghost use Rattle.desk_base.specs.Calls.{most_body};
 ghost use Rattle.put_stage.specs.Steps.{MayFill};
 ghost use Rattle.object_ops.specs.Put.{drives_by, long_by, reach_by};
 
-use crate::data_files::data_plan;
 use crate::put_op::PutOp;
 use crate::put_outcome::{after_begin, owing};
 use crate::put_state::{PutState, Work, go_to};
+use body_print::data_plan;
 use call_types::{Cut, Feed, Mode, Reply};
 use drive_base::{Drive, SetPlan};
 use put_stage::{Stage, StageFault, StageNext};

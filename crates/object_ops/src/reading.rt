@@ -11,9 +11,9 @@ ghost use Rattle.version_list.specs.Step.{told as step_told};
 ghost use Rattle.object_ops.specs.ReadingPlan.{PlansSo, StartsSo};
 ghost use Rattle.receipts.specs.Reading.{is_met};
 
-use crate::data_files::data_plan;
 use crate::read_op::ReadKind;
 use crate::telling::{tell_head, tell_piece};
+use body_print::data_plan;
 use call_types::{Cut, Mode, Refusal, Reply, Span, Version, VersionName, What, Whys};
 use desk_base::Teller;
 use drive_base::{Drive, SetPlan};
