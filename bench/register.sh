@@ -20,7 +20,7 @@ mod counted;
 
 use counted::Counted;
 use drive_base::SetPlan;
-use register_core::{ContentFault, ContentRule, Draft, Looked, draft, look, mark, propose};
+use register_core::{ContentFault, ContentRule, Draft, Looked, draft_change, look, mark, propose};
 use register_file::Next;
 use seal_file::Bytes;
 use stamp_id::{Ballot, ChangeId};
@@ -205,7 +205,7 @@ fn drafted(alloc: Global, looked: &Looked, next: &Next) -> Option<Draft>
     if looked.base.content.len() > 1_000_000 {
         return None;
     }
-    draft(alloc, looked, next).ok()
+    draft_change(alloc, looked, next).ok()
 }
 
 /// Writes both files of a draft, and answers the processor time between the two.

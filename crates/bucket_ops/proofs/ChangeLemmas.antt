@@ -13,6 +13,7 @@ use Rattle.call_types.specs.declared.refusal.Refusal.TheVariants as refused
 use Rattle.call_types.specs.declared.reply.Reply.{Reply}
 use Rattle.call_types.specs.declared.reply.Reply.TheVariants as told
 use Rattle.call_types.specs.declared.why.Why.{Why}
+use Rattle.drive_base.specs.declared.drive.Drive.{Ghosts}
 use Rattle.drive_base.specs.Files.{Files}
 use Rattle.register_core.specs.declared.faults.QuorumFault.{QuorumFault}
 use Rattle.register_core.specs.declared.faults.QuorumFault.TheVariants.{NoMemory as NoMemoryQuorum, ReadQuorum, Undecided, WriteQuorum}
@@ -118,14 +119,14 @@ refusal_told numbers bucket entry fault made why index is by of = record {
   told = refl;
 }
 
-module _ {D : Type 0} (tells : D → Bool) (files : D → Files) (count : D → ℕ) (one : ContentIsInjective) (numbers later : SlotNumbers) (bucket : List ℕ) (deed : Commit)
+module _ {D : Type 0} (ghosts : Ghosts D) (one : ContentIsInjective) (numbers later : SlotNumbers) (bucket : List ℕ) (deed : Commit)
     (done : BucketAct) (now : ℕ) (before : Log) (stub : Option Stub) (old new disks disks_after : List D) (kind : IsBucketDeed deed done) (none : sections_of before ≡ []) where
   abbrev call : Option ChangeId → Brief
   call change = call_of deed change now
 
   -- the reply of an entry that says what was done
   found_owes : (answer : Result Committed SlotFault) (fault : Option SlotFault) (reply : Reply) → Commits numbers bucket deed now answer stub → Writes numbers fault stub
-      → FoundSo tells files count numbers later deed None now reply (deed_in (entry_of stub)) old new disks disks_after
+      → FoundSo ghosts numbers later deed None now reply (deed_in (entry_of stub)) old new disks disks_after
       → BucketActOwes bucket call reply (with_turn before numbers.index stub)
   found_owes answer fault reply x w found = ends_so bucket call reply before numbers.index stub w.0 none w.1 (inl (record {
     change = None;
@@ -134,12 +135,12 @@ module _ {D : Type 0} (tells : D → Bool) (files : D → Files) (count : D → 
     entry = has_entry numbers bucket deed now answer stub w.0 w.2.0 fault (Done (call None) (Answer reply)) x w.1 w.2.1 w.2.2
         (sym (entered_is numbers stub w.0 w.2.0 fault w.1 w.2.2) ∙ found.deed_is);
     due = act_due deed done None now reply kind
-        (found_due {D = D} tells files count one numbers later deed done None now reply (deed_in (entry_of stub)) old new disks disks_after kind found);
+        (found_due {D = D} ghosts one numbers later deed done None now reply (deed_in (entry_of stub)) old new disks disks_after kind found);
   }))
 
   wrote_owes : (answer : Result Committed SlotFault) (fault : Option SlotFault) (reply : Reply) (result : Result (List Why) QuorumFault)
       → Commits numbers bucket deed now answer stub → Writes numbers fault stub
-      → (x : WroteSo tells files count numbers later deed None now reply result (deed_in (entry_of stub)) old new disks disks_after)
+      → (x : WroteSo ghosts numbers later deed None now reply result (deed_in (entry_of stub)) old new disks disks_after)
       → own_deed deed now x.own.change reply result ≡ Done (call (Some x.own.change)) (Answer reply)
       → BucketActOwes bucket call reply (with_turn before numbers.index stub)
   wrote_owes answer fault reply result x w wrote is = ends_so bucket call reply before numbers.index stub w.0 none w.1 (inl (record {
@@ -149,7 +150,7 @@ module _ {D : Type 0} (tells : D → Bool) (files : D → Files) (count : D → 
     entry = has_entry numbers bucket deed now answer stub w.0 w.2.0 fault (Done (call (Some wrote.own.change)) (Answer reply)) x w.1 w.2.1 w.2.2
         (sym (entered_is numbers stub w.0 w.2.0 fault w.1 w.2.2) ∙ (wrote.deed_is ∙ is));
     due = act_due deed done (Some wrote.own.change) now reply kind
-        (wrote_due {D = D} tells files count numbers later deed done None now reply result (deed_in (entry_of stub)) old new disks disks_after kind wrote);
+        (wrote_due {D = D} ghosts numbers later deed done None now reply result (deed_in (entry_of stub)) old new disks disks_after kind wrote);
   }))
 
   -- a refusal after which nothing was done, or a change was begun
@@ -185,7 +186,7 @@ module _ {D : Type 0} (tells : D → Bool) (files : D → Files) (count : D → 
 
   quorum_owes : (fault : QuorumFault) (why : Refusal) → Commits numbers bucket deed now (Err (Quorum fault)) stub
       → refusal_by (Quorum fault) ≡ Some why → IsOfSection why
-      → CommitCause tells files count numbers later deed None now (Err (Quorum fault)) (deed_in (entry_of stub)) old new disks disks_after
+      → CommitCause ghosts numbers later deed None now (Err (Quorum fault)) (deed_in (entry_of stub)) old new disks disks_after
       → BucketActOwes bucket call (told.Refused why) (with_turn before numbers.index stub)
   quorum_owes fault why x by of cause = elim cause.1 [
     | inl looked ↦ idle_owes (Err (Quorum fault)) (Quorum fault) why x x.stub_is by of looked.deed_is
@@ -200,7 +201,7 @@ module _ {D : Type 0} (tells : D → Bool) (files : D → Files) (count : D → 
 
   -- the reply or the refusal that an answer has is owed
   pub commit_owes : (answer : Result Committed SlotFault) (reply : Reply) → Commits numbers bucket deed now answer stub
-      → CommitCause tells files count numbers later deed None now answer (deed_in (entry_of stub)) old new disks disks_after → AfterCommit answer (Telling reply)
+      → CommitCause ghosts numbers later deed None now answer (deed_in (entry_of stub)) old new disks disks_after → AfterCommit answer (Telling reply)
       → BucketActOwes bucket call reply (with_turn before numbers.index stub)
   commit_owes (Ok made) reply x cause after =
       subst (λ r. BucketActOwes bucket call r (with_turn before numbers.index stub)) (sym (ap reply_in after)) (elim cause [

@@ -10,6 +10,7 @@ use Rattle.call_types.specs.declared.refusal.Refusal.TheVariants as refused
 use Rattle.call_types.specs.declared.reply.Reply.{Reply}
 use Rattle.call_types.specs.declared.reply.Reply.TheVariants as told
 use Rattle.desk_base.specs.Calls.{stated_length}
+use Rattle.drive_base.specs.declared.drive.Drive.{Ghosts}
 use Rattle.drive_base.specs.Files.{Files}
 use Rattle.drive_base.specs.declared.plan.SetPlan.{SetPlan}
 use Rattle.register_core.specs.declared.faults.QuorumFault.TheVariants.{NoMemory as NoMemoryQuorum, ReadQuorum, Undecided, WriteQuorum}
@@ -122,30 +123,30 @@ memory_still : (numbers : SlotNumbers) (stub : Option Stub) (log : Log) → stub
 memory_still numbers stub log none_made none =
     subst (λ s. sections_of (with_turn log numbers.index s) ≡ []) (sym none_made) (sections_with log (Turned numbers.index (noted None) NoneShown) none)
 
-module _ {D : Type 0} (tells : D → Bool) (files : D → Files) (count : D → ℕ) (one : ContentIsInjective) (numbers later : SlotNumbers) (deed : Commit) (stub : Option Stub)
+module _ {D : Type 0} (ghosts : Ghosts D) (one : ContentIsInjective) (numbers later : SlotNumbers) (deed : Commit) (stub : Option Stub)
     (old new disks disks_after : List D) (set : SetPlan) (sets : Bool) (document : Document) (bucket : List ℕ) (now : ℕ) (before : Log)
     (may : MayCommit sets document bucket deed before) where
   -- a reply that an answer has may be told
   reply_ready : (answer : Result Committed SlotFault) (reply : Reply) → Commits numbers bucket deed now answer stub
-      → CommitCause tells files count numbers later deed None now answer (deed_in (entry_of stub)) old new disks disks_after → AfterCommit answer (Telling reply)
+      → CommitCause ghosts numbers later deed None now answer (deed_in (entry_of stub)) old new disks disks_after → AfterCommit answer (Telling reply)
       → IsReady set (change_task sets document bucket now) reply (with_turn before numbers.index stub)
   reply_ready answer reply x cause after = record {
     untold = untold_with before (Turned numbers.index (noted stub) NoneShown) may.taken.untold tt;
     uncut = cuts_with before (Turned numbers.index (noted stub) NoneShown) may.taken.uncut;
     owed = owes_call set sets document bucket now deed reply before (Turned numbers.index (noted stub) NoneShown) may refl
-        (λ done kind. commit_owes {D = D} tells files count one numbers later bucket deed done now before stub old new disks disks_after kind may.taken.sections
+        (λ done kind. commit_owes {D = D} ghosts one numbers later bucket deed done now before stub old new disks disks_after kind may.taken.sections
         answer reply x cause after);
   }
 
   telling_done : (answer : Result Committed SlotFault) (reply : Reply) (state : ChangeState) → Commits numbers bucket deed now answer stub
-      → CommitCause tells files count numbers later deed None now answer (deed_in (entry_of stub)) old new disks disks_after → AfterCommit answer (Telling reply)
+      → CommitCause ghosts numbers later deed None now answer (deed_in (entry_of stub)) old new disks disks_after → AfterCommit answer (Telling reply)
       → state ≡ Telling reply → HasChanged set sets document bucket now state (with_turn before numbers.index stub)
   telling_done answer reply state x cause after is =
       subst (λ s. HasChanged set sets document bucket now s (with_turn before numbers.index stub)) (sym is) (reply_ready answer reply x cause after)
 
   -- what an op has done after its commit
   pub change_done : (answer : Result Committed SlotFault) (state : ChangeState) → Commits numbers bucket deed now answer stub
-      → CommitCause tells files count numbers later deed None now answer (deed_in (entry_of stub)) old new disks disks_after → AfterCommit answer state
+      → CommitCause ghosts numbers later deed None now answer (deed_in (entry_of stub)) old new disks disks_after → AfterCommit answer state
       → HasChanged set sets document bucket now state (with_turn before numbers.index stub)
   change_done (Ok made) state x cause after = telling_done (Ok made) made.done state x cause refl after
   change_done (Err (Key why)) state x cause after = telling_done (Err (Key why)) (told.Refused (refusal_of why)) state x cause refl after

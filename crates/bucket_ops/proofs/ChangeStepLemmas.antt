@@ -107,7 +107,7 @@ pub section_so : {D : Type 0} (ghosts : Ghosts D) (one : ContentIsInjective) (se
     (state later : ChangeState) (deed : BucketDeed) (was after : SlotSeen D) (answer : Result Committed SlotFault) (stub : Option Stub) (old new : List D)
     → CommitIsTurn ghosts → step_of state (bucket_slot bucket) ≡ Section was.numbers.index → state ≡ Committing deed
     → (FitsFlight deed.commit None → CommitSays ghosts was after deed.commit now answer stub old new)
-    → CommitCause ghosts.tells ghosts.files ghosts.count was.numbers after.numbers deed.commit None now answer (deed_in (entry_of stub)) was.lanes after.lanes old new
+    → CommitCause ghosts was.numbers after.numbers deed.commit None now answer (deed_in (entry_of stub)) was.lanes after.lanes old new
     → AfterCommit answer later
     → TurnsSo ghosts (ChangeStands set sets document bucket now (bucket_slot bucket) state)
     (ChangeStands set sets document bucket now (bucket_slot bucket) later) stub was after (views ghosts old) (views ghosts new)
@@ -126,7 +126,7 @@ section_so {D} ghosts one set sets document bucket now state later deed was afte
       NoneShown,
       record {
         none = x.none;
-        done = change_done {D = D} ghosts.tells ghosts.files ghosts.count one was.numbers after.numbers deed.commit stub was.lanes after.lanes old new set sets document
+        done = change_done {D = D} ghosts one was.numbers after.numbers deed.commit stub was.lanes after.lanes old new set sets document
             bucket now log may answer later commits cause told;
       },
       law was after deed.commit now answer stub old new claim said,

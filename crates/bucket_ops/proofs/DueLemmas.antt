@@ -8,6 +8,7 @@ use Rattle.bucket_book.specs.declared.step.BucketAct.{BucketAct}
 use Rattle.bucket_book.specs.declared.step.BucketAct.TheVariants as act
 use Rattle.call_types.specs.declared.reply.Reply.{Reply}
 use Rattle.call_types.specs.declared.why.Why.{Why}
+use Rattle.drive_base.specs.declared.drive.Drive.{Ghosts}
 use Rattle.drive_base.specs.Files.{Files}
 use Rattle.stamp_id.specs.declared.stamp.ChangeId.{ChangeId}
 use Rattle.stamp_id.specs.declared.version.VersionId.{VersionId}
@@ -70,10 +71,10 @@ is_some change = refl
 same_row : ContentIsInjective → (content : List ℕ) (a b : Option BucketRecord) → SpellsBucket content a → SpellsBucket content b → a ≡ b
 same_row one content a b x y = one a b x.canonical y.canonical (sym x.is ∙ y.is)
 
-module _ {D : Type 0} (tells : D → Bool) (files : D → Files) (count : D → ℕ) where
+module _ {D : Type 0} (ghosts : Ghosts D) where
   pub found_due : ContentIsInjective → (numbers later : SlotNumbers) (deed : Commit) (done : BucketAct) (put : Option VersionId) (now : ℕ) (reply : Reply) (entered : Deed)
       (old new disks disks_after : List D) → IsBucketDeed deed done
-      → FoundSo tells files count numbers later deed put now reply entered old new disks disks_after → IsDueBucket done None now reply
+      → FoundSo ghosts numbers later deed put now reply entered old new disks disks_after → IsDueBucket done None now reply
   found_due one numbers later deed done put now reply entered old new disks disks_after is x =
       let steps = does_bucket deed done x.content x.content None now x.id reply is x.does in
       record {
@@ -85,7 +86,7 @@ module _ {D : Type 0} (tells : D → Bool) (files : D → Files) (count : D → 
 
   pub wrote_due : (numbers later : SlotNumbers) (deed : Commit) (done : BucketAct) (put : Option VersionId) (now : ℕ) (reply : Reply)
       (result : Result (List Why) QuorumFault) (entered : Deed) (old new disks disks_after : List D) → IsBucketDeed deed done
-      → (x : WroteSo tells files count numbers later deed put now reply result entered old new disks disks_after)
+      → (x : WroteSo ghosts numbers later deed put now reply result entered old new disks disks_after)
       → IsDueBucket done (Some x.own.change) now reply
   wrote_due numbers later deed done put now reply result entered old new disks disks_after is x =
       let steps = does_bucket deed done x.content x.own.content (Some x.own.change) now x.is_own.id reply is x.is_own.does in

@@ -217,6 +217,6 @@ tell_so takes breaks set second reply cut old new moves claim log x = (
 
 -- what a listing answers is a page
 pub are_listed : {D Y : Type 0} (ghosts : Ghosts D) (set : SetPlan) (from : List ℕ) (answer : Result (List (String Y)) SlotFault) (old new : List D)
-    → ListsNames ghosts.tells ghosts.files ghosts.count set from page_names answer old new → AreListed from answer
+    → ListsNames ghosts set from page_names answer old new → AreListed from answer
 are_listed ghosts set from (Ok names) old new x = x.are.page
 are_listed ghosts set from (Err fault) old new x = tt

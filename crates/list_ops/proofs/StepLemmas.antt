@@ -332,6 +332,6 @@ module _ (set : SetPlan) (task : Task) (rule : PageRule) (bucket : List ℕ) whe
 
 -- what a listing of names answers is a page
 pub are_listed : {D Y : Type 0} (ghosts : Ghosts D) (set : SetPlan) (from : List ℕ) (most : ℕ) (answer : Result (List (String Y)) SlotFault) (old new : List D)
-    → ListsNames ghosts.tells ghosts.files ghosts.count set from most answer old new → AreListed from most answer
+    → ListsNames ghosts set from most answer old new → AreListed from most answer
 are_listed ghosts set from most (Ok names) old new x = x.are.page
 are_listed ghosts set from most (Err fault) old new x = tt

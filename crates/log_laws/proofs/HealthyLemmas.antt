@@ -7,7 +7,7 @@ use Rattle.call_types.specs.declared.why.Why.{Why}
 use Rattle.call_types.specs.declared.why.Why.TheVariants.{Behind, Damaged, Failed, Good, Lacks}
 use Rattle.drive_base.specs.declared.drive.Drive.{Ghosts}
 use Rattle.fault_base.specs.Counts.{Rose}
-use Rattle.register_core.specs.Loops.{letter_at}
+use Rattle.register_core.specs.LaneWrites.{letter_at}
 use Rattle.log_laws.specs.HealthyLanes.{HealthyLanesKeep}
 use Rattle.op_steps.specs.ChangeLetters.{LaneLetter}
 use Rattle.op_steps.proofs.ManifestLemmas.{rose_wider}

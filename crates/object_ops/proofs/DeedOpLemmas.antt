@@ -81,13 +81,13 @@ module _ (set : SetPlan) (at : Key) (act : Act) (now : ℕ) (served : IsServed a
 
   -- the commit
   due_so : {D : Type 0} (ghosts : Ghosts D) (mode : Mode) (was after : SlotSeen D) (answer : Result Committed SlotFault) (stub : Option Stub) (old new disks disks_after : List D)
-      → CommitCause ghosts.tells ghosts.files ghosts.count was.numbers after.numbers (key_deed at act mode) None now answer (deed_in (entry_of stub)) old new disks disks_after
+      → CommitCause ghosts was.numbers after.numbers (key_deed at act mode) None now answer (deed_in (entry_of stub)) old new disks disks_after
       → CommitDue set at act now served mode was.numbers answer stub
   due_so ghosts mode was after (Ok made) stub old new disks disks_after cause =
-      done_so ghosts.tells ghosts.files ghosts.count was.numbers after.numbers at mode act None now made (deed_in (entry_of stub)) old new disks disks_after cause
+      done_so ghosts was.numbers after.numbers at mode act None now made (deed_in (entry_of stub)) old new disks disks_after cause
   due_so ghosts mode was after (Err fault) stub old new disks disks_after cause = λ why is.
-      refused_so ghosts.tells ghosts.files ghosts.count was.numbers after.numbers at mode act None now why (deed_in (entry_of stub)) old new disks disks_after
-      (subst (λ (f : SlotFault). CommitCause ghosts.tells ghosts.files ghosts.count was.numbers after.numbers (key_deed at act mode) None now (Err f) (deed_in (entry_of stub))
+      refused_so ghosts was.numbers after.numbers at mode act None now why (deed_in (entry_of stub)) old new disks disks_after
+      (subst (λ (f : SlotFault). CommitCause ghosts was.numbers after.numbers (key_deed at act mode) None now (Err f) (deed_in (entry_of stub))
       old new disks disks_after) is cause)
 
   pub commit_so : {D : Type 0} (ghosts : Ghosts D) (clearing begun : Clearing) (state later : DeedState) (deed : KeyDeed) (was after : SlotSeen D)

@@ -11,6 +11,7 @@ use Rattle.call_types.specs.declared.refusal.KeyRefusal.{KeyRefusal}
 use Rattle.call_types.specs.declared.reply.Reply.{Reply}
 use Rattle.call_types.specs.declared.reply.Reply.TheVariants.{Refused}
 use Rattle.call_types.specs.declared.why.Why.{Why}
+use Rattle.drive_base.specs.declared.drive.Drive.{Ghosts}
 use Rattle.drive_base.specs.Files.{Files}
 use Rattle.stamp_id.specs.declared.stamp.ChangeId.{ChangeId}
 use Rattle.stamp_id.specs.declared.version.VersionId.{VersionId}
@@ -63,9 +64,9 @@ abbrev is_some : Option ChangeId → Type 0
 is_some None = ⊥
 is_some (Some change) = Unit {0}
 
-module _ {D : Type 0} (tells : D → Bool) (files : D → Files) (count : D → ℕ) where
+module _ {D : Type 0} (ghosts : Ghosts D) where
   found_so : (numbers later : SlotNumbers) (at : Key) (mode : Mode) (act : Act) (put : Option VersionId) (now : ℕ) (reply : Reply) (entered : Deed) (old new disks disks_after : List D)
-      → FoundSo tells files count numbers later (KeyCommit at mode act) put now reply entered old new disks disks_after
+      → FoundSo ghosts numbers later (KeyCommit at mode act) put now reply entered old new disks disks_after
       → DoneSo numbers.index at mode act now reply entered
   found_so numbers later at mode act put now reply entered old new disks disks_after x =
       let steps = steps_of _ x.content x.content at mode act x.id now reply (x.does (alone x.content) refl) in
@@ -84,7 +85,7 @@ module _ {D : Type 0} (tells : D → Bool) (files : D → Files) (count : D → 
 
   wrote_so : (numbers later : SlotNumbers) (at : Key) (mode : Mode) (act : Act) (put : Option VersionId) (now : ℕ) (reply : Reply) (letters : List Why) (entered : Deed)
       (old new disks disks_after : List D)
-      → WroteSo tells files count numbers later (KeyCommit at mode act) put now reply (Ok letters) entered old new disks disks_after
+      → WroteSo ghosts numbers later (KeyCommit at mode act) put now reply (Ok letters) entered old new disks disks_after
       → DoneSo numbers.index at mode act now reply entered
   wrote_so numbers later at mode act put now reply letters entered old new disks disks_after x =
       let steps = steps_of _ x.content x.own.content at mode act x.is_own.id now reply (x.is_own.does (alone x.content) refl) in
@@ -106,7 +107,7 @@ module _ {D : Type 0} (tells : D → Bool) (files : D → Files) (count : D → 
 
   -- a commit that was done
   pub done_so : (numbers later : SlotNumbers) (at : Key) (mode : Mode) (act : Act) (put : Option VersionId) (now : ℕ) (made : Committed) (entered : Deed) (old new disks disks_after : List D)
-      → CommitCause tells files count numbers later (KeyCommit at mode act) put now (Ok made) entered old new disks disks_after
+      → CommitCause ghosts numbers later (KeyCommit at mode act) put now (Ok made) entered old new disks disks_after
       → DoneSo numbers.index at mode act now made.done entered
   done_so numbers later at mode act put now made entered old new disks disks_after (inl found) =
       found_so numbers later at mode act put now made.done entered old new disks disks_after found
@@ -115,7 +116,7 @@ module _ {D : Type 0} (tells : D → Bool) (files : D → Files) (count : D → 
 
   -- one that the state of the key refuses
   pub refused_so : (numbers later : SlotNumbers) (at : Key) (mode : Mode) (act : Act) (put : Option VersionId) (now : ℕ) (why : KeyRefusal) (entered : Deed) (old new disks disks_after : List D)
-      → CommitCause tells files count numbers later (KeyCommit at mode act) put now (Err (KeyFault why)) entered old new disks disks_after
+      → CommitCause ghosts numbers later (KeyCommit at mode act) put now (Err (KeyFault why)) entered old new disks disks_after
       → DoneSo numbers.index at mode act now (Refused (refusal_of why)) entered
   refused_so numbers later at mode act put now why entered old new disks disks_after found =
       found_so numbers later at mode act put now (Refused (refusal_of why)) entered old new disks disks_after found

@@ -70,7 +70,7 @@ pub record CommitSaid {D : Type 0} (ghosts : Ghosts D) (was now : SlotSeen D) (d
   pub leaves : FitsFlight deed (Some flight) → Leaves ghosts.tells ghosts.files was.numbers now.numbers was.holding now.holding was.lanes now.lanes stub
       (ShowsTrash deed answer was.holding.trash now.holding.trash) (MayCommitData deed now.holding)
   pub read : AreOnlyRead ghosts old new
-  pub cause : CommitCause ghosts.tells ghosts.files ghosts.count was.numbers now.numbers deed (Some flight.id) at answer (deed_in (entry_of stub)) was.lanes now.lanes old new
+  pub cause : CommitCause ghosts was.numbers now.numbers deed (Some flight.id) at answer (deed_in (entry_of stub)) was.lanes now.lanes old new
 
 module _ (op out : PutOp) (begun : Clearing) (work : Work) (is : op.state ≡ Staging work) (may : MayFinish work.stage)
     (same : begun.queue.items ≡ op.clearing.queue.items) (same_put : IsSamePut op out) (same_read : out.read ≡ op.read) where

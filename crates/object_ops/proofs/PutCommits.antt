@@ -82,7 +82,7 @@ module _ {D : Type 0} (ghosts : Ghosts D) where
     pub says : Says stub (SaysCommit deed at answer)
     pub holds : CommitHolds (Some flight) answer was.holding now.holding
     pub checks : ChecksFlight (Some flight) was.holding answer
-    pub cause : CommitCause ghosts.tells ghosts.files ghosts.count was.numbers now.numbers deed (Some flight.id) at answer (deed_in (entry_of stub))
+    pub cause : CommitCause ghosts was.numbers now.numbers deed (Some flight.id) at answer (deed_in (entry_of stub))
         was.lanes now.lanes old new
     pub leaves : Leaves ghosts.tells ghosts.files was.numbers now.numbers was.holding now.holding was.lanes now.lanes stub
         (ShowsTrash deed answer was.holding.trash now.holding.trash) (MayCommitData deed now.holding)

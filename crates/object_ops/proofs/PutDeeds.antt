@@ -8,6 +8,7 @@ use Rattle.call_types.specs.declared.names.Mode.{Mode}
 use Rattle.call_types.specs.declared.refusal.Refusal.{Refusal}
 use Rattle.call_types.specs.declared.reply.Reply.{Reply}
 use Rattle.call_types.specs.declared.reply.Reply.TheVariants.{Refused}
+use Rattle.drive_base.specs.declared.drive.Drive.{Ghosts}
 use Rattle.drive_base.specs.Files.{Files}
 use Rattle.drive_base.specs.declared.plan.SetPlan.{SetPlan}
 use Rattle.md5.specs.Md5.{md5}
@@ -80,26 +81,26 @@ RefusedPut target mode id staged now fault stub = ((fault ≡ NoMemory) × (stub
     ⊎ ((made : Stub) × (stub ≡ Some made)
     × ((why : Refusal) × (refusal_by fault ≡ Some why) × EndsPut target mode id staged now (note_of made) (Refused why)))
 
-module _ {D : Type 0} (tells : D → Bool) (files : D → Files) (count : D → ℕ) (mode : Mode) (id : VersionId) (staged : Staged) (now : ℕ) (numbers later : SlotNumbers)
+module _ {D : Type 0} (ghosts : Ghosts D) (mode : Mode) (id : VersionId) (staged : Staged) (now : ℕ) (numbers later : SlotNumbers)
     (put : Option VersionId) (stub : Option Stub) (old new disks disks_after : List D) where
   -- a commit that was done
   pub done_ends : (target : PutTarget) (made : Committed) → numbers.index ≡ key_slot (key_of target) → (x : StubOfEntry numbers (Ok made) stub)
       → Says stub (SaysCommit (deed_of target mode id staged) now (Ok made))
-      → CommitCause tells files count numbers later (deed_of target mode id staged) put now (Ok made) (deed_in (entry_of stub)) old new disks disks_after
+      → CommitCause ghosts numbers later (deed_of target mode id staged) put now (Ok made) (deed_in (entry_of stub)) old new disks disks_after
       → EndsPut target mode id staged now (note_of x.0) made.done
   done_ends (Object at kind) made own x says cause =
       inl (changes_so at mode (act_of kind id staged) now numbers own made.done (Ok made) None stub x says
-      (done_so tells files count numbers later at mode (act_of kind id staged) put now made (deed_in (entry_of stub)) old new disks disks_after cause))
+      (done_so ghosts numbers later at mode (act_of kind id staged) put now made (deed_in (entry_of stub)) old new disks disks_after cause))
 
   -- and one that was refused
   pub refused_ends : (target : PutTarget) (fault : SlotFault) → numbers.index ≡ key_slot (key_of target) → StubOfEntry {T = Committed} numbers (Err fault) stub
       → Says stub (SaysCommit (deed_of target mode id staged) now (Err fault))
-      → CommitCause tells files count numbers later (deed_of target mode id staged) put now (Err fault) (deed_in (entry_of stub)) old new disks disks_after
+      → CommitCause ghosts numbers later (deed_of target mode id staged) put now (Err fault) (deed_in (entry_of stub)) old new disks disks_after
       → RefusedPut target mode id staged now fault stub
   refused_ends (Object at kind) fault own x says cause =
       refused_commit at mode (act_of kind id staged) now numbers own fault stub x says (λ why is.
-      refused_so tells files count numbers later at mode (act_of kind id staged) put now why (deed_in (entry_of stub)) old new disks disks_after
-      (subst (λ (f : SlotFault). CommitCause tells files count numbers later (deed_of (Object at kind) mode id staged) put now (Err f) (deed_in (entry_of stub)) old new
+      refused_so ghosts numbers later at mode (act_of kind id staged) put now why (deed_in (entry_of stub)) old new disks disks_after
+      (subst (λ (f : SlotFault). CommitCause ghosts numbers later (deed_of (Object at kind) mode id staged) put now (Err f) (deed_in (entry_of stub)) old new
       disks disks_after) is cause))
 
 -- ---- what is owed then

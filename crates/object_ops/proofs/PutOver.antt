@@ -177,7 +177,7 @@ module _ (ask : PutAsk) (read : ℕ) where
     pub commit_stands : {D : Type 0} (ghosts : Ghosts D) (begun : Clearing) (numbers after : SlotNumbers) (answer : Result Committed SlotFault) (stub : Option Stub)
         (later : PutState) (next : Claim) (old new disks disks_after : List D)
         → numbers.index ≡ key_slot (key_of ask.target) → StubOfEntry numbers answer stub → Says stub (SaysCommit deed ask.now answer)
-        → CommitCause ghosts.tells ghosts.files ghosts.count numbers after deed (Some work.flight.id) ask.now answer (deed_in (entry_of stub)) old new disks disks_after
+        → CommitCause ghosts numbers after deed (Some work.flight.id) ask.now answer (deed_in (entry_of stub)) old new disks disks_after
         → AfterCommit answer later → ((l : Log) → HoldsRest (key_slot (key_of ask.target)) begun next l)
         → Stands begun later next (turned numbers.index (noted stub) log)
     commit_stands ghosts begun numbers after (Ok made) stub later next old new disks disks_after own x says cause then rest =
@@ -185,11 +185,11 @@ module _ (ask : PutAsk) (read : ℕ) where
         (subst (λ (b : Option Stub). Stands begun (state.Telling made.done) next (turned numbers.index (noted b) log)) (sym x.1) (
           rest (turned numbers.index (Some (note_of x.0)) log),
           ready_so made.done numbers.index x.0 own
-              (done_ends ghosts.tells ghosts.files ghosts.count work.mode work.flight.id staged ask.now numbers after (Some work.flight.id) stub old new disks disks_after
+              (done_ends ghosts work.mode work.flight.id staged ask.now numbers after (Some work.flight.id) stub old new disks disks_after
               ask.target made own x says cause),
         ))
     commit_stands ghosts begun numbers after (Err fault) stub later next old new disks disks_after own x says cause then rest =
-        elim (refused_ends ghosts.tells ghosts.files ghosts.count work.mode work.flight.id staged ask.now numbers after (Some work.flight.id) stub old new disks disks_after
+        elim (refused_ends ghosts work.mode work.flight.id staged ask.now numbers after (Some work.flight.id) stub old new disks disks_after
         ask.target fault own x says cause) [
           | inl memory ↦
               let told : later ≡ state.Told (Some cut.NoMemory) = subst (λ (f : SlotFault). AfterCommit (Err f) later) memory.0 then in

@@ -15,6 +15,7 @@ use Rattle.call_types.specs.declared.reply.Reply.TheVariants as reply_of
 use Rattle.call_types.specs.declared.version.Version.{Version}
 use Rattle.call_types.specs.declared.version.What.{What}
 use Rattle.call_types.specs.declared.version.What.TheVariants.{Marker, Object}
+use Rattle.drive_base.specs.declared.drive.Drive.{Ghosts}
 use Rattle.drive_base.specs.Files.{Files}
 use Rattle.stamp_id.specs.declared.stamp.ChangeId.{ChangeId}
 use Rattle.version_list.specs.Reads.{Reads}
@@ -72,9 +73,9 @@ IsDueBy mode pick (Err (AuditFailed before after)) = Unit {0}
 IsDueBy mode pick (Err NoMemory) = Unit {0}
 IsDueBy mode pick (Err (NotInFlight id)) = Unit {0}
 
-module _ {D : Type 0} (tells : D → Bool) (files : D → Files) (count : D → ℕ) where
+module _ {D : Type 0} (ghosts : Ghosts D) where
   pub due_by : (numbers later : SlotNumbers) (at : TheKey) (mode : Mode) (pick : Pick) (answer : Result ReadStart SlotFault) (late : Option ChangeId)
-      (old new disks disks_after : List D) → ReadCause tells files count numbers later at pick answer late old new disks disks_after → IsDueBy mode pick answer
+      (old new disks disks_after : List D) → ReadCause ghosts numbers later at pick answer late old new disks disks_after → IsDueBy mode pick answer
   due_by numbers later at mode pick (Ok start) late old new disks disks_after x = due_found mode pick x.state start.version x.due
   due_by numbers later at mode pick (Err (Key why)) late old new disks disks_after x = due_refused mode pick x.state why x.due
   due_by numbers later at mode pick (Err (Quorum fault)) late old new disks disks_after x = tt

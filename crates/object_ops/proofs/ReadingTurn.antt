@@ -84,7 +84,7 @@ module _ {D : Type 0} (ghosts : Ghosts D) where
     pub turns : Turns was.numbers now.numbers was.entries now.entries was.faults now.faults answer stub
     pub says : Says stub (SaysRead at mode pick answer)
     pub holds : ReadHolds was.numbers at answer was.holding now.holding
-    pub cause : ReadCause ghosts.tells ghosts.files ghosts.count was.numbers now.numbers at pick answer (completed_by stub) was.lanes now.lanes old new
+    pub cause : ReadCause ghosts was.numbers now.numbers at pick answer (completed_by stub) was.lanes now.lanes old new
     pub leaves : Leaves ghosts.tells ghosts.files was.numbers now.numbers was.holding now.holding was.lanes now.lanes stub ShowsNoMore HandsStay
     pub read : AreOnlyRead ghosts old new
 

@@ -18,7 +18,7 @@ use Rattle.version_list.specs.declared.state.KeyState.{KeyState}
 use Rattle.version_list.proofs.LawProofs.{no_fault}
 use Rattle.version_list.proofs.PlaceLemmas.{none_there, place_named}
 use Rattle.vote_core.specs.Lane.{HasRecord, Lane}
-use Rattle.register_core.specs.Serving.{IsWithin}
+use Rattle.register_core.specs.ServingLanes.{IsWithin}
 use Rattle.slot_history.specs.Contents.{IsContentOf, SpellsBucket, SpellsKey, no_key, number_of_id}
 use Rattle.slot_history.specs.Names.{bucket_name, key_name}
 use Rattle.slot_history.specs.Standing.{Flying, IsLawfulUnder, IsSpent}

@@ -51,7 +51,7 @@ module _ {D : Type 0} (ghosts : Ghosts D) where
   pub record LookRefuses (was now : SlotSeen D) (made : Entry) (fault : QuorumFault) (old new : List D) : Type 0 where
     pub kept : made.deed ≡ Kept
     pub late : made.late ≡ None
-    pub cause : LookCause ghosts.tells ghosts.files ghosts.count was.numbers now.numbers made.name (rule_for made.name) (longest_for made.name) fault
+    pub cause : LookCause ghosts was.numbers now.numbers made.name (rule_for made.name) (longest_for made.name) fault
         was.lanes now.lanes old new
 
   -- it refused a commit of a deed there, by the rule of that deed: the look, the completion, or the writes of the section's own change
@@ -61,9 +61,9 @@ module _ {D : Type 0} (ghosts : Ghosts D) where
     pub put : Option VersionId
     pub put_is : IsPutOf claim put
     pub listed : IsNotUnlisted was.holding.flights put
-    pub cause : LookRefused ghosts.tells ghosts.files ghosts.count was.numbers now.numbers deed put fault made.deed was.lanes now.lanes old new
+    pub cause : LookRefused ghosts was.numbers now.numbers deed put fault made.deed was.lanes now.lanes old new
         ⊎ ((at : ℕ) × (reply : Reply)
-        × WroteSo ghosts.tells ghosts.files ghosts.count was.numbers now.numbers deed put at reply (Err fault) made.deed was.lanes now.lanes old new)
+        × WroteSo ghosts was.numbers now.numbers deed put at reply (Err fault) made.deed was.lanes now.lanes old new)
 
   -- so a register refused over data drives of these views
   pub record RegisterRefuses (was now : SlotSeen D) (claim : Claim) (made : Entry) (fault : QuorumFault) (disks_old disks_new : List DriveView) : Type 0 where

@@ -11,11 +11,11 @@ use Rattle.drive_base.specs.declared.drive.Drive.{Ghosts}
 use Rattle.drive_base.specs.declared.plan.SetPlan.{SetPlan}
 use Rattle.vote_core.specs.Sound.{HoldsValue}
 use Rattle.register_file.specs.declared.record.Next.{Next}
-use Rattle.register_core.specs.Loops.{letter_at}
-use Rattle.register_core.specs.Serving.{ServingLaneIsRead}
+use Rattle.register_core.specs.LaneWrites.{letter_at}
+use Rattle.register_core.specs.ServingLanes.{ServingLaneIsRead}
 use Rattle.register_core.specs.declared.faults.QuorumFault.{QuorumFault}
 use Rattle.register_core.specs.declared.faults.QuorumFault.TheVariants.{NoMemory, ReadQuorum, Undecided, WriteQuorum}
-use Rattle.register_core.specs.declared.looked.Looked.{Looked}
+use Rattle.register_core.specs.declared.looks.Looked.{Looked}
 use Rattle.register_core.proofs.SeenLemmas.{element}
 use Rattle.slot_history.specs.Standing.{IsLawfulUnder, Records}
 use Rattle.slot_history.specs.State.{State}
@@ -75,7 +75,7 @@ module _ {D : Type 0} (ghosts : Ghosts D) where
     -- the register of the entry
     module _ (made : Entry) (is : note.entry ≡ Some made) (same : made.name ≡ name) (looked : OnlyLooked made.deed) where
       serves : (rule : List ℕ → Option ℕ) (longest : ℕ) → Accepts rule longest (records name)
-          → RegisterServes ghosts.tells ghosts.files ghosts.count was.numbers.set lanes name rule longest (records name) was.lanes now.lanes
+          → RegisterServes ghosts was.numbers.set lanes name rule longest (records name) was.lanes now.lanes
       serves rule longest content = record {
         long_old = long_was;
         long_new = long_now;
@@ -89,7 +89,7 @@ module _ {D : Type 0} (ghosts : Ghosts D) where
 
       -- nothing is pending there
       none_pending : (rule : List ℕ → Option ℕ) (longest : ℕ) (looked_at : Looked) (mid disks disks_after : List D)
-          → Concluded ghosts.tells ghosts.files ghosts.count was.numbers name rule longest looked_at was.lanes mid disks disks_after → (found : Next)
+          → Concluded ghosts was.numbers name rule longest looked_at was.lanes mid disks disks_after → (found : Next)
           → looked_at.pending ≡ Some found → ⊥
       none_pending rule longest looked_at mid disks disks_after x found pending =
           let seen = x.looks.seen (records name) stands.have.tell (stands.have.honest name) (stands.have.are name) in
@@ -99,9 +99,9 @@ module _ {D : Type 0} (ghosts : Ghosts D) where
 
       cause_calm : (rule : List ℕ → Option ℕ) (longest : ℕ) → Accepts rule longest (records name) → (disks disks_after : List D) (fault : QuorumFault)
           → fault ≢ NoMemory
-          → LookCause ghosts.tells ghosts.files ghosts.count was.numbers now.numbers name rule longest fault was.lanes now.lanes disks disks_after → ⊥
+          → LookCause ghosts was.numbers now.numbers name rule longest fault was.lanes now.lanes disks disks_after → ⊥
       cause_calm rule longest content disks disks_after (ReadQuorum whys) other cause =
-          cause_not ghosts.tells ghosts.files ghosts.count law Forgets untold_forgets was.numbers.set lanes name rule longest (records name) was.lanes now.lanes
+          cause_not ghosts law Forgets untold_forgets was.numbers.set lanes name rule longest (records name) was.lanes now.lanes
           (serves rule longest content) (ReadQuorum whys) disks disks_after (record {
             reads = λ w e. enough;
             writes = λ w e. absurd cc;
@@ -135,7 +135,7 @@ module _ {D : Type 0} (ghosts : Ghosts D) where
           let content = look_accepts was.numbers.set.drives (last_of was.numbers) was.holding.flights (records name) name
           plain lawful in
           cause_calm (rule_for name) (longest_for name) content disks disks_after fault other
-          (subst (λ (n : List ℕ). LookCause ghosts.tells ghosts.files ghosts.count was.numbers now.numbers n (rule_for n) (longest_for n) fault was.lanes
+          (subst (λ (n : List ℕ). LookCause ghosts was.numbers now.numbers n (rule_for n) (longest_for n) fault was.lanes
           now.lanes
           disks disks_after) same x.cause)
 
@@ -148,7 +148,7 @@ module _ {D : Type 0} (ghosts : Ghosts D) where
             lawful)
             (λ at key. listed) look.rule_is in
             cause_calm look.rule look.longest content disks disks_after fault other
-            (subst (λ (n : List ℕ). LookCause ghosts.tells ghosts.files ghosts.count was.numbers now.numbers n look.rule look.longest fault was.lanes now.lanes
+            (subst (λ (n : List ℕ). LookCause ghosts was.numbers now.numbers n look.rule look.longest fault was.lanes now.lanes
             disks disks_after) (sym x.name_is ∙ same) look.cause)
         | inr (at, reply, wrote) ↦ subst OnlyLooked wrote.deed_is looked
       ]

@@ -107,7 +107,7 @@ module _ {D : Type 0} (ghosts : Ghosts D) (was now : SlotSeen D) (claim : Claim)
   -- a look at a register was refused
   pub look_refuses : (old new : List D) (name : List ℕ) (fault : QuorumFault) (entry : Option Entry) → IsWritten entry
       → MatchOption entry (Unit {0}) (SaysKept name) → late_in entry ≡ None
-      → LookCause ghosts.tells ghosts.files ghosts.count was.numbers now.numbers name (rule_for name) (longest_for name) fault was.lanes now.lanes old new
+      → LookCause ghosts was.numbers now.numbers name (rule_for name) (longest_for name) fault was.lanes now.lanes old new
       → LanesRefuse ghosts entry was now claim fault (views ghosts old) (views ghosts new)
   look_refuses old new name fault None there says late x = there
   look_refuses old new name fault (Some made) there says late x = inr (record {
@@ -119,14 +119,14 @@ module _ {D : Type 0} (ghosts : Ghosts D) (was now : SlotSeen D) (claim : Claim)
       kept = says.deed_is;
       late = late;
       cause = subst
-          (λ n. LookCause ghosts.tells ghosts.files ghosts.count was.numbers now.numbers n (rule_for n) (longest_for n) fault was.lanes now.lanes old new)
+          (λ n. LookCause ghosts was.numbers now.numbers n (rule_for n) (longest_for n) fault was.lanes now.lanes old new)
           (sym says.name_is) x;
     });
   })
 
   look_cause : (old new : List D) (name : List ℕ) (answer : Result (List ℕ) SlotFault) (stub : Option Stub) → StubOfEntry was.numbers answer stub
       → Says stub (SaysKept name) → ((answer ≡ Err SeqSpent) → AreSpent was.numbers) → AuditCounts answer was.faults now.faults
-      → PeekCause ghosts.tells ghosts.files ghosts.count was.numbers now.numbers name answer (completed_by stub) was.lanes now.lanes old new
+      → PeekCause ghosts was.numbers now.numbers name answer (completed_by stub) was.lanes now.lanes old new
       → AnswerCause ghosts was now claim (views ghosts old) (views ghosts new) answer (entry_of stub)
   look_cause old new name (Ok content) stub is says spent counts x = tt
   look_cause old new name (Err (Quorum fault)) stub is says spent counts x =
@@ -140,7 +140,7 @@ module _ {D : Type 0} (ghosts : Ghosts D) (was now : SlotSeen D) (claim : Claim)
 
   pub look_turn_cause : (old new : List D) (name : List ℕ) (answer : Result (List ℕ) SlotFault) (stub : Option Stub) → StubOfEntry was.numbers answer stub
       → Says stub (SaysKept name) → ((answer ≡ Err SeqSpent) → AreSpent was.numbers) → AuditCounts answer was.faults now.faults
-      → PeekCause ghosts.tells ghosts.files ghosts.count was.numbers now.numbers name answer (completed_by stub) was.lanes now.lanes old new
+      → PeekCause ghosts was.numbers now.numbers name answer (completed_by stub) was.lanes now.lanes old new
       → TurnAccount ghosts (noted stub) was now claim (views ghosts old) (views ghosts new)
   look_turn_cause old new name answer stub is says spent counts x =
       answer_cause ghosts was now claim (views ghosts old) (views ghosts new) answer stub is (look_cause old new name answer stub is says spent counts x)
@@ -154,7 +154,7 @@ module _ {D : Type 0} (ghosts : Ghosts D) (was now : SlotSeen D) (claim : Claim)
 
   names_cause : {Y : Type 0} (disks : List DriveView) (from : List ℕ) (most : ℕ) (answer : Result (List (String Y)) SlotFault) (stub : Option Stub)
       → StubOfEntry was.numbers answer stub → Says stub SaysNothing → AuditCounts answer was.faults now.faults
-      → ListsNames ghosts.tells ghosts.files ghosts.count was.numbers.set from most answer was.lanes now.lanes
+      → ListsNames ghosts was.numbers.set from most answer was.lanes now.lanes
       → AnswerCause ghosts was now claim disks disks answer (entry_of stub)
   names_cause disks from most (Ok names) stub is says counts x = tt
   names_cause disks from most (Err (Quorum (ReadQuorum whys))) stub is says counts x =
@@ -171,7 +171,7 @@ module _ {D : Type 0} (ghosts : Ghosts D) (was now : SlotSeen D) (claim : Claim)
 
   pub names_turn_cause : {Y : Type 0} (disks : List DriveView) (from : List ℕ) (most : ℕ) (answer : Result (List (String Y)) SlotFault) (stub : Option Stub)
       → StubOfEntry was.numbers answer stub → Says stub SaysNothing → AuditCounts answer was.faults now.faults
-      → ListsNames ghosts.tells ghosts.files ghosts.count was.numbers.set from most answer was.lanes now.lanes
+      → ListsNames ghosts was.numbers.set from most answer was.lanes now.lanes
       → TurnAccount ghosts (noted stub) was now claim disks disks
   names_turn_cause {Y = Y} disks from most answer stub is says counts x =
       answer_cause ghosts was now claim disks disks {T = List (String Y)} answer stub is (names_cause {Y = Y} disks from most answer stub is says counts x)
@@ -181,8 +181,8 @@ module _ {D : Type 0} (ghosts : Ghosts D) (was now : SlotSeen D) (claim : Claim)
     (own : IsPutOf claim put) where
   commit_refuses : (fault : QuorumFault) (entry : Option Entry) → IsNotUnlisted was.holding.flights put → IsWritten entry
       → MatchOption entry (Unit {0}) (λ made. made.name ≡ name_of deed)
-      → LookRefused ghosts.tells ghosts.files ghosts.count was.numbers now.numbers deed put fault (deed_in entry) was.lanes now.lanes old new
-      ⊎ ((reply : _) × WroteSo ghosts.tells ghosts.files ghosts.count was.numbers now.numbers deed put at reply (Err fault) (deed_in entry) was.lanes now.lanes old new)
+      → LookRefused ghosts was.numbers now.numbers deed put fault (deed_in entry) was.lanes now.lanes old new
+      ⊎ ((reply : _) × WroteSo ghosts was.numbers now.numbers deed put at reply (Err fault) (deed_in entry) was.lanes now.lanes old new)
       → LanesRefuse ghosts entry was now claim fault (views ghosts old) (views ghosts new)
   commit_refuses fault None listed there named x = there
   commit_refuses fault (Some made) listed there named x = inr (record {
@@ -193,11 +193,11 @@ module _ {D : Type 0} (ghosts : Ghosts D) (was now : SlotSeen D) (claim : Claim)
     how = inr (record { deed = deed; name_is = named; put = put; put_is = own; listed = listed; cause = by x });
   })
     where
-      by : LookRefused ghosts.tells ghosts.files ghosts.count was.numbers now.numbers deed put fault made.deed was.lanes now.lanes old new
-          ⊎ ((reply : _) × WroteSo ghosts.tells ghosts.files ghosts.count was.numbers now.numbers deed put at reply (Err fault) made.deed was.lanes now.lanes old new)
-          → LookRefused ghosts.tells ghosts.files ghosts.count was.numbers now.numbers deed put fault made.deed was.lanes now.lanes old new
+      by : LookRefused ghosts was.numbers now.numbers deed put fault made.deed was.lanes now.lanes old new
+          ⊎ ((reply : _) × WroteSo ghosts was.numbers now.numbers deed put at reply (Err fault) made.deed was.lanes now.lanes old new)
+          → LookRefused ghosts was.numbers now.numbers deed put fault made.deed was.lanes now.lanes old new
           ⊎ ((moment : ℕ) × (reply : _)
-          × WroteSo ghosts.tells ghosts.files ghosts.count was.numbers now.numbers deed put moment reply (Err fault) made.deed was.lanes now.lanes old new)
+          × WroteSo ghosts was.numbers now.numbers deed put moment reply (Err fault) made.deed was.lanes now.lanes old new)
       by (inl look) = inl look
       by (inr wrote) = inr (at, wrote.0, wrote.1)
 
@@ -220,7 +220,7 @@ module _ {D : Type 0} (ghosts : Ghosts D) (was now : SlotSeen D) (claim : Claim)
       → Says stub (SaysCommit deed at answer) → ((answer ≡ Err SeqSpent) → AreSpent was.numbers) → AuditCounts answer was.faults now.faults
       → ((id : VersionId) → answer ≡ Err (NotInFlight id) → IsPutOf claim (Some id) × (IsInFlight was.holding.flights id → ⊥))
       → ((fault : QuorumFault) → answer ≡ Err (Quorum fault) → IsNotUnlisted was.holding.flights put)
-      → CommitCause ghosts.tells ghosts.files ghosts.count was.numbers now.numbers deed put at answer (deed_in (entry_of stub)) was.lanes now.lanes old new
+      → CommitCause ghosts was.numbers now.numbers deed put at answer (deed_in (entry_of stub)) was.lanes now.lanes old new
       → AnswerCause ghosts was now claim (views ghosts old) (views ghosts new) answer (entry_of stub)
   commit_cause (Ok made) stub is says spent counts refused listed x = tt
   commit_cause (Err (Quorum fault)) stub is says spent counts refused listed x =
@@ -239,7 +239,7 @@ module _ {D : Type 0} (ghosts : Ghosts D) (was now : SlotSeen D) (claim : Claim)
       → Says stub (SaysCommit deed at answer) → ((answer ≡ Err SeqSpent) → AreSpent was.numbers) → AuditCounts answer was.faults now.faults
       → ((id : VersionId) → answer ≡ Err (NotInFlight id) → IsPutOf claim (Some id) × (IsInFlight was.holding.flights id → ⊥))
       → ((fault : QuorumFault) → answer ≡ Err (Quorum fault) → IsNotUnlisted was.holding.flights put)
-      → CommitCause ghosts.tells ghosts.files ghosts.count was.numbers now.numbers deed put at answer (deed_in (entry_of stub)) was.lanes now.lanes old new
+      → CommitCause ghosts was.numbers now.numbers deed put at answer (deed_in (entry_of stub)) was.lanes now.lanes old new
       → TurnAccount ghosts (noted stub) was now claim (views ghosts old) (views ghosts new)
   commit_turn_cause answer stub is says spent counts refused listed x =
       answer_cause ghosts was now claim (views ghosts old) (views ghosts new) answer stub is (commit_cause answer stub is says spent counts refused listed x)

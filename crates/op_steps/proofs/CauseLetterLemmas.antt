@@ -34,15 +34,15 @@ use Rattle.vote_core.specs.declared.row.Row.{Row}
 use Rattle.vote_core.specs.declared.row.Row.TheVariants.{Bad}
 use Rattle.register_core.specs.Drafts.{letters_for}
 use Rattle.register_core.specs.Found.{Concludes, HasContent, content_of, found_at}
-use Rattle.register_core.specs.Looking.{IsRefusedContent, IsTooFew, IsUndecided, LaneIsRead, LanesAreRead, Looks}
-use Rattle.register_core.specs.Loops.{letter_at}
+use Rattle.register_core.specs.Looks.{IsRefusedContent, IsTooFew, IsUndecided, LaneIsRead, LanesAreRead, Looks}
+use Rattle.register_core.specs.LaneWrites.{letter_at}
 use Rattle.register_core.specs.Manifests.{IsManifestDamage, ManifestLetter}
-use Rattle.register_core.specs.Proposing.{quorum_of as quorum_of_draft}
+use Rattle.register_core.specs.Proposals.{quorum_of as quorum_of_draft}
 use Rattle.register_core.specs.Records.{row_of, row_of_next}
 use Rattle.register_core.specs.declared.drafts.Draft.{Draft}
 use Rattle.register_core.specs.declared.faults.QuorumFault.{QuorumFault}
 use Rattle.register_core.specs.declared.faults.QuorumFault.TheVariants.{NoMemory, ReadQuorum, Undecided, WriteQuorum}
-use Rattle.register_core.specs.declared.looked.Looked.{Looked}
+use Rattle.register_core.specs.declared.looks.Looked.{Looked}
 use Rattle.register_core.proofs.SeenLemmas.{element}
 use Rattle.register_caller.specs.Steps.{WritesBoth}
 use Rattle.slot_rules.specs.Deeds.{name_of}
@@ -162,19 +162,19 @@ module _ {D : Type 0} (ghosts : Ghosts D) (was now : SlotSeen D) (claim : Claim)
   module _ (name : List ℕ) (named : made.name ≡ name) (rule : List ℕ → Option ℕ) (longest : ℕ) (longest_is : longest ≡ longest_for name)
       (breaks : (content : List ℕ) (place : ℕ) → rule content ≡ Some place → BreaksRule was.numbers claim name content) where
     read_as : (found : List (Option RegFile)) (whys : List Why) (mid : List D)
-        → LanesAreRead tells files count set.out (longest_file longest) name found whys was.lanes mid
-        → LanesAreRead tells files count set.out (longest_file (longest_for name)) name found whys was.lanes mid
+        → LanesAreRead ghosts set.out (longest_file longest) name found whys was.lanes mid
+        → LanesAreRead ghosts set.out (longest_file (longest_for name)) name found whys was.lanes mid
     read_as found whys mid read =
-        subst (λ (m : ℕ). LanesAreRead tells files count set.out (longest_file m) name found whys was.lanes mid) longest_is read
+        subst (λ (m : ℕ). LanesAreRead ghosts set.out (longest_file m) name found whys was.lanes mid) longest_is read
 
     looked : (found : List (Option RegFile)) (whys : List Why) (mid : List D)
-        → LanesAreRead tells files count set.out (longest_file longest) name found whys was.lanes mid
+        → LanesAreRead ghosts set.out (longest_file longest) name found whys was.lanes mid
         → Lettered ghosts was.numbers claim name was.lanes whys mid
     looked found whys mid read = looked_lettered ghosts was.numbers claim name was.lanes found whys mid (read_as found whys mid read)
 
     -- a lane whose file was read shows it
     shows_found : (found : List (Option RegFile)) (whys : List Why) (mid : List D)
-        → LanesAreRead tells files count set.out (longest_file longest) name found whys was.lanes mid → (Holds : RegFile → Type 0) (lane : ℕ) (file : RegFile)
+        → LanesAreRead ghosts set.out (longest_file longest) name found whys was.lanes mid → (Holds : RegFile → Type 0) (lane : ℕ) (file : RegFile)
         → found_at found lane ≡ Some file → Holds file → LaneShows ghosts was name lane Holds
     shows_found found whys mid read Holds lane file is holds =
         let counted = read.counted in
@@ -192,7 +192,7 @@ module _ {D : Type 0} (ghosts : Ghosts D) (was now : SlotSeen D) (claim : Claim)
         }
 
     content_there : (found : List (Option RegFile)) (whys : List Why) (mid : List D)
-        → LanesAreRead tells files count set.out (longest_file longest) name found whys was.lanes mid → (w d : ℕ) (base : Base) (pending : Option Next)
+        → LanesAreRead ghosts set.out (longest_file longest) name found whys was.lanes mid → (w d : ℕ) (base : Base) (pending : Option Next)
         → Concludes w d found base pending → (lane : ℕ) × LaneShows ghosts was name lane (λ file. HasContent file (content_of base pending))
     content_there found whys mid read w d base None (lane, verdict, there) =
         let file = there.0 in let is = there.1 in let base_is = there.2 in (lane, shows_found found whys mid read (λ file. HasContent file base.content) lane file is (inl (ap (λ (b : Base). b.content) base_is)))
@@ -200,14 +200,14 @@ module _ {D : Type 0} (ghosts : Ghosts D) (was now : SlotSeen D) (claim : Claim)
         let file = there.0 in let is = there.1 in let next_is = there.2 in (lane, shows_found found whys mid read (λ file. HasContent file next.content) lane file is (inr (next, next_is, refl)))
 
     too_few : (whys : List Why) (disks disks_after : List D)
-        → IsTooFew tells files count set set.out name longest whys was.lanes now.lanes disks disks_after → LooksTooFew ghosts was now claim made whys
+        → IsTooFew ghosts set set.out name longest whys was.lanes now.lanes disks disks_after → LooksTooFew ghosts was now claim made whys
     too_few whys disks disks_after x = record {
       lanes = tell_lanes name named whys (looked x.found whys now.lanes x.read);
       why = inl (let same = rows_good whys (map row_of x.found) x.read.on in let few = x.few in omega (arith, same, few));
     }
 
     refused : (whys : List Why) (disks disks_after : List D)
-        → IsRefusedContent tells files count set set.out name rule longest whys was.lanes now.lanes disks disks_after → LooksTooFew ghosts was now claim made whys
+        → IsRefusedContent ghosts set set.out name rule longest whys was.lanes now.lanes disks disks_after → LooksTooFew ghosts was now claim made whys
     refused whys disks disks_after x =
         let content = content_of x.base x.pending in
         let broken = breaks content x.place x.broken in
@@ -220,7 +220,7 @@ module _ {D : Type 0} (ghosts : Ghosts D) (was now : SlotSeen D) (claim : Claim)
         }
 
     module _ (disks disks_after : List D) (read_long : length disks_after ≡ length disks) where
-      undecided : (k u : ℕ) (whys : List Why) → IsUndecided tells files count set set.out name longest k u whys was.lanes now.lanes disks disks_after
+      undecided : (k u : ℕ) (whys : List Why) → IsUndecided ghosts set set.out name longest k u whys was.lanes now.lanes disks disks_after
           → DataIsMissing ghosts was now claim made k u whys (views ghosts disks) (views ghosts disks_after)
       undecided k u whys x =
           let rows : List Row = map row_of x.found in
@@ -270,7 +270,7 @@ module _ {D : Type 0} (ghosts : Ghosts D) (was now : SlotSeen D) (claim : Claim)
             few = x.few;
           }
 
-      looks_say : (fault : QuorumFault) → Looks tells files count set set.out name rule longest (Err fault) was.lanes now.lanes disks disks_after
+      looks_say : (fault : QuorumFault) → Looks ghosts set set.out name rule longest (Err fault) was.lanes now.lanes disks disks_after
           → FaultSays fault (views ghosts disks) (views ghosts disks_after)
       looks_say (ReadQuorum whys) looks = elim looks [ inl few ↦ too_few whys disks disks_after few | inr broken ↦ refused whys disks disks_after broken ]
       looks_say (WriteQuorum whys) looks = absurd looks
@@ -282,7 +282,7 @@ module _ {D : Type 0} (ghosts : Ghosts D) (was now : SlotSeen D) (claim : Claim)
       module _ (mid : List D) (up : Rises ghosts was.numbers claim name was.lanes mid) (draft : Draft) (term from to : ℕ) (plan : draft.set ≡ set)
           (before : BadLettered ghosts was.numbers claim name was.lanes draft.letters mid)
           (begun : good_count draft.letters < quorum_of_draft draft → Lettered ghosts was.numbers claim name was.lanes draft.letters mid) where
-        writes_say : (fault : QuorumFault) → WritesBoth tells files count draft set.out term from to (Err fault) mid now.lanes
+        writes_say : (fault : QuorumFault) → WritesBoth ghosts draft set.out term from to (Err fault) mid now.lanes
             → FaultSays fault (views ghosts disks) (views ghosts disks_after)
         writes_say (ReadQuorum whys) did = absurd (elim did [ inl none ↦ none | inr taken ↦ taken.marks ])
         writes_say (WriteQuorum whys) did =
@@ -293,7 +293,7 @@ module _ {D : Type 0} (ghosts : Ghosts D) (was now : SlotSeen D) (claim : Claim)
 
       -- a change of the section's own, on all lanes
       fresh_say : (mid : List D) → Rises ghosts was.numbers claim name was.lanes mid → (draft : Draft) (term from to : ℕ) → draft.set ≡ set
-          → draft.letters ≡ replicate set.drives Good → (fault : QuorumFault) → WritesBoth tells files count draft set.out term from to (Err fault) mid now.lanes
+          → draft.letters ≡ replicate set.drives Good → (fault : QuorumFault) → WritesBoth ghosts draft set.out term from to (Err fault) mid now.lanes
           → FaultSays fault (views ghosts disks) (views ghosts disks_after)
       fresh_say mid up draft term from to plan all fault did = writes_say mid up draft term from to plan
           (λ k d in_set low there bad. absurd (bad (ap (λ (l : List Why). letter_at l k) all ∙ get_or-replicate set.drives k Good (Lacks Format) in_set)))
@@ -305,19 +305,19 @@ module _ {D : Type 0} (ghosts : Ghosts D) (was now : SlotSeen D) (claim : Claim)
 
       -- ---- by what the section says
 
-      looked_over : (l : Looked) (mid : List D) → Concluded tells files count was.numbers name rule longest l was.lanes mid disks disks_after
+      looked_over : (l : Looked) (mid : List D) → Concluded ghosts was.numbers name rule longest l was.lanes mid disks disks_after
           → Lettered ghosts was.numbers claim name was.lanes l.whys mid × Rises ghosts was.numbers claim name was.lanes mid
       looked_over l mid x = (
         looked x.looks.found l.whys mid x.looks.read,
-        λ k d low there. look_up tells files count (length was.lanes) (longest_file longest) set.out name x.looks.found l.whys was.lanes mid refl x.looks.read k d low,
+        λ k d low there. look_up ghosts (length was.lanes) (longest_file longest) set.out name x.looks.found l.whys was.lanes mid refl x.looks.read k d low,
       )
 
-      not_forwarded : (fault : QuorumFault) → NotForwarded tells files count was.numbers name rule longest fault was.lanes now.lanes disks disks_after
+      not_forwarded : (fault : QuorumFault) → NotForwarded ghosts was.numbers name rule longest fault was.lanes now.lanes disks disks_after
           → FaultSays fault (views ghosts disks) (views ghosts disks_after)
       not_forwarded fault x = subst (λ (f : QuorumFault). FaultSays f (views ghosts disks) (views ghosts disks_after)) (sym x.letters)
           (tell_lanes name named x.looked.whys (looked_over x.looked now.lanes x.concluded).0, x.few)
 
-      forward_refused : (fault : QuorumFault) → ForwardRefused tells files count was.numbers now.numbers.count name rule longest fault was.lanes now.lanes disks disks_after
+      forward_refused : (fault : QuorumFault) → ForwardRefused ghosts was.numbers now.numbers.count name rule longest fault was.lanes now.lanes disks disks_after
           → FaultSays fault (views ghosts disks) (views ghosts disks_after)
       forward_refused fault x =
           let over = looked_over x.looked x.mid x.concluded in
@@ -329,7 +329,7 @@ module _ {D : Type 0} (ghosts : Ghosts D) (was now : SlotSeen D) (claim : Claim)
           writes_say x.mid over.1 again.draft was.numbers.term was.numbers.count now.numbers.count (again.drafted.set ∙ x.concluded.looks.plan)
           (λ k d in_set low there bad. all k d in_set low there) (λ few. all) fault again.writes
 
-      pub look_says : (fault : QuorumFault) → LookCause tells files count was.numbers now.numbers name rule longest fault was.lanes now.lanes disks disks_after
+      pub look_says : (fault : QuorumFault) → LookCause ghosts was.numbers now.numbers name rule longest fault was.lanes now.lanes disks disks_after
           → FaultSays fault (views ghosts disks) (views ghosts disks_after)
       look_says fault cause = elim cause [
         | inl refused ↦ looks_say fault refused.0.looks
@@ -338,22 +338,22 @@ module _ {D : Type 0} (ghosts : Ghosts D) (was now : SlotSeen D) (claim : Claim)
       ]
 
       pub own_says : (fault : QuorumFault) (content : List ℕ) (own : Next)
-          → OwnIsWritten tells files count was.numbers now.numbers name rule longest content own (Err fault) was.lanes now.lanes disks disks_after
+          → OwnIsWritten ghosts was.numbers now.numbers name rule longest content own (Err fault) was.lanes now.lanes disks disks_after
           → FaultSays fault (views ghosts disks) (views ghosts disks_after)
       own_says fault content own written = elim written [ inl once ↦ at_once once | inr again ↦ after_again again ]
         where
-          at_once : OwnAtOnce tells files count was.numbers now.numbers name rule longest content own (Err fault) was.lanes now.lanes disks disks_after
+          at_once : OwnAtOnce ghosts was.numbers now.numbers name rule longest content own (Err fault) was.lanes now.lanes disks disks_after
               → FaultSays fault (views ghosts disks) (views ghosts disks_after)
           at_once x = fresh_say x.mid (looked_over x.looked x.mid x.concluded).1 x.draft was.numbers.term was.numbers.count now.numbers.count
               (x.drafted.set ∙ x.concluded.looks.plan)
               (x.drafted.letters ∙ (ap (λ (p : Option Next). letters_for p x.looked.whys x.looked.set.drives) x.settled
               ∙ ap (λ (s : SetPlan). replicate s.drives Good) x.concluded.looks.plan)) fault x.writes
 
-          after_again : OwnAfterAgain tells files count was.numbers now.numbers name rule longest content own (Err fault) was.lanes now.lanes disks disks_after
+          after_again : OwnAfterAgain ghosts was.numbers now.numbers name rule longest content own (Err fault) was.lanes now.lanes disks disks_after
               → FaultSays fault (views ghosts disks) (views ghosts disks_after)
           after_again x =
               let over = looked_over x.looked x.mid x.concluded in
-              let again = both_up tells files count (length x.mid) x.first set.out was.numbers.term was.numbers.count x.middle (Ok x.letters) x.mid x.between refl x.forward in
+              let again = both_up ghosts (length x.mid) x.first set.out was.numbers.term was.numbers.count x.middle (Ok x.letters) x.mid x.between refl x.forward in
               let first_set : x.first.set ≡ set = x.first_drafted.set ∙ x.concluded.looks.plan in
               fresh_say x.between (rises_on ghosts was.numbers claim name was.lanes x.mid x.between again.0 over.1 again.1) x.draft was.numbers.term x.middle
               now.numbers.count (x.drafted.set ∙ first_set) (x.drafted.letters ∙ ap (λ (s : SetPlan). replicate s.drives Good) first_set) fault x.writes

@@ -26,11 +26,12 @@ use Rattle.stamp_id.specs.Rank.{change_of}
 use Rattle.stamp_id.specs.declared.stamp.ChangeId.{ChangeId}
 use Rattle.stamp_id.specs.declared.version.VersionId.{VersionId}
 use Rattle.register_core.specs.Drafts.{EndsAt, letters_for}
-use Rattle.register_core.specs.Loops.{OnLane, TellsStay, letter_at}
+use Rattle.register_core.specs.LaneWrites.{OnLane, letter_at}
 use Rattle.register_core.specs.OnLanes.{AllTell, AreUnused}
 use Rattle.register_core.specs.Records.{HasLane, lane_of, marked_base, settled_file}
 use Rattle.register_core.specs.declared.drafts.Draft.{Draft}
 use Rattle.register_core.proofs.LaneLemmas.{none_set}
+use Rattle.register_core.proofs.ViewedLemmas.{tells_on}
 use Rattle.register_caller.specs.Steps.{MarksTaken}
 use Rattle.register_caller.proofs.CallingLemmas.{tell_after, unused_after_look}
 use Rattle.slot_rules.specs.Deeds.{call_of, name_of}
@@ -120,7 +121,7 @@ module _ {D : Type 0} (ghosts : Ghosts D) where
 
   -- that of a lane whose letter was good, after a loop
   first_letter : (out : ℕ) (name bytes : List ℕ) (term from to : ℕ) (letters : List Why) (k : ℕ) (why : Why) (old new : D)
-      → OnLane tells files count out 0 name bytes term from to letters k why old new → letter_at letters k ≡ Good → LaneLetter ghosts out k why old new
+      → OnLane ghosts out 0 name bytes term from to letters k why old new → letter_at letters k ≡ Good → LaneLetter ghosts out k why old new
   first_letter out name bytes term from to letters k why old new on good = elim on [
     | inl gone ↦ out_letter out k why old new gone.out_is gone.letter
     | inr (inl kept) ↦ elim kept.passed_is [ inl bit ↦ absurd (none_set k bit) | inr bad ↦ absurd (bad good) ]
@@ -129,7 +130,7 @@ module _ {D : Type 0} (ghosts : Ghosts D) where
 
   -- and after another one
   next_letter : (out : ℕ) (name bytes : List ℕ) (term from to : ℕ) (letters : List Why) (k : ℕ) (why : Why) (old mid new : D)
-      → OnLane tells files count out 0 name bytes term from to letters k why mid new → tells mid ≡ tells old → count old ≤ count mid → count mid ≤ count new
+      → OnLane ghosts out 0 name bytes term from to letters k why mid new → tells mid ≡ tells old → count old ≤ count mid → count mid ≤ count new
       → LaneLetter ghosts out k (letter_at letters k) old mid → LaneLetter ghosts out k why old new
   next_letter out name bytes term from to letters k why old mid new on told low high before = elim on [
     | inl gone ↦ out_letter out k why old new gone.out_is gone.letter
@@ -140,7 +141,7 @@ module _ {D : Type 0} (ghosts : Ghosts D) where
 
   -- the letters of both writes of a draft on all lanes
   module _ (draft : Draft) (out term from to : ℕ) (whys : List Why) (old new : List D)
-      (x : MarksTaken tells files count draft out term from to (Ok whys) old new)
+      (x : MarksTaken ghosts draft out term from to (Ok whys) old new)
       (all : draft.letters ≡ replicate draft.set.drives Good) where
     pub written_counted : length whys ≡ draft.set.drives
     written_counted = x.marks.2.counted ∙ (x.proposes.2.counted ∙ (ap (λ (l : List Why). length l) all ∙ length-replicate draft.set.drives Good))
@@ -148,7 +149,7 @@ module _ {D : Type 0} (ghosts : Ghosts D) where
     pub written_letter : (k : ℕ) (d : D) → k < draft.set.drives
         → LaneLetter ghosts out k (letter_at whys k) (slice_index_or old k d) (slice_index_or new k d)
     written_letter k d low =
-        let up = taken_up tells files count draft.set.drives draft out term from to (Ok whys) old new x.long x in
+        let up = taken_up ghosts draft.set.drives draft out term from to (Ok whys) old new x.long x in
         let here : k < length old = (let long = x.long in omega (arith, long, low)) in
         let there : k < length x.mid = (let long = up.0 in omega (arith, long, here)) in
         let good : letter_at draft.letters k ≡ Good =
@@ -160,9 +161,9 @@ module _ {D : Type 0} (ghosts : Ghosts D) where
         next_letter out (string_bytes draft.name) draft.last.items term x.middle to x.took.whys k (letter_at whys k) (slice_index_or old k d)
         (slice_index_or x.mid k d)
         (slice_index_or new k d)
-        (subst (λ (o : ℕ). OnLane tells files count o 0 (string_bytes draft.name) draft.last.items term x.middle to x.took.whys k (letter_at whys k)
+        (subst (λ (o : ℕ). OnLane ghosts o 0 (string_bytes draft.name) draft.last.items term x.middle to x.took.whys k (letter_at whys k)
         (slice_index_or x.mid k d) (slice_index_or new k d)) same (x.marks.2.each k d there))
-        (x.tell_mid k d here) (up.1 k d low) (up.3 k d low) first
+        (tells_on ghosts old x.mid x.lanes_mid k d here) (up.1 k d low) (up.3 k d low) first
 
   -- the file that a lane keeps whose letter is good
   written_base : (draft : Draft) (own : Next) (name : List ℕ) (kept : Option (List ℕ)) → EndsAt draft (marked_base own) → kept ≡ Some draft.last.items
@@ -180,7 +181,7 @@ module _ {D : Type 0} (ghosts : Ghosts D) where
     set = was.numbers.set
 
     -- the change was written at once
-    at_once : OwnAtOnce tells files count was.numbers now.numbers name rule longest content own (Ok whys) was.lanes now.lanes disks disks_after
+    at_once : OwnAtOnce ghosts was.numbers now.numbers name rule longest content own (Ok whys) was.lanes now.lanes disks disks_after
         → ChangeLetters ghosts was now name own.change
     at_once x =
         let looks = x.concluded.looks in
@@ -196,7 +197,7 @@ module _ {D : Type 0} (ghosts : Ghosts D) where
           counted = written_counted x.draft set.out was.numbers.term was.numbers.count now.numbers.count whys x.mid now.lanes x.writes all ∙ drives;
           each = λ k d low. letter_wider set.out k (letter_at whys k) (slice_index_or was.lanes k d) (slice_index_or x.mid k d) (slice_index_or now.lanes k d)
               (slice_index_or now.lanes k d) (x.tell k d (omega (arith, long_old, low)))
-              (look_up tells files count set.drives (longest_file longest) set.out name looks.found x.looked.whys was.lanes x.mid long_old looks.read k d
+              (look_up ghosts set.drives (longest_file longest) set.out name looks.found x.looked.whys was.lanes x.mid long_old looks.read k d
               low) (omega arith)
               (written_letter x.draft set.out was.numbers.term was.numbers.count now.numbers.count whys x.mid now.lanes x.writes all k d
               (omega (arith, drives, low)));
@@ -206,7 +207,7 @@ module _ {D : Type 0} (ghosts : Ghosts D) where
               let unused : AreUnused files set.out was.numbers.term was.numbers.count x.mid =
               unused_after_look tells files set.out was.numbers.term was.numbers.count was.lanes x.mid x.long x.concluded.stay stands.have.tell
               stands.have.unused in
-              let up = taken_up tells files count x.draft.set.drives x.draft set.out was.numbers.term was.numbers.count now.numbers.count (Ok whys) x.mid
+              let up = taken_up ghosts x.draft.set.drives x.draft set.out was.numbers.term was.numbers.count now.numbers.count (Ok whys) x.mid
               now.lanes x.writes.long x.writes in
               let called : string_bytes x.draft.name ≡ name = x.drafted.name ∙ looks.named in
               written_base x.draft own name ((files (slice_index_or now.lanes k d)).kept name) x.drafted.«of».ends
@@ -215,7 +216,7 @@ module _ {D : Type 0} (ghosts : Ghosts D) where
         }
 
     -- or after what was pending was completed
-    after_again : OwnAfterAgain tells files count was.numbers now.numbers name rule longest content own (Ok whys) was.lanes now.lanes disks disks_after
+    after_again : OwnAfterAgain ghosts was.numbers now.numbers name rule longest content own (Ok whys) was.lanes now.lanes disks disks_after
         → ChangeLetters ghosts was now name own.change
     after_again x =
         let looks = x.concluded.looks in
@@ -225,20 +226,21 @@ module _ {D : Type 0} (ghosts : Ghosts D) where
         let all : x.draft.letters ≡ replicate x.draft.set.drives Good = x.drafted.letters ∙ ap (λ (s : SetPlan). replicate s.drives Good) (sym x.drafted.set) in
         let long : length x.mid ≡ set.drives = x.forward.long ∙ ap (λ (s : SetPlan). s.drives) first_plan in
         let long_old : length was.lanes ≡ set.drives = sym x.long ∙ long in
-        let again = both_up tells files count set.drives x.first set.out was.numbers.term was.numbers.count x.middle (Ok x.letters) x.mid x.between long
+        let again = both_up ghosts set.drives x.first set.out was.numbers.term was.numbers.count x.middle (Ok x.letters) x.mid x.between long
         x.forward in
-        let again_up = taken_up tells files count set.drives x.first set.out was.numbers.term was.numbers.count x.middle (Ok x.letters) x.mid x.between long
+        let again_up = taken_up ghosts set.drives x.first set.out was.numbers.term was.numbers.count x.middle (Ok x.letters) x.mid x.between long
         x.forward in
-        let tells_again : TellsStay tells files count x.mid x.between = λ k d low. x.forward.tell_new k d (let a = again_up.0 in omega (arith, a, low)) ∙
-        x.forward.tell_mid k d low in
+        let tells_again : (k : ℕ) (d : D) → k < length x.mid → tells (slice_index_or x.between k d) ≡ tells (slice_index_or x.mid k d) =
+        λ k d low. tells_on ghosts x.forward.mid x.between x.forward.lanes_new k d (let a = again_up.0 in omega (arith, a, low))
+        ∙ tells_on ghosts x.mid x.forward.mid x.forward.lanes_mid k d low in
         record {
           whys = whys;
           counted = written_counted x.draft set.out was.numbers.term x.middle now.numbers.count whys x.between now.lanes x.writes all ∙ drives;
           each = λ k d low. letter_wider set.out k (letter_at whys k) (slice_index_or was.lanes k d) (slice_index_or x.between k d)
               (slice_index_or now.lanes k d)
               (slice_index_or now.lanes k d) (tells_again k d (omega (arith, long, low)) ∙ x.tell k d (omega (arith, long_old, low)))
-              (up_twice tells files count set.drives was.lanes x.mid x.between
-              (look_up tells files count set.drives (longest_file longest) set.out name looks.found x.looked.whys was.lanes x.mid long_old looks.read)
+              (up_twice ghosts set.drives was.lanes x.mid x.between
+              (look_up ghosts set.drives (longest_file longest) set.out name looks.found x.looked.whys was.lanes x.mid long_old looks.read)
               again.1 k d low) (omega arith)
               (written_letter x.draft set.out was.numbers.term x.middle now.numbers.count whys x.between now.lanes x.writes all k d
               (omega (arith, drives, low)));
@@ -249,7 +251,7 @@ module _ {D : Type 0} (ghosts : Ghosts D) where
               unused_after_look tells files set.out was.numbers.term was.numbers.count was.lanes x.mid x.long x.concluded.stay stands.have.tell
               stands.have.unused in
               let tell_between : AllTell tells set.out x.between = tell_after tells files set.out x.mid x.between again.0 tells_again tell in
-              let up = taken_up tells files count x.draft.set.drives x.draft set.out was.numbers.term x.middle now.numbers.count (Ok whys) x.between
+              let up = taken_up ghosts x.draft.set.drives x.draft set.out was.numbers.term x.middle now.numbers.count (Ok whys) x.between
               now.lanes x.writes.long x.writes in
               let called : string_bytes x.draft.name ≡ name = x.drafted.name ∙ (x.first_drafted.name ∙ looks.named) in
               written_base x.draft own name ((files (slice_index_or now.lanes k d)).kept name) x.drafted.«of».ends
@@ -260,7 +262,7 @@ module _ {D : Type 0} (ghosts : Ghosts D) where
 
   module _ (was now : SlotSeen D) (deed : Commit) (put : Option VersionId) (at : ℕ) (entered : Deed) (disks disks_after : List D) where
     wrote_letters : (reply : Reply) (whys : List Why) (name : List ℕ) (change : ChangeId)
-        → WroteSo tells files count was.numbers now.numbers deed put at reply (Ok whys) entered was.lanes now.lanes disks disks_after
+        → WroteSo ghosts was.numbers now.numbers deed put at reply (Ok whys) entered was.lanes now.lanes disks disks_after
         → name_of deed ≡ name → MadeIn change entered → ChangeLetters ghosts was now name change
     wrote_letters reply whys name change x named made =
         let here : drawn_by (call_of deed (Some x.own.change) at) ≡ Some change = subst (MadeIn change) x.deed_is made in
@@ -271,14 +273,14 @@ module _ {D : Type 0} (ghosts : Ghosts D) where
           | inr again ↦ after_again was now (name_of deed) x.rule x.longest x.content x.own whys disks disks_after again
         ]))
 
-    found_none : (reply : Reply) (change : ChangeId) → FoundSo tells files count was.numbers now.numbers deed put at reply entered was.lanes now.lanes disks
+    found_none : (reply : Reply) (change : ChangeId) → FoundSo ghosts was.numbers now.numbers deed put at reply entered was.lanes now.lanes disks
         disks_after
         → MadeIn change entered → ⊥
     found_none reply change x made =
         looked_not_made (Done (call_of deed None at) (Answer reply)) change (drawn_own deed None at) (subst (MadeIn change) x.deed_is made)
 
     answer_letters : (answer : Result Committed SlotFault) (name : List ℕ) (change : ChangeId)
-        → CommitCause tells files count was.numbers now.numbers deed put at answer entered was.lanes now.lanes disks disks_after
+        → CommitCause ghosts was.numbers now.numbers deed put at answer entered was.lanes now.lanes disks disks_after
         → CommitDeed deed at answer entered → name_of deed ≡ name → MadeIn change entered → ChangeLetters ghosts was now name change
     answer_letters (Ok made) name change cause says named is = elim cause [
       | inl found ↦ absurd (found_none made.done change found is)
@@ -298,7 +300,7 @@ module _ {D : Type 0} (ghosts : Ghosts D) where
 
   entry_letters : (was now : SlotSeen D) (deed : Commit) (put : Option VersionId) (at : ℕ) (answer : Result Committed SlotFault) (entry : Option Entry)
       (disks disks_after : List D) → MatchOption entry (Unit {0}) (SaysCommit deed at answer)
-      → CommitCause tells files count was.numbers now.numbers deed put at answer (deed_in entry) was.lanes now.lanes disks disks_after
+      → CommitCause ghosts was.numbers now.numbers deed put at answer (deed_in entry) was.lanes now.lanes disks disks_after
       → (name : List ℕ) (change : ChangeId) → HasMade entry name change → ChangeLetters ghosts was now name change
   entry_letters was now deed put at answer None disks disks_after says cause name change made = absurd made
   entry_letters was now deed put at answer (Some told) disks disks_after says cause name change made =
@@ -307,7 +309,7 @@ module _ {D : Type 0} (ghosts : Ghosts D) where
   -- the letters of a commit, by what it says of itself
   pub commit_letters : (was now : SlotSeen D) (deed : Commit) (put : Option VersionId) (at : ℕ) (answer : Result Committed SlotFault) (stub : Option Stub)
       (disks disks_after : List D) → Says stub (SaysCommit deed at answer)
-      → CommitCause tells files count was.numbers now.numbers deed put at answer (deed_in (entry_of stub)) was.lanes now.lanes disks disks_after
+      → CommitCause ghosts was.numbers now.numbers deed put at answer (deed_in (entry_of stub)) was.lanes now.lanes disks disks_after
       → (name : List ℕ) (change : ChangeId) → HasMade (entry_in (noted stub)) name change → ChangeLetters ghosts was now name change
   commit_letters was now deed put at answer stub disks disks_after says cause name change made =
       entry_letters was now deed put at answer (entry_of stub) disks disks_after says cause name change (made_by stub name change made)

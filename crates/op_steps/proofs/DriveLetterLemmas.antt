@@ -22,9 +22,9 @@ use Rattle.register_file.specs.Table.{HasFault}
 use Rattle.register_file.specs.declared.record.RegFile.{RegFile}
 use Rattle.register_file.proofs.Lawful.{register_lawful}
 use Rattle.register_core.specs.Found.{RefusedLetter, found_at}
-use Rattle.register_core.specs.Looking.{LaneIsRead, LanesAreRead}
-use Rattle.register_core.specs.Loops.{OnLane, WritesEach, letter_at}
-use Rattle.register_core.specs.Proposing.{quorum_of as quorum_of_draft}
+use Rattle.register_core.specs.Looks.{LaneIsRead, LanesAreRead}
+use Rattle.register_core.specs.LaneWrites.{OnLane, WritesEach, letter_at}
+use Rattle.register_core.specs.Proposals.{quorum_of as quorum_of_draft}
 use Rattle.register_core.specs.Records.{IsRegisterDamage, ShowsFile}
 use Rattle.register_core.specs.declared.drafts.Draft.{Draft}
 use Rattle.register_core.specs.declared.faults.QuorumFault.TheVariants.{WriteQuorum}
@@ -135,7 +135,7 @@ module _ {D : Type 0} (ghosts : Ghosts D) (numbers : SlotNumbers) (claim : Claim
       subst (λ (f : FileKind). LaneLetter k (Lacks f) first (view ghosts new)) (sym cause.0) (in_use, (refl, forgets cause.1))
 
   lane_letter : (nm bytes : List ℕ) (term from to : ℕ) (letters : List Why) (k : ℕ) (why : Why) (first : DriveView) (old new : D)
-      → OnLane tells files count out 0 nm bytes term from to letters k why old new → first.count ≤ count old
+      → OnLane ghosts out 0 nm bytes term from to letters k why old new → first.count ≤ count old
       → (letter_at letters k ≢ Good → LaneLetter k (letter_at letters k) first (view ghosts old)) → LaneLetter k why first (view ghosts new)
   lane_letter nm bytes term from to letters k why first old new on up before = elim on [
     | inl gone ↦ subst (λ (w : Why). LaneLetter k w first (view ghosts new)) (sym gone.letter) gone.out_is
@@ -164,7 +164,7 @@ module _ {D : Type 0} (ghosts : Ghosts D) (numbers : SlotNumbers) (claim : Claim
     abbrev pub Rises : List D → Type 0
     Rises now = (k : ℕ) (d : D) → k < length was → k < length now → count (slice_index_or was k d) ≤ count (slice_index_or now k d)
 
-    pub rises_on : (mid new : List D) → length new ≡ length mid → Rises mid → Up tells files count (length mid) mid new → Rises new
+    pub rises_on : (mid new : List D) → length new ≡ length mid → Rises mid → Up ghosts (length mid) mid new → Rises new
     rises_on mid new long first more k d low there =
         let here : k < length mid = omega (arith, long, there) in
         let a = first k d low here in
@@ -172,12 +172,12 @@ module _ {D : Type 0} (ghosts : Ghosts D) (numbers : SlotNumbers) (claim : Claim
         omega (arith, a, b)
 
     pub looked_lettered : (found : List (Option RegFile)) (whys : List Why) (mid : List D)
-        → LanesAreRead tells files count out most name found whys was mid → Lettered whys mid
+        → LanesAreRead ghosts out most name found whys was mid → Lettered whys mid
     looked_lettered found whys mid read k d in_set low there = read_letter k (found_at found k) (letter_at whys k) (slice_index_or was k d) (slice_index_or mid k d)
         (read.each k d low)
 
     loop_lettered : (nm bytes : List ℕ) (term from to : ℕ) (letters whys : List Why) (old new : List D)
-        → WritesEach tells files count out 0 nm bytes term from to letters whys old new → Rises old → BadLettered letters old → Lettered whys new
+        → WritesEach ghosts out 0 nm bytes term from to letters whys old new → Rises old → BadLettered letters old → Lettered whys new
     loop_lettered nm bytes term from to letters whys old new wrote up before k d in_set low there =
         let long = wrote.long in
         let here : k < length old = omega (arith, long, there) in
@@ -187,15 +187,15 @@ module _ {D : Type 0} (ghosts : Ghosts D) (numbers : SlotNumbers) (claim : Claim
     -- both writes of a draft that too few lanes took
     module _ (draft : Draft) (term from to : ℕ) (old new : List D) (up : Rises old) (before : BadLettered draft.letters old)
         (begun : good_count draft.letters < quorum_of_draft draft → Lettered draft.letters old) where
-      marked : (whys : List Why) → MarksTaken tells files count draft out term from to (Err (WriteQuorum whys)) old new → Lettered whys new
+      marked : (whys : List Why) → MarksTaken ghosts draft out term from to (Err (WriteQuorum whys)) old new → Lettered whys new
       marked whys x =
-          let more = taken_up tells files count (length old) draft out term from to (Err (WriteQuorum whys)) old new refl x in
+          let more = taken_up ghosts (length old) draft out term from to (Err (WriteQuorum whys)) old new refl x in
           let first : Lettered x.took.whys x.mid = loop_lettered _ _ term from x.middle draft.letters x.took.whys old x.mid x.proposes.2 up before in
           loop_lettered _ _ term x.middle to x.took.whys whys x.mid new
-          (subst (λ (o : ℕ). WritesEach tells files count o 0 _ _ term x.middle to x.took.whys whys x.mid new) x.proposes.0 x.marks.2)
+          (subst (λ (o : ℕ). WritesEach ghosts o 0 _ _ term x.middle to x.took.whys whys x.mid new) x.proposes.0 x.marks.2)
           (rises_on old x.mid more.0 up more.1) (λ k d in_set low there bad. first k d in_set low there)
 
-      pub both_lettered : (whys : List Why) → WritesBoth tells files count draft out term from to (Err (WriteQuorum whys)) old new
+      pub both_lettered : (whys : List Why) → WritesBoth ghosts draft out term from to (Err (WriteQuorum whys)) old new
           → Lettered whys new × (good_count whys < quorum_of_draft draft)
       both_lettered whys did = elim did [
         | inl (inl none) ↦ (

@@ -9,6 +9,7 @@ use Rattle.call_types.specs.declared.why.FileKind.{FileKind}
 use Rattle.call_types.specs.declared.why.FileKind.TheVariants.{Format, Register}
 use Rattle.call_types.specs.declared.why.Why.{Why}
 use Rattle.call_types.specs.declared.why.Why.TheVariants.{Behind, Damaged, Failed, Good, Lacks}
+use Rattle.drive_base.specs.declared.drive.Drive.{Ghosts}
 use Rattle.drive_base.specs.DriveSet.{count_in}
 use Rattle.drive_base.specs.Files.{Files}
 use Rattle.fault_base.specs.Counts.{Rose}
@@ -20,11 +21,11 @@ use Rattle.vote_core.specs.Row.{is_good as is_good_row}
 use Rattle.vote_core.specs.Verdict.{good_rows}
 use Rattle.vote_core.specs.declared.row.Row.{Row}
 use Rattle.register_core.specs.Found.{found_at}
-use Rattle.register_core.specs.Looking.{LanesAreRead}
-use Rattle.register_core.specs.Loops.{OnLane, WritesEach, letter_at}
-use Rattle.register_core.specs.Proposing.{Proposes, quorum_of}
+use Rattle.register_core.specs.Looks.{LanesAreRead}
+use Rattle.register_core.specs.LaneWrites.{OnLane, WritesEach, letter_at}
+use Rattle.register_core.specs.Proposals.{Proposes, quorum_of}
 use Rattle.register_core.specs.Records.{HasLane}
-use Rattle.register_core.specs.Serving.{IsWithin, ServingLaneIsRead}
+use Rattle.register_core.specs.ServingLanes.{IsWithin, ServingLaneIsRead}
 use Rattle.register_core.specs.declared.drafts.Draft.{Draft}
 use Rattle.register_core.specs.declared.faults.QuorumFault.{QuorumFault}
 use Rattle.register_core.specs.declared.faults.QuorumFault.TheVariants.{NoMemory, ReadQuorum, Undecided, WriteQuorum}
@@ -83,38 +84,38 @@ write_taken Forgets (Damaged damage) there old new cause calm forgets = absurd c
 write_taken Forgets (Behind ballot) there old new cause calm forgets = absurd cause
 write_taken Forgets (Lacks kind) there old new cause calm forgets = inr (forgets cause.1, ap (λ (f : FileKind). Lacks f) cause.0)
 
-module _ {D : Type 0} (tells : D → Bool) (files : D → Files) (count : D → ℕ) where
+module _ {D : Type 0} (ghosts : Ghosts D) where
   -- the lanes of a set tell, and show what they keep of a register, which are these records, of contents that are not too long
   abbrev pub ShowRecords : ℕ → ℕ → List ℕ → ℕ → List Lane → List D → Type 0
-  ShowRecords n serving name longest lanes old = (k : ℕ) (d : D) → k < n → IsBitSet serving k → IsTrue (tells (slice_index_or old k d))
-      × ((files (slice_index_or old k d)).shown name ≡ (files (slice_index_or old k d)).kept name)
-      × HasLane ((files (slice_index_or old k d)).kept name) (lane_at lanes k) × IsWithin longest (lane_at lanes k)
+  ShowRecords n serving name longest lanes old = (k : ℕ) (d : D) → k < n → IsBitSet serving k → IsTrue (ghosts.tells (slice_index_or old k d))
+      × ((ghosts.files (slice_index_or old k d)).shown name ≡ (ghosts.files (slice_index_or old k d)).kept name)
+      × HasLane ((ghosts.files (slice_index_or old k d)).kept name) (lane_at lanes k) × IsWithin longest (lane_at lanes k)
 
   -- lanes that serve are read
   pub read_good : ServingLaneIsRead → (n longest out serving : ℕ) (name : List ℕ) (found : List (Option RegFile)) (whys : List Why) (lanes : List Lane)
-      (old new : List D) → length old ≡ n → LanesAreRead tells files count out (longest_file longest) name found whys old new
-      → AreCalm tells files count n out serving old new → ShowRecords n serving name longest lanes old → AreGood n serving whys
+      (old new : List D) → length old ≡ n → LanesAreRead ghosts out (longest_file longest) name found whys old new
+      → AreCalm ghosts n out serving old new → ShowRecords n serving name longest lanes old → AreGood n serving whys
   read_good law n longest out serving name found whys lanes old new long read calm show k low bit =
       let here : k < length old = omega (arith, long, low) in
       let d = element old k here in
       let lane = calm k d low bit in
       let shows = show k d low bit in
-      law longest out k name (found_at found k) (letter_at whys k) (tells (slice_index_or old k d)) (files (slice_index_or old k d))
-      (count (slice_index_or old k d)) (count (slice_index_or new k d)) (lane_at lanes k) (read.each k d here) lane.0 shows.0 lane.1 shows.1 shows.2 shows.3
+      law longest out k name (found_at found k) (letter_at whys k) (ghosts.tells (slice_index_or old k d)) (ghosts.files (slice_index_or old k d))
+      (ghosts.count (slice_index_or old k d)) (ghosts.count (slice_index_or new k d)) (lane_at lanes k) (read.each k d here) lane.0 shows.0 lane.1 shows.1 shows.2 shows.3
 
-  module _ (Forgets : Type 0) (forgets : (d : D) → (IsTrue (tells d) → ⊥) → Forgets) where
+  module _ (Forgets : Type 0) (forgets : (d : D) → (IsTrue (ghosts.tells d) → ⊥) → Forgets) where
     lane_taken : (out : ℕ) (name bytes : List ℕ) (term from to : ℕ) (letters : List Why) (k : ℕ) (why : Why) (old new : D)
-        → OnLane tells files count out 0 name bytes term from to letters k why old new → (IsBitSet out k → ⊥) → (Rose (count old) (count new) → ⊥)
+        → OnLane ghosts out 0 name bytes term from to letters k why old new → (IsBitSet out k → ⊥) → (Rose (ghosts.count old) (ghosts.count new) → ⊥)
         → IsTaken Forgets (letter_at letters k) → IsTaken Forgets why
     lane_taken out name bytes term from to letters k why old new on in_use calm before = elim on [
       | inl gone ↦ absurd (in_use gone.out_is)
       | inr (inl kept) ↦ subst (IsTaken Forgets) (sym kept.letter_is) before
-      | inr (inr done) ↦ write_taken Forgets why (IsTrue (tells old)) (count old) (count new) done.1.cause calm (forgets old)
+      | inr (inr done) ↦ write_taken Forgets why (IsTrue (ghosts.tells old)) (ghosts.count old) (ghosts.count new) done.1.cause calm (forgets old)
     ]
 
     -- lanes that serve take the writes of a loop
     loop_taken : (n out serving : ℕ) (name bytes : List ℕ) (term from to : ℕ) (letters whys : List Why) (old new : List D) → length old ≡ n
-        → WritesEach tells files count out 0 name bytes term from to letters whys old new → AreCalm tells files count n out serving old new
+        → WritesEach ghosts out 0 name bytes term from to letters whys old new → AreCalm ghosts n out serving old new
         → AreTaken n serving Forgets letters → AreTaken n serving Forgets whys
     loop_taken n out serving name bytes term from to letters whys old new long wrote calm before k low bit =
         let here : k < length old = omega (arith, long, low) in
@@ -125,7 +126,7 @@ module _ {D : Type 0} (tells : D → Bool) (files : D → Files) (count : D → 
 
     -- enough lanes that serve, whose letters were good, don't refuse both writes of a draft
     module _ (n serving : ℕ) (draft : Draft) (out term from to : ℕ) (old new : List D) (long : length old ≡ n) (lettered : length draft.letters ≡ n)
-        (calm : AreCalm tells files count n out serving old new) (good : AreGood n serving draft.letters)
+        (calm : AreCalm ghosts n out serving old new) (good : AreGood n serving draft.letters)
         (enough : quorum_of draft ≤ count_in serving n) where
       full : (whys : List Why) → length whys ≡ n → AreTaken n serving Forgets whys
           → ((k : ℕ) → IsBitSet serving k → Forgets → letter_at whys k ≡ Lacks Register → ⊥) → good_count whys < quorum_of draft → ⊥
@@ -134,7 +135,7 @@ module _ {D : Type 0} (tells : D → Bool) (files : D → Files) (count : D → 
           absurd (omega (arith, most, few, enough))
 
       propose_taken : (whys : List Why) → ((k : ℕ) → IsBitSet serving k → Forgets → letter_at whys k ≡ Lacks Register → ⊥)
-          → Proposes tells files count draft out term from to (Err (WriteQuorum whys)) old new → ⊥
+          → Proposes ghosts draft out term from to (Err (WriteQuorum whys)) old new → ⊥
       propose_taken whys none did = elim did [
         | inl begun ↦ let most = good_enough n serving draft.letters lettered good in let few = begun.few in absurd (omega (arith, most, few, enough))
         | inr tried ↦
@@ -144,20 +145,20 @@ module _ {D : Type 0} (tells : D → Bool) (files : D → Files) (count : D → 
       ]
 
       mark_taken : (whys : List Why) → ((k : ℕ) → IsBitSet serving k → Forgets → letter_at whys k ≡ Lacks Register → ⊥)
-          → MarksTaken tells files count draft out term from to (Err (WriteQuorum whys)) old new → ⊥
+          → MarksTaken ghosts draft out term from to (Err (WriteQuorum whys)) old new → ⊥
       mark_taken whys none x =
-          let up = taken_up tells files count n draft out term from to (Err (WriteQuorum whys)) old new long x in
+          let up = taken_up ghosts n draft out term from to (Err (WriteQuorum whys)) old new long x in
           let first = x.proposes.2 in
           let second = x.marks.2 in
           let taken : AreTaken n serving Forgets x.took.whys = loop_taken n out serving _ _ term from x.middle draft.letters x.took.whys old x.mid long first
-          (calm_first tells files count n out serving old x.mid new up.3 calm) (λ k low bit. inl (good k low bit)) in
-          let later : AreCalm tells files count n x.took.out serving x.mid new =
-          subst (λ (o : ℕ). AreCalm tells files count n o serving x.mid new) (sym x.proposes.0) (calm_last tells files count n out serving old x.mid new up.1 calm) in
+          (calm_first ghosts n out serving old x.mid new up.3 calm) (λ k low bit. inl (good k low bit)) in
+          let later : AreCalm ghosts n x.took.out serving x.mid new =
+          subst (λ (o : ℕ). AreCalm ghosts n o serving x.mid new) (sym x.proposes.0) (calm_last ghosts n out serving old x.mid new up.1 calm) in
           full whys (second.counted ∙ (first.counted ∙ lettered))
           (loop_taken n x.took.out serving _ _ term x.middle to x.took.whys whys x.mid new (up.0 ∙ long) second later taken) none x.marks.0
 
       pub both_taken : (fault : QuorumFault) → ((whys : List Why) → fault ≡ WriteQuorum whys → (k : ℕ) → IsBitSet serving k → Forgets
-          → letter_at whys k ≡ Lacks Register → ⊥) → WritesBoth tells files count draft out term from to (Err fault) old new → ⊥
+          → letter_at whys k ≡ Lacks Register → ⊥) → WritesBoth ghosts draft out term from to (Err fault) old new → ⊥
       both_taken (ReadQuorum whys) none did = elim did [ inl refused ↦ absurd refused | inr taken ↦ absurd taken.marks ]
       both_taken (WriteQuorum whys) none did = elim did [
         | inl refused ↦ propose_taken whys (none whys refl) refused

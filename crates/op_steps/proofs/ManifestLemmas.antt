@@ -14,6 +14,7 @@ use Rattle.call_types.specs.Good.{good_count, is_good}
 use Rattle.call_types.specs.declared.why.FileKind.TheVariants.{Format, Manifest as TheManifest, Register, Shard}
 use Rattle.call_types.specs.declared.why.Why.{Why}
 use Rattle.call_types.specs.declared.why.Why.TheVariants.{Behind, Damaged, Failed, Good, Lacks}
+use Rattle.drive_base.specs.declared.drive.Drive.{Ghosts}
 use Rattle.drive_base.specs.DriveSet.{count_in, is_in}
 use Rattle.drive_base.specs.Files.{Files}
 use Rattle.drive_base.specs.declared.plan.SetPlan.{SetPlan}
@@ -28,7 +29,7 @@ use Rattle.manifest_file.specs.declared.manifest.TheConstants.{LONGEST_FILE}
 use Rattle.manifest_file.proofs.LawProofs.{files_injective, spelling_found}
 use Rattle.body_print.specs.Names.{manifest_name}
 use Rattle.register_file.specs.declared.record.Adds.{Adds}
-use Rattle.register_core.specs.Loops.{letter_at}
+use Rattle.register_core.specs.LaneWrites.{letter_at}
 use Rattle.register_core.specs.Manifests.{AreManifestLetters, IsManifestDamage, ManifestLetter, NamesSet, Verifies}
 use Rattle.register_core.proofs.SeenLemmas.{element}
 
@@ -138,20 +139,20 @@ both_count n one other whys long good = subst (λ (m : ℕ). count_in one m + co
     let same : 0 + k ≡ k = omega arith in
     good k (omega (arith, long, low)) (subst (IsBitSet one) same bit) (subst (IsBitSet other) same also)))
 
-module _ {D : Type 0} (tells : D → Bool) (files : D → Files) (count : D → ℕ) where
+module _ {D : Type 0} (ghosts : Ghosts D) where
   -- data drives that serve and show a manifest, among those of another set that keep it
   abbrev pub ShowManifest : SetPlan → Adds → ℕ → ℕ → Manifest → List D → List D → Type 0
   ShowManifest set adds serving holding m old new = (k : ℕ) (d : D) → k < set.drives → IsBitSet serving k → IsBitSet holding k
-      → (IsBitSet set.out k → ⊥) × IsTrue (tells (slice_index_or old k d)) × (Rose (count (slice_index_or old k d)) (count (slice_index_or new k d)) → ⊥)
-      × ((files (slice_index_or old k d)).shown (manifest_name adds.id) ≡ Some (file_of m)) × Verifies set adds.print m
+      → (IsBitSet set.out k → ⊥) × IsTrue (ghosts.tells (slice_index_or old k d)) × (Rose (ghosts.count (slice_index_or old k d)) (ghosts.count (slice_index_or new k d)) → ⊥)
+      × ((ghosts.files (slice_index_or old k d)).shown (manifest_name adds.id) ≡ Some (file_of m)) × Verifies set adds.print m
 
   pub holders_counted : ManifestsAreNoLonger LONGEST_FILE → (set : SetPlan) (adds : Adds) (whys : List Why) (serving holding : ℕ) (m : Manifest) (old new : List D)
-      → length old ≡ set.drives → AreManifestLetters tells files count set adds whys old new → ShowManifest set adds serving holding m old new
+      → length old ≡ set.drives → AreManifestLetters ghosts set adds whys old new → ShowManifest set adds serving holding m old new
       → count_in serving set.drives + count_in holding set.drives ≤ good_count whys + set.drives
   holders_counted lengths set adds whys serving holding m old new long letters show =
       both_count set.drives serving holding whys (letters.counted ∙ long) (λ k low bit also.
       let here : k < length old = omega (arith, long, low) in
       let d = element old k here in
       let s = show k d low bit also in
-      letter_good lengths set adds (letter_at whys k) (IsBitSet set.out k) (tells (slice_index_or old k d)) (files (slice_index_or old k d))
-      (count (slice_index_or old k d)) (count (slice_index_or new k d)) m (letters.each k d here) s.0 s.1 s.2 s.3 s.4)
+      letter_good lengths set adds (letter_at whys k) (IsBitSet set.out k) (ghosts.tells (slice_index_or old k d)) (ghosts.files (slice_index_or old k d))
+      (ghosts.count (slice_index_or old k d)) (ghosts.count (slice_index_or new k d)) m (letters.each k d here) s.0 s.1 s.2 s.3 s.4)

@@ -9,6 +9,7 @@ use Rattle.stamp_id.proofs.IdLemmas.{id_bytes-injective}
 use Rattle.sha2.specs.Sha256.{sha256}
 use Rattle.call_types.specs.declared.why.Why.{Why}
 use Rattle.call_types.specs.declared.why.Why.TheVariants.{Good}
+use Rattle.drive_base.specs.declared.drive.Drive.{Ghosts}
 use Rattle.drive_base.specs.DriveSet.{count_in}
 use Rattle.drive_base.specs.Files.{Files}
 use Rattle.drive_base.specs.Plan.{data_drives, write_drives}
@@ -29,10 +30,10 @@ use Rattle.vote_core.specs.Row.{is_good as is_good_row}
 use Rattle.vote_core.specs.Shown.{IsRead}
 use Rattle.vote_core.specs.declared.row.Row.TheVariants.{Bad}
 use Rattle.register_core.specs.Found.{found_at}
-use Rattle.register_core.specs.Looking.{IsUndecided, LaneIsRead, LanesAreRead}
-use Rattle.register_core.specs.Loops.{letter_at}
+use Rattle.register_core.specs.Looks.{IsUndecided, LaneIsRead, LanesAreRead}
+use Rattle.register_core.specs.LaneWrites.{letter_at}
 use Rattle.register_core.specs.Records.{added_of, next_of, row_of}
-use Rattle.register_core.specs.Serving.{ServingLaneIsRead}
+use Rattle.register_core.specs.ServingLanes.{ServingLaneIsRead}
 use Rattle.register_core.proofs.SeenLemmas.{element}
 use Rattle.slot_history.specs.Contents.{NamedData}
 use Rattle.slot_history.specs.Standing.{Records, StandsUnder}
@@ -50,9 +51,9 @@ good_row most name (Some file) why out tells files old new is good = refl
 good_row most name None why out tells files old new is good =
     absurd (subst (λ (w : Why). LaneIsRead most name None w out tells files old new) good is)
 
-module _ {D : Type 0} (tells : D → Bool) (files : D → Files) (count : D → ℕ) where
+module _ {D : Type 0} (ghosts : Ghosts D) where
   lane_read : (out most : ℕ) (name : List ℕ) (found : List (Option RegFile)) (whys : List Why) (lanes : List Lane) (old new : List D) (k : ℕ)
-      → LanesAreRead tells files count out most name found whys old new → length lanes ≡ length old → k < length lanes → letter_at whys k ≡ Good
+      → LanesAreRead ghosts out most name found whys old new → length lanes ≡ length old → k < length lanes → letter_at whys k ≡ Good
       → IsRead (map row_of found) lanes k
   lane_read out most name found whys lanes old new k read long inside good =
       let here : k < length old = omega (arith, long, inside) in
@@ -61,21 +62,21 @@ module _ {D : Type 0} (tells : D → Bool) (files : D → Files) (count : D → 
       record {
         there = inside;
         good = ap is_good_row (get_or-map row_of found k None Bad (omega (arith, counted, here)))
-            ∙ good_row most name (found_at found k) (letter_at whys k) (IsBitSet out k) (tells (slice_index_or old k d)) (files (slice_index_or old k d))
-            (count (slice_index_or old k d)) (count (slice_index_or new k d)) (read.each k d here) good;
+            ∙ good_row most name (found_at found k) (letter_at whys k) (IsBitSet out k) (ghosts.tells (slice_index_or old k d)) (ghosts.files (slice_index_or old k d))
+            (ghosts.count (slice_index_or old k d)) (ghosts.count (slice_index_or new k d)) (read.each k d here) good;
       }
 
   -- data drives of a set serve, tell, and show of each manifest what counts as kept
   abbrev pub ServeData : SetPlan → ℕ → Disks → List D → List D → Type 0
   ServeData set serving disks old new = (k : ℕ) (d : D) → k < set.drives → IsBitSet serving k
-      → (IsBitSet set.out k → ⊥) × IsTrue (tells (slice_index_or old k d)) × (Rose (count (slice_index_or old k d)) (count (slice_index_or new k d)) → ⊥)
-      × ((id : VersionId) → (files (slice_index_or old k d)).shown (manifest_name id) ≡ kept_on disks k (manifest_name id))
+      → (IsBitSet set.out k → ⊥) × IsTrue (ghosts.tells (slice_index_or old k d)) × (Rose (ghosts.count (slice_index_or old k d)) (ghosts.count (slice_index_or new k d)) → ⊥)
+      × ((id : VersionId) → (ghosts.files (slice_index_or old k d)).shown (manifest_name id) ≡ kept_on disks k (manifest_name id))
 
   module _ (lengths : ManifestsAreNoLonger LONGEST_FILE) (set : SetPlan) (adds : Adds) (named : NamedData) (name : List ℕ) (serving : ℕ) (kept : Disks)
       (disks disks_after : List D) (serve : ServeData set serving kept disks disks_after) (h : HasHolders set kept named name) (id_is : adds.id ≡ named.id)
       (print_is : adds.print ≡ named.print) where
     -- the holders of a change's data that serve show its manifest
-    holders_show : ShowManifest tells files count set adds serving h.held.mask h.manifest disks disks_after
+    holders_show : ShowManifest ghosts set adds serving h.held.mask h.manifest disks disks_after
     holders_show k d low bit also =
         let s = serve k d low bit in
         let holder = h.held.each k low also in
@@ -101,14 +102,14 @@ module _ {D : Type 0} (tells : D → Bool) (files : D → Files) (count : D → 
       (name : List ℕ) (rule : List ℕ → Option ℕ) (longest serving disks_serving : ℕ) (old new disks disks_after : List D)
       (held : IsHeld state.registers name) (under : StandsUnder (write_drives set.drives set.parity) last (records name) state name)
       (holders : HoldersStand set records state kept)
-      (lanes : RegisterServes tells files count set serving name rule longest (records name) old new)
+      (lanes : RegisterServes ghosts set serving name rule longest (records name) old new)
       (marked : (k : ℕ) × (k < length (records name)) × IsBitSet serving k × ((lane_at (records name) k).base.change ≡ (state.registers name).change))
       (long : length disks ≡ set.drives) (serve : ServeData set disks_serving kept disks disks_after)
       (enough : set.drives + data_drives set.drives set.parity ≤ count_in disks_serving set.drives + write_drives set.drives set.parity)
-      (k u : ℕ) (whys : List Why) (x : IsUndecided tells files count set set.out name longest k u whys old new disks disks_after) where
+      (k u : ℕ) (whys : List Why) (x : IsUndecided ghosts set set.out name longest k u whys old new disks disks_after) where
     no_holders : (named : NamedData) → HasHolders set kept named name → x.adds.id ≡ named.id → x.adds.print ≡ named.print → ⊥
     no_holders named h id_is print_is =
-        let both = holders_counted tells files count lengths set x.adds whys disks_serving h.held.mask h.manifest disks disks_after long x.looked_for
+        let both = holders_counted ghosts lengths set x.adds whys disks_serving h.held.mask h.manifest disks disks_after long x.looked_for
         (holders_show lengths set x.adds named name disks_serving kept disks disks_after serve h id_is print_is) in
         let few = x.few in
         let many = h.held.enough in
@@ -120,7 +121,7 @@ module _ {D : Type 0} (tells : D → Bool) (files : D → Files) (count : D → 
         let finds = seen.finds last (state.registers name).change (state.registers name).content under.holds in
         elim finds.found [
           | inl own ↦
-              let good = looked_good tells files count law (Unit {0}) (λ d no. tt) set serving name rule longest (records name) old new lanes x.found x.letters new x.read
+              let good = looked_good ghosts law (Unit {0}) (λ d no. tt) set serving name rule longest (records name) old new lanes x.found x.letters new x.read
               (λ j d low. omega arith) in
               let counted = lanes.are.counted in
               let long_old = lanes.long_old in

@@ -21,8 +21,8 @@ use Rattle.drive_base.proofs.ViewLemmas.{length-views, view_at-views}
 use Rattle.fault_base.specs.Counts.{Rose}
 use Rattle.manifest_file.specs.Table.{ManifestsAreNoLonger}
 use Rattle.manifest_file.specs.declared.manifest.TheConstants.{LONGEST_FILE}
-use Rattle.register_core.specs.Loops.{letter_at}
-use Rattle.register_core.specs.Serving.{ServingLaneIsRead}
+use Rattle.register_core.specs.LaneWrites.{letter_at}
+use Rattle.register_core.specs.ServingLanes.{ServingLaneIsRead}
 use Rattle.register_core.specs.declared.faults.QuorumFault.{QuorumFault}
 use Rattle.register_core.specs.declared.faults.QuorumFault.TheVariants.{NoMemory, ReadQuorum, Undecided, WriteQuorum}
 use Rattle.manifest_file.proofs.Sizes.{no_longer}
@@ -99,7 +99,7 @@ module _ {D : Type 0} (ghosts : Ghosts D) where
   serve_data : (set : SetPlan) (index last : ℕ) (holding : Holding) (unseen : Disks) (old new : List D) (claims : List Claim) (records : Records) (state : State)
       (disks : ℕ) → HoldsAt set index last holding unseen (views ghosts old) claims records state → length old ≡ set.drives → length new ≡ set.drives
       → DrivesServe IsManifestName set.out disks (views ghosts old) (views ghosts new)
-      → ServeData ghosts.tells ghosts.files ghosts.count set disks (disks_of unseen set.out (views ghosts old)) old new
+      → ServeData ghosts set disks (disks_of unseen set.out (views ghosts old)) old new
   serve_data set index last holding unseen old new claims records state disks holds long_old long_new serve k d low bit =
       let s = serve_each IsManifestName set.out disks set.drives old new long_old long_new serve k d low bit in
       let here : k < length old = omega (arith, long_old, low) in
@@ -138,7 +138,7 @@ module _ {D : Type 0} (ghosts : Ghosts D) where
         → DriveServes (IsNameOf note.entry) was.numbers.set.out k (view ghosts (slice_index_or was.lanes k d)) (view ghosts (slice_index_or now.lanes k d))
     each_lane = serve_each (IsNameOf note.entry) was.numbers.set.out lanes was.numbers.set.drives was.lanes now.lanes long_was long_now lanes_serve
 
-    are_calm : AreCalm ghosts.tells ghosts.files ghosts.count was.numbers.set.drives was.numbers.set.out lanes was.lanes now.lanes
+    are_calm : AreCalm ghosts was.numbers.set.drives was.numbers.set.out lanes was.lanes now.lanes
     are_calm k d low bit = let s = each_lane k d low bit in (s.in_use, s.calm)
 
     -- the register of the entry
@@ -150,7 +150,7 @@ module _ {D : Type 0} (ghosts : Ghosts D) where
       plain = subst IsOfNoPart is no_part
 
       serves : (rule : List ℕ → Option ℕ) (longest : ℕ) → Accepts rule longest (records made.name)
-          → RegisterServes ghosts.tells ghosts.files ghosts.count was.numbers.set lanes made.name rule longest (records made.name) was.lanes now.lanes
+          → RegisterServes ghosts was.numbers.set lanes made.name rule longest (records made.name) was.lanes now.lanes
       serves rule longest content = record {
         long_old = long_was;
         long_new = long_now;
@@ -173,13 +173,13 @@ module _ {D : Type 0} (ghosts : Ghosts D) where
         held_data = subst (λ (l : List DriveView). HoldsAt was.numbers.set was.numbers.index (last_of was.numbers) was.holding unseen l claims records state)
             (sym old_is) holds
 
-        data_serves : ServeData ghosts.tells ghosts.files ghosts.count was.numbers.set disks (disks_of unseen was.numbers.set.out (views ghosts disks_old)) disks_old disks_new
+        data_serves : ServeData ghosts was.numbers.set disks (disks_of unseen was.numbers.set.out (views ghosts disks_old)) disks_old disks_new
         data_serves = serve_data was.numbers.set was.numbers.index (last_of was.numbers) was.holding unseen disks_old disks_new claims records state disks held_data
             long_old long_new (subst₂ (λ (l m : List DriveView). DrivesServe IsManifestName was.numbers.set.out disks l m) (sym old_is) (sym new_is) disks_serve)
 
         against : (rule : List ℕ → Option ℕ) (longest : ℕ) → Accepts rule longest (records made.name) → (fault : QuorumFault)
             → AreEnough ghosts was.numbers.set lanes disks (IsMarkedOn lanes records state note.entry) fault
-            → Against ghosts.tells ghosts.files ghosts.count Forgets was.numbers.set lanes made.name longest fault was.lanes now.lanes disks_old disks_new
+            → Against ghosts Forgets was.numbers.set lanes made.name longest fault was.lanes now.lanes disks_old disks_new
         against rule longest content (ReadQuorum whys) enough = record {
           reads = λ w e. enough;
           writes = λ w e. absurd cc;
@@ -204,7 +204,7 @@ module _ {D : Type 0} (ghosts : Ghosts D) where
               reads = λ w e. absurd cc;
               writes = λ w e. absurd cc;
               kept = λ w e k bit forgot letter. absurd cc;
-              decided = λ k u w e x. decided ghosts.tells ghosts.files ghosts.count law lengths was.numbers.set (last_of was.numbers) records state
+              decided = λ k u w e x. decided ghosts law lengths was.numbers.set (last_of was.numbers) records state
                   (disks_of unseen was.numbers.set.out (views ghosts disks_old)) made.name rule longest lanes disks was.lanes now.lanes disks_old disks_new held
                   (stands.stands.under made.name held) held_data.stands.holders (serves rule longest content) marked.1 long_old data_serves enough.1 k u w x;
               memory = λ e. absurd cc;
@@ -216,7 +216,7 @@ module _ {D : Type 0} (ghosts : Ghosts D) where
         look_not fault enough x =
             let content = look_accepts was.numbers.set.drives (last_of was.numbers) was.holding.flights (records made.name) made.name
             plain lawful in
-            cause_not ghosts.tells ghosts.files ghosts.count law Forgets untold_forgets was.numbers.set lanes made.name (rule_for made.name) (longest_for made.name)
+            cause_not ghosts law Forgets untold_forgets was.numbers.set lanes made.name (rule_for made.name) (longest_for made.name)
             (records made.name) was.lanes now.lanes (serves (rule_for made.name) (longest_for made.name) content) fault disks_old disks_new
             (against (rule_for made.name) (longest_for made.name) content fault enough) was.numbers now.numbers refl x.cause
 
@@ -232,17 +232,17 @@ module _ {D : Type 0} (ghosts : Ghosts D) where
         listed_not fault enough x listed = elim x.cause [
           | inl look ↦
               let content = commit_content fault x look.rule look.longest look.rule_is listed in
-              cause_not ghosts.tells ghosts.files ghosts.count law Forgets untold_forgets was.numbers.set lanes made.name look.rule look.longest
+              cause_not ghosts law Forgets untold_forgets was.numbers.set lanes made.name look.rule look.longest
               (records made.name) was.lanes now.lanes (serves look.rule look.longest content) fault disks_old disks_new
               (against look.rule look.longest content fault enough) was.numbers now.numbers refl
-              (subst (λ (n : List ℕ). LookCause ghosts.tells ghosts.files ghosts.count was.numbers now.numbers n look.rule look.longest fault was.lanes now.lanes
+              (subst (λ (n : List ℕ). LookCause ghosts was.numbers now.numbers n look.rule look.longest fault was.lanes now.lanes
               disks_old disks_new) (sym x.name_is) look.cause)
           | inr (at, reply, wrote) ↦
               let content = commit_content fault x wrote.rule wrote.longest wrote.rule_is listed in
-              own_not ghosts.tells ghosts.files ghosts.count law Forgets untold_forgets was.numbers.set lanes made.name wrote.rule wrote.longest
+              own_not ghosts law Forgets untold_forgets was.numbers.set lanes made.name wrote.rule wrote.longest
               (records made.name) was.lanes now.lanes (serves wrote.rule wrote.longest content) fault disks_old disks_new
               (against wrote.rule wrote.longest content fault enough) was.numbers now.numbers wrote.content wrote.own refl
-              (subst (λ (n : List ℕ). OwnIsWritten ghosts.tells ghosts.files ghosts.count was.numbers now.numbers n wrote.rule wrote.longest wrote.content wrote.own
+              (subst (λ (n : List ℕ). OwnIsWritten ghosts was.numbers now.numbers n wrote.rule wrote.longest wrote.content wrote.own
               (Err fault) was.lanes now.lanes disks_old disks_new) (sym x.name_is) wrote.written)
         ]
 

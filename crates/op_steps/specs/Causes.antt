@@ -26,7 +26,7 @@ use Rattle.register_file.specs.declared.record.Adds.{Adds}
 use Rattle.register_file.specs.declared.record.Next.{Next}
 use Rattle.register_file.specs.declared.record.RegFile.{RegFile}
 use Rattle.register_core.specs.Found.{HasContent}
-use Rattle.register_core.specs.Loops.{letter_at}
+use Rattle.register_core.specs.LaneWrites.{letter_at}
 use Rattle.register_core.specs.Manifests.{Verifies}
 use Rattle.register_core.specs.Records.{ShowsFile}
 use Rattle.stamp_id.specs.Rank.{change_of}

@@ -10,7 +10,7 @@ use Rattle.file_access.specs.Reading.{FailedWhile}
 use Rattle.stamp_id.specs.Rank.{change_of}
 use Rattle.stamp_id.specs.declared.stamp.ChangeId.{ChangeId}
 use Rattle.vote_core.specs.Lane.{Lane}
-use Rattle.register_core.specs.Loops.{letter_at}
+use Rattle.register_core.specs.LaneWrites.{letter_at}
 use Rattle.register_core.specs.Records.{HasLane}
 use Rattle.slot_history.specs.Standing.{Records}
 use Rattle.slot_history.specs.State.{State}

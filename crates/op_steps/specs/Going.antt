@@ -34,7 +34,7 @@ AddsNotes log old new = notes_by new ≡ notes_by old ++ notes_of log
 
 -- an event is that of a step which came next so
 abbrev pub IsEventOf : OpNext → Event → Type 0
-IsEventOf next (Turned k note shown) = next ≡ Section k
+IsEventOf next (Turned k _ shown) = next ≡ Section k
 IsEventOf next (BarredFrom k why) = next ≡ Section k
 IsEventOf next (Called k made) = next ≡ Data
 IsEventOf next (Fed bytes cut) = next ≡ Feed

@@ -35,7 +35,7 @@ module _ {D : Type 0} (ghosts : Ghosts D) where
     pub turns : Turns was.numbers now.numbers was.entries now.entries was.faults now.faults answer stub
     pub says : Says stub (SaysKept name)
     pub holds : now.holding ≡ was.holding
-    pub cause : PeekCause ghosts.tells ghosts.files ghosts.count was.numbers now.numbers name answer (completed_by stub) was.lanes now.lanes old new
+    pub cause : PeekCause ghosts was.numbers now.numbers name answer (completed_by stub) was.lanes now.lanes old new
     pub leaves : Leaves ghosts.tells ghosts.files was.numbers now.numbers was.holding now.holding was.lanes now.lanes stub (ShowsContent name answer) HandsStay
     pub read : AreOnlyRead old new
 

@@ -26,7 +26,7 @@ module _ {D : Type 0} (ghosts : Ghosts D) where
     pub turns : TurnsUnspent was.numbers now.numbers was.entries now.entries was.faults now.faults answer stub
     pub says : Says stub SaysNothing
     pub holds : now.holding ≡ was.holding
-    pub lists : ListsNames ghosts.tells ghosts.files ghosts.count was.numbers.set from most answer was.lanes now.lanes
+    pub lists : ListsNames ghosts was.numbers.set from most answer was.lanes now.lanes
     pub leaves : Leaves ghosts.tells ghosts.files was.numbers now.numbers was.holding now.holding was.lanes now.lanes stub (ShowsNames from most answer) HandsStay
 
   -- it is a step that leaves any claim, and the data drives

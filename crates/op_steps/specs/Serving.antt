@@ -14,7 +14,7 @@ use Rattle.drive_base.specs.declared.plan.SetPlan.{SetPlan}
 use Rattle.fault_base.specs.Counts.{Rose}
 use Rattle.stamp_id.specs.declared.version.VersionId.{VersionId}
 use Rattle.vote_core.specs.Lane.{lane_at}
-use Rattle.register_core.specs.Loops.{letter_at}
+use Rattle.register_core.specs.LaneWrites.{letter_at}
 use Rattle.register_core.specs.declared.faults.QuorumFault.{QuorumFault}
 use Rattle.register_core.specs.declared.faults.QuorumFault.TheVariants.{NoMemory, ReadQuorum, Undecided, WriteQuorum}
 use Rattle.slot_history.specs.Standing.{Records}

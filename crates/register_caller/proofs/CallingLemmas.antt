@@ -1,9 +1,10 @@
 -- What a caller of the register concludes: lanes that a look left, and the premises of a forward.
 use Rattle.std.proofs.Common.{◌≡◌, ◌<◌, ◌≤◌, ◌+◌, ◌∙◌, ℕ, List, Option, Some, length, map, ap, subst, sym, refl, inl, inr, arith}
-use Rattle.std.specs.Prelude.{Bool, IsTrue, Contains, slice_index_or}
+use Rattle.std.specs.Prelude.{Bool, IsTrue, Contains, slice_index_or, Result, Ok, Err}
 use Rattle.std.proofs.lemmas.List.Elements.{Contains-get_or}
 use Rattle.call_types.specs.Good.{is_good}
 use Rattle.call_types.specs.declared.why.Why.{Why}
+use Rattle.drive_base.specs.declared.drive.Drive.{Ghosts}
 use Rattle.drive_base.specs.Files.{Files}
 use Rattle.register_file.specs.declared.record.Next.{Next}
 use Rattle.stamp_id.specs.Rank.{rank_of}
@@ -12,19 +13,18 @@ use Rattle.vote_core.specs.Row.{is_good as is_good_row}
 use Rattle.vote_core.specs.Lane.{Lane, HasNext, blank_lane, lane_at, Next as LaneNext}
 use Rattle.vote_core.specs.Laws.{AboveLastIsFresh}
 use Rattle.vote_core.specs.Sound.{HoldsValue}
-use Rattle.register_caller.specs.Calling.{StaysOrSteps}
-use Rattle.register_core.specs.Keeping.{MayPropose}
+use Rattle.register_caller.specs.BothWrites.{StaysOrSteps}
+use Rattle.register_core.specs.LaneMoves.{MayPropose}
 use Rattle.register_core.specs.Loose.{loose_name}
 use Rattle.register_core.specs.OnLanes.{AllTell, AreLanes, AreUnused}
-use Rattle.register_core.specs.Proposing.{Marks, Proposes}
+use Rattle.register_core.specs.Proposals.{Marks, Proposes}
 use Rattle.register_core.specs.Records.{HasLane, again_of, base_of, next_of}
 use Rattle.register_core.specs.Seen.{FindsValueOr}
 use Rattle.register_core.specs.declared.drafts.Draft.{Draft}
 use Rattle.register_core.specs.declared.faults.QuorumFault.{QuorumFault}
 use Rattle.register_core.specs.declared.faults.QuorumFault.TheVariants.{ReadQuorum, WriteQuorum, Undecided, NoMemory}
-use Rattle.register_core.specs.declared.looked.Looked.{Looked}
-use Rattle.register_core.specs.declared.proposing.Prepared.{Prepared}
-use Rattle.std.specs.Prelude.{Result, Ok, Err}
+use Rattle.register_core.specs.declared.looks.Looked.{Looked}
+use Rattle.register_core.specs.declared.proposals.Prepared.{Prepared}
 
 module _ {D : Type 0} (tells : D → Bool) (files : D → Files) where
   -- drives that tell as before
@@ -50,10 +50,10 @@ module _ {D : Type 0} (tells : D → Bool) (files : D → Files) where
       let low : k < length old = omega arith in
       ap (λ (f : Files). f.loose (loose_name term later)) (stay k d low (told k d low in_use)) ∙ unused k d later low in_use from fits
 
-module _ {D : Type 0} (tells : D → Bool) (files : D → Files) (faults : D → ℕ) where
+module _ {D : Type 0} (ghosts : Ghosts D) where
   -- a proposal uses up at most one number for each lane
   pub propose_few : (draft : Draft) (out term from to : ℕ) (result : Result Prepared QuorumFault) (old new : List D)
-      → Proposes tells files faults draft out term from to result old new → to ≤ from + length old
+      → Proposes ghosts draft out term from to result old new → to ≤ from + length old
   propose_few draft out term from to (Ok took) old new is = is.2.few
   propose_few draft out term from to (Err (ReadQuorum whys)) old new is = absurd is
   propose_few draft out term from to (Err (WriteQuorum whys)) old new is = elim is [
@@ -65,7 +65,7 @@ module _ {D : Type 0} (tells : D → Bool) (files : D → Files) (faults : D →
 
   -- and so does a mark
   pub mark_few : (draft : Draft) (took : Prepared) (term from to : ℕ) (result : Result (List Why) QuorumFault) (later : Draft) (old new : List D)
-      → Marks tells files faults draft took term from to result later old new → to ≤ from + length old
+      → Marks ghosts draft took term from to result later old new → to ≤ from + length old
   mark_few draft took term from to (Ok whys) later old new is = is.2.few
   mark_few draft took term from to (Err (ReadQuorum whys)) later old new is = absurd is
   mark_few draft took term from to (Err (WriteQuorum whys)) later old new is = is.2.few

@@ -9,8 +9,8 @@ use Rattle.vote_core.specs.Lane.{Base, HasNext, HasRecord, Lane, Next, blank_lan
 use Rattle.vote_core.specs.Laws.{LeftMembers, LiveIsOldOrOwn, MarkLeavesNoneLive}
 use Rattle.vote_core.specs.Loops.{IsPrepared, Leaves, Stands, marked, prepared}
 use Rattle.vote_core.specs.Sound.{HoldsValue, IsLive}
-use Rattle.register_core.specs.Keeping.{MarkMoves, MayPropose}
-use Rattle.register_caller.specs.Leaving.{IsWritten, LeavesByResult, LeavesLanes, WasLive, written_of}
+use Rattle.register_core.specs.LaneMoves.{MarkMoves, MayPropose}
+use Rattle.register_caller.specs.WrittenLanes.{IsWritten, LeavesByResult, LeavesLanes, WasLive, written_of}
 use Rattle.register_caller.proofs.CallingLemmas.{own_content}
 use Rattle.register_caller.proofs.LiveLemmas.{no_next, own_next}
 

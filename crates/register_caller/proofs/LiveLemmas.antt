@@ -5,8 +5,8 @@ use Rattle.vote_core.specs.Lane.{Base, Lane, Next, HasNext}
 use Rattle.vote_core.specs.Laws.{FreshChangeStays, LiveIsOldOrOwn, MarkLeavesNoneLive, OneValue}
 use Rattle.vote_core.specs.Loops.{IsFreshChange, IsPrepared, Leaves, marked, prepared}
 use Rattle.vote_core.specs.Sound.{HoldsValue}
-use Rattle.register_core.specs.Keeping.{MarkMoves}
-use Rattle.register_caller.specs.Calling.{LiveIsLateOr}
+use Rattle.register_core.specs.LaneMoves.{MarkMoves}
+use Rattle.register_caller.specs.BothWrites.{LiveIsLateOr}
 
 -- the next of a prepared record
 pub own_next : (a : Lane) (base : Base) (own next : Next) → a ≡ prepared base own → HasNext a next → next ≡ own

@@ -1,9 +1,8 @@
 -- The premises of a forward, by what a look found pending.
 use Rattle.std.proofs.Common.{◌≡◌, ◌<◌, ◌∙◌, ℕ, List, Option, Some, Result, map, ap, subst, inl, inr}
-use Rattle.std.specs.Prelude.{Bool}
 use Rattle.std.proofs.lemmas.List.Elements.{Contains-get_or}
 use Rattle.call_types.specs.Good.{is_good}
-use Rattle.drive_base.specs.Files.{Files}
+use Rattle.drive_base.specs.declared.drive.Drive.{Ghosts}
 use Rattle.drive_base.specs.Plan.{write_drives}
 use Rattle.drive_base.specs.declared.plan.SetPlan.{SetPlan}
 use Rattle.register_file.specs.declared.record.Next.{Next}
@@ -15,13 +14,13 @@ use Rattle.vote_core.specs.Laws.{AboveLastIsFresh}
 use Rattle.vote_core.specs.Row.{is_good as is_good_row}
 use Rattle.vote_core.specs.Sound.{HoldsValue}
 use Rattle.register_core.specs.Drafts.{IsDraftAfterLook, letters_for}
-use Rattle.register_core.specs.Keeping.{MayPropose}
+use Rattle.register_core.specs.LaneMoves.{MayPropose}
 use Rattle.register_core.specs.Records.{again_of, base_of, next_of}
 use Rattle.register_core.specs.Seen.{FindsValueOr, LookedSeen}
 use Rattle.register_core.specs.declared.drafts.Draft.{Draft}
-use Rattle.register_core.specs.declared.looked.Looked.{Looked}
-use Rattle.register_caller.specs.Calling.{BothLeave, StaysOrSteps, WroteBoth}
-use Rattle.register_caller.specs.Settling.{IsPending}
+use Rattle.register_core.specs.declared.looks.Looked.{Looked}
+use Rattle.register_caller.specs.BothWrites.{BothLeave, StaysOrSteps, WroteBoth}
+use Rattle.register_caller.specs.Pending.{IsPending}
 use Rattle.register_caller.proofs.CallingLemmas.{found_steps, may_forward, pending_found}
 
 -- what a pending look found
@@ -37,7 +36,7 @@ found_pending c content lanes looked found (base_lane, lane, finds, base_is) = r
   ];
 }
 
-module _ {D : Type 0} (tells : D → Bool) (files : D → Files) where
+module _ {D : Type 0} (ghosts : Ghosts D) where
   -- what is known of both writes of a forward, on lanes that a look saw
   pub forward_seen : {T E : Type 0} → AboveLastIsFresh → (out term to : ℕ) (looked : Looked) (found : Next) (ballot : Ballot) (draft : Draft) (result : Result T E)
       (new : List D) (read : List (Option RegFile)) (lanes : List Lane) (last c : ℕ) (content : List ℕ)
@@ -45,7 +44,7 @@ module _ {D : Type 0} (tells : D → Bool) (files : D → Files) where
       → map is_good looked.whys ≡ map is_good_row looked.rows.items
       → LookedSeen (write_drives looked.set.drives looked.set.parity) read looked lanes
       → HoldsValue (write_drives looked.set.drives looked.set.parity) last lanes c content → last < rank_of ballot
-      → (wrote : WroteBoth tells files {T = T} {E = E} draft out term to looked.base (again_of looked.base ballot found) result new lanes)
+      → (wrote : WroteBoth ghosts {T = T} {E = E} draft out term to looked.base (again_of looked.base ballot found) result new lanes)
       → BothLeave {T = T} {E = E} (write_drives looked.set.drives looked.set.parity) draft.letters (base_of looked.base) (next_of (again_of looked.base ballot found)) result lanes wrote.after
       × MayPropose (write_drives looked.set.drives looked.set.parity) last (rank_of ballot) lanes c content draft.letters (base_of looked.base)
       (next_of (again_of looked.base ballot found))

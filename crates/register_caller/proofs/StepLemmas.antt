@@ -1,29 +1,30 @@
 -- What several calls of a section leave of the drives together.
 use Rattle.std.proofs.Common.{◌≡◌, ◌<◌, ◌≤◌, ◌∙◌, ℕ, List, Result, Ok, Err, length, ap, subst, sym, inl, inr, arith}
-use Rattle.std.specs.Prelude.{Bool}
+use Rattle.std.specs.Prelude.{IsTrue, slice_index_or}
 use Rattle.call_types.specs.declared.why.Why.{Why}
+use Rattle.drive_base.specs.declared.drive.Drive.{Ghosts}
 use Rattle.drive_base.specs.Files.{Files}
-use Rattle.register_core.specs.Loops.{CountsRise, KeepsDrives, TellsStay}
+use Rattle.register_core.specs.LaneWrites.{KeepsDrives}
 use Rattle.register_core.specs.OnLanes.{AllTell, AreUnused}
-use Rattle.register_core.specs.Proposing.{Marks, Proposes}
+use Rattle.register_core.specs.Proposals.{Marks, Proposes}
 use Rattle.register_core.specs.Records.{IsHonest}
 use Rattle.register_core.specs.declared.drafts.Draft.{Draft}
 use Rattle.register_core.specs.declared.faults.QuorumFault.{QuorumFault}
 use Rattle.register_core.specs.declared.faults.QuorumFault.TheVariants.{ReadQuorum, WriteQuorum, Undecided, NoMemory}
-use Rattle.register_core.specs.declared.proposing.Prepared.{Prepared}
-use Rattle.register_caller.specs.Steps.{FilesStay, MarksTaken, WritesBoth}
+use Rattle.register_core.specs.declared.proposals.Prepared.{Prepared}
+use Rattle.register_caller.specs.Steps.{MarksTaken, WritesBoth}
 use Rattle.register_caller.proofs.CallingLemmas.{unused_after_look}
 
-module _ {D : Type 0} (tells : D → Bool) (files : D → Files) (count : D → ℕ) where
+module _ {D : Type 0} (ghosts : Ghosts D) where
   -- both writes, where the proposal was taken
   pub both_taken : (draft : Draft) (out term from to : ℕ) (result : Result (List Why) QuorumFault) (old new : List D)
-      → MarksTaken tells files count draft out term from to result old new → WritesBoth tells files count draft out term from to result old new
+      → MarksTaken ghosts draft out term from to result old new → WritesBoth ghosts draft out term from to result old new
   both_taken draft out term from to (Ok whys) old new taken = taken
   both_taken draft out term from to (Err fault) old new taken = inr taken
 
   -- a proposal uses numbers from its first one on
   pub propose_rises : (draft : Draft) (out term from to : ℕ) (result : Result Prepared QuorumFault) (old new : List D)
-      → Proposes tells files count draft out term from to result old new → from ≤ to
+      → Proposes ghosts draft out term from to result old new → from ≤ to
   propose_rises draft out term from to (Ok took) old new is = is.2.later
   propose_rises draft out term from to (Err (ReadQuorum whys)) old new is = absurd is
   propose_rises draft out term from to (Err (WriteQuorum whys)) old new is = elim is [
@@ -35,28 +36,19 @@ module _ {D : Type 0} (tells : D → Bool) (files : D → Files) (count : D → 
 
   -- and so does a mark
   pub mark_rises : (draft : Draft) (took : Prepared) (term from to : ℕ) (result : Result (List Why) QuorumFault) (later : Draft) (old new : List D)
-      → Marks tells files count draft took term from to result later old new → from ≤ to
+      → Marks ghosts draft took term from to result later old new → from ≤ to
   mark_rises draft took term from to (Ok whys) later old new is = is.2.later
   mark_rises draft took term from to (Err (ReadQuorum whys)) later old new is = absurd is
   mark_rises draft took term from to (Err (WriteQuorum whys)) later old new is = is.2.later
   mark_rises draft took term from to (Err (Undecided k u whys)) later old new is = absurd is
   mark_rises draft took term from to (Err NoMemory) later old new is = absurd is
 
-  -- drives that tell as before, twice
-  pub tells_twice : (old mid new : List D) → length mid ≡ length old → TellsStay tells files count old mid → TellsStay tells files count mid new
-      → TellsStay tells files count old new
-  tells_twice old mid new long first second k d low = second k d (omega arith) ∙ first k d low
-
-  -- counts that don't fall, twice
-  pub counts_twice : (old mid new : List D) → length mid ≡ length old → CountsRise tells files count old mid → CountsRise tells files count mid new
-      → CountsRise tells files count old new
-  counts_twice old mid new long first second k d low = let one = first k d low in let two = second k d (omega arith) in omega arith
-
   -- what is kept through a look
-  pub keeps_after_look : (out : ℕ) (name : List ℕ) (term from : ℕ) (old new : List D) → length new ≡ length old → FilesStay tells files count old new
-      → AllTell tells out old → AreUnused files out term from old → KeepsDrives tells files count out name term from from old new
+  pub keeps_after_look : (out : ℕ) (name : List ℕ) (term from : ℕ) (old new : List D) → length new ≡ length old
+      → ((k : ℕ) (d : D) → k < length old → IsTrue (ghosts.tells (slice_index_or old k d)) → ghosts.files (slice_index_or new k d) ≡ ghosts.files (slice_index_or old k d))
+      → AllTell ghosts.tells out old → AreUnused ghosts.files out term from old → KeepsDrives ghosts out name term from from old new
   keeps_after_look out name term from old new long stay told unused = record {
-    unused = unused_after_look tells files out term from old new long stay told unused;
+    unused = unused_after_look ghosts.tells ghosts.files out term from old new long stay told unused;
     loose = λ k d other low in_use none. ap (λ (f : Files). f.loose other) (stay k d low (told k d low in_use));
     others = λ k d other low in_use else.
         let same = stay k d low (told k d low in_use) in (ap (λ (f : Files). f.kept other) same, ap (λ (f : Files). f.shown other) same);
@@ -66,8 +58,8 @@ module _ {D : Type 0} (tells : D → Bool) (files : D → Files) (count : D → 
 
   -- what is kept through two calls
   pub keeps_twice : (out : ℕ) (name : List ℕ) (term from middle to : ℕ) (old mid new : List D) → length mid ≡ length old → from ≤ middle → middle ≤ to
-      → KeepsDrives tells files count out name term from middle old mid → KeepsDrives tells files count out name term middle to mid new
-      → KeepsDrives tells files count out name term from to old new
+      → KeepsDrives ghosts out name term from middle old mid → KeepsDrives ghosts out name term middle to mid new
+      → KeepsDrives ghosts out name term from to old new
   keeps_twice out name term from middle to old mid new long up on first second = record {
     unused = second.unused;
     loose = λ k d other low in_use none.

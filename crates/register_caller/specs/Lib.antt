@@ -1,4 +1,4 @@
-pub mod Calling
-pub mod Leaving
-pub mod Settling
+pub mod BothWrites
+pub mod Pending
 pub mod Steps
+pub mod WrittenLanes

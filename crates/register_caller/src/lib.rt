@@ -8,12 +8,9 @@
 //!
 //! Each answer of `write_both` tells from which calls it came, also over drives that tell nothing. Where enough lanes serve, it is not refused.
 //!
-//! Nothing is said here of a lane's bytes. The crate stands on the contracts of `register_core`, of which it cites no lemma, and on `vote_core` for the
-//! laws of lanes.
+//! Nothing is said here of a lane's bytes. The crate stands on the contracts of `register_core`, and on `vote_core` for the laws of lanes.
 #![tactic(auto)]
 
 mod changes;
-mod writing;
 
-pub use changes::draft_again;
-pub use writing::write_both;
+pub use changes::{draft_again, write_both};

@@ -7,18 +7,17 @@ use Rattle.register_file.specs.declared.record.RegFile.{RegFile}
 use Rattle.register_file.specs.declared.record.Base.{Base}
 use Rattle.register_file.specs.declared.record.Next.{Next}
 use Rattle.vote_core.specs.Row.{base_height, height_of_next, next_height}
-use Rattle.vote_core.specs.Verdict.{IsGreatestBase, good_rows, row_at}
+use Rattle.vote_core.specs.Verdict.{IsGreatestBase, good_rows, row_at, VerdictRule}
 use Rattle.vote_core.specs.declared.row.Row.{Row}
 use Rattle.vote_core.specs.declared.row.Row.TheVariants.{Bad, Good}
-use Rattle.vote_core.specs.Verdict.{VerdictRule}
 use Rattle.vote_core.specs.declared.verdict.Verdict.TheVariants.{Pending}
-use Rattle.std.specs.Prelude.{Bool, Result, Ok, Err}
+use Rattle.std.specs.Prelude.{Result, Ok, Err}
 use Rattle.std.specs.Result.{IsErrAnd}
 use Rattle.call_types.specs.declared.why.Why.{Why}
-use Rattle.drive_base.specs.Files.{Files}
+use Rattle.drive_base.specs.declared.drive.Drive.{Ghosts}
 use Rattle.drive_base.specs.Plan.{data_drives, write_drives}
 use Rattle.drive_base.specs.declared.plan.SetPlan.{SetPlan}
-use Rattle.register_core.specs.LookSteps.{Forwards, IsConcluded, IsStopped}
+use Rattle.register_core.specs.Looks.{Forwards, IsConcluded, IsStopped}
 use Rattle.register_core.specs.declared.faults.QuorumFault.{QuorumFault}
 use Rattle.register_core.specs.declared.faults.QuorumFault.TheVariants.{ReadQuorum, WriteQuorum, Undecided, NoMemory}
 use Rattle.register_core.specs.Found.{FindsBase, FindsNext, found_at}
@@ -72,16 +71,16 @@ pub err_is : {T E : Type 0} (result : Result T E) (fault : E) → IsErrAnd resul
 err_is (Ok value) fault is = absurd is
 err_is (Err e) fault is = ap (λ x. Err x) is
 
-module _ {D : Type 0} (tells : D → Bool) (files : D → Files) (count : D → ℕ) where
+module _ {D : Type 0} (ghosts : Ghosts D) where
   -- a pending change that may not be completed
   pub stopped : (T : Type 0) (set : SetPlan) (found : List (Option RegFile)) (letters : List Why) (base_lane lane k u : ℕ) (next : Next) (fault : QuorumFault)
       (old new : List D) → VerdictRule (write_drives set.drives set.parity) (data_drives set.drives set.parity) (map row_of found) (Pending base_lane lane k u)
-      → FindsNext found lane next → Forwards tells files count {T = T} set next k u (Err fault) old new
-      → IsConcluded tells files count set found letters (Err fault) old new
+      → FindsNext found lane next → Forwards ghosts {T = T} set next k u (Err fault) old new
+      → IsConcluded ghosts set found letters (Err fault) old new
   stopped T set found letters base_lane lane k u next (ReadQuorum whys) old new verdict next_is refused = absurd refused
   stopped T set found letters base_lane lane k u next (WriteQuorum whys) old new verdict next_is refused = absurd refused
   stopped T set found letters base_lane lane k u next (Undecided had unread whys) old new verdict next_is refused =
-      subst (λ (m : ℕ). IsStopped tells files count set found m unread whys old new) (sym refused.0)
-      (subst (λ (m : ℕ). IsStopped tells files count set found k m whys old new) (sym refused.1)
+      subst (λ (m : ℕ). IsStopped ghosts set found m unread whys old new) (sym refused.0)
+      (subst (λ (m : ℕ). IsStopped ghosts set found k m whys old new) (sym refused.1)
       (record { base_lane = base_lane; lane = lane; verdict = verdict; next = next; next_is = next_is; lacks = refused.2 }))
   stopped T set found letters base_lane lane k u next NoMemory old new verdict next_is refused = tt

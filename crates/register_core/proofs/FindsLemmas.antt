@@ -19,7 +19,7 @@ use Rattle.vote_core.specs.declared.verdict.Verdict.TheVariants.{Settled, Pendin
 use Rattle.register_core.specs.Found.{Concludes, FindsBase, FindsNext, content_of, found_at}
 use Rattle.register_core.specs.Seen.{AreSeen, FindsValueOr, IsOnItsWay, LookedSeen, RefusedSeen, UndecidedSeen}
 use Rattle.register_core.specs.Records.{base_of, next_of, row_of, settled_file}
-use Rattle.register_core.specs.declared.looked.Looked.{Looked}
+use Rattle.register_core.specs.declared.looks.Looked.{Looked}
 use Rattle.register_core.proofs.FoundLemmas.{found_below}
 
 -- the laws of the commit protocol that a look needs

@@ -7,7 +7,7 @@ use Rattle.std.proofs.lemmas.List.Sums.{sum_by-cons}
 use Rattle.call_types.specs.Good.{good_count, is_good}
 use Rattle.call_types.specs.declared.why.Why.{Why}
 use Rattle.call_types.specs.declared.why.Why.TheVariants.{Good}
-use Rattle.drive_base.specs.Files.{Files}
+use Rattle.drive_base.specs.declared.drive.Drive.{Ghosts}
 use Rattle.register_file.specs.declared.record.Base.{Base}
 use Rattle.register_file.specs.declared.record.Next.{Next}
 use Rattle.vote_core.specs.Lane.{Lane, lane_at, Base as LaneBase, Next as LaneNext}
@@ -16,14 +16,14 @@ use Rattle.vote_core.specs.Laws.{ForwardKeeps, HadByPlaces, LeftAtByPlaces, Left
 use Rattle.vote_core.specs.Loops.{AtLeastHave, Have, IsAgain, IsPrepared, Leaves, LeavesAt, marked, mended, prepared, size}
 use Rattle.vote_core.specs.Sound.{HoldsValue, LanesAreDrawn}
 use Rattle.register_core.specs.Drafts.{EndsAt, IsDraftOf}
-use Rattle.register_core.specs.Keeping.{IsMarked, IsProposed, MayProposeAgain, PrepareLeaves, StaysValue}
-use Rattle.register_core.specs.Loops.{WritesEach, letter_at}
+use Rattle.register_core.specs.LaneMoves.{IsMarked, IsProposed, MayProposeAgain, PrepareLeaves, StaysValue}
+use Rattle.register_core.specs.LaneWrites.{WritesEach, letter_at}
 use Rattle.register_core.specs.OnLanes.{AllTell, AreLanes, AreUnused}
-use Rattle.register_core.specs.Proposing.{CountsWritten, MendKeeps, Mends, WritesFirst, WritesLast, quorum_of}
+use Rattle.register_core.specs.Proposals.{CountsWritten, MendKeeps, Mends, WritesFirst, WritesLast, quorum_of}
 use Rattle.register_core.specs.Records.{base_of, marked_base, next_of, prepared_file, settled_file}
 use Rattle.register_core.specs.declared.drafts.Draft.{Draft}
-use Rattle.register_core.specs.declared.mending.Mended.{Mended}
-use Rattle.register_core.specs.declared.proposing.Prepared.{Prepared}
+use Rattle.register_core.specs.declared.mends.Mended.{Mended}
+use Rattle.register_core.specs.declared.proposals.Prepared.{Prepared}
 use Rattle.register_core.proofs.LaneLemmas.{after_are, after_have, after_leaves, after_leaves_at, after_stay, lanes_after, none_set, target_at}
 
 -- a pending change that is proposed again over the base of a lane
@@ -75,22 +75,22 @@ some_has (false ∷ mask) x (lane ∷ lanes) have some =
     let rest = some_has mask x lanes have.1 (omega arith) in
     (suc rest.0, omega (arith, rest.1), rest.2)
 
-module _ {D : Type 0} (tells : D → Bool) (files : D → Files) (count : D → ℕ) where
+module _ {D : Type 0} (ghosts : Ghosts D) where
   -- what a loop wrote, in other words
   pub wrote_as : {out passed passed_is : ℕ} {name name_is bytes bytes_is : List ℕ} {term from to : ℕ} {letters letters_are whys : List Why} {old new : List D}
       → passed ≡ passed_is → name ≡ name_is → bytes ≡ bytes_is → letters ≡ letters_are
-      → WritesEach tells files count out passed name bytes term from to letters whys old new
-      → WritesEach tells files count out passed_is name_is bytes_is term from to letters_are whys old new
+      → WritesEach ghosts out passed name bytes term from to letters whys old new
+      → WritesEach ghosts out passed_is name_is bytes_is term from to letters_are whys old new
   wrote_as {out} {passed} {passed_is} {name} {name_is} {bytes} {bytes_is} {term} {from} {to} {letters} {letters_are} {whys} {old} {new} p n b l wrote =
-      subst (λ (x : ℕ). WritesEach tells files count out x name_is bytes_is term from to letters_are whys old new) p
-      (subst (λ (x : List ℕ). WritesEach tells files count out passed x bytes_is term from to letters_are whys old new) n
-      (subst (λ (x : List ℕ). WritesEach tells files count out passed name x term from to letters_are whys old new) b
-      (subst (λ (x : List Why). WritesEach tells files count out passed name bytes term from to x whys old new) l wrote)))
+      subst (λ (x : ℕ). WritesEach ghosts out x name_is bytes_is term from to letters_are whys old new) p
+      (subst (λ (x : List ℕ). WritesEach ghosts out passed x bytes_is term from to letters_are whys old new) n
+      (subst (λ (x : List ℕ). WritesEach ghosts out passed name x term from to letters_are whys old new) b
+      (subst (λ (x : List Why). WritesEach ghosts out passed name bytes term from to x whys old new) l wrote)))
 
   -- what proposing keeps, but for its result
   pub record Proposed (draft : Draft) (out : ℕ) (base : Base) (next : Next) (whys : List Why) (new : List D) (lanes : List Lane) : Type 0 where
     pub after : List Lane
-    pub are : AreLanes files out (string_bytes draft.name) new after
+    pub are : AreLanes ghosts.files out (string_bytes draft.name) new after
     pub left : Leaves (prepared (base_of base) (next_of next)) lanes after
     pub leaves : PrepareLeaves (quorum_of draft) draft.letters (base_of base) (next_of next) lanes after
     pub stay : (k : ℕ) → IsBitSet out k → lane_at after k ≡ lane_at lanes k
@@ -99,29 +99,29 @@ module _ {D : Type 0} (tells : D → Bool) (files : D → Files) (count : D → 
   pub proposed : LeftAtByPlaces → LeftByPlaces → HadByPlaces → PrepareKeeps → ForwardKeeps → PrepareStaysDrawn
       → (draft : Draft) (out term from to : ℕ) (base : Base) (next : Next) (whys : List Why) (old new : List D) (lanes : List Lane)
       → to ≤ 2 ^ 64 → length draft.letters ≡ length old → IsDraftOf draft base next
-      → WritesFirst tells files count draft out term from to whys old new
-      → AllTell tells out old → AreUnused files out term from old → AreLanes files out (string_bytes draft.name) old lanes
+      → WritesFirst ghosts draft out term from to whys old new
+      → AllTell ghosts.tells out old → AreUnused ghosts.files out term from old → AreLanes ghosts.files out (string_bytes draft.name) old lanes
       → Proposed draft out base next whys new lanes
   proposed by_targets by_places by_mask own forward drawn draft out term from to base next whys old new lanes few sized is wrote tell unused are =
       let x : Lane = prepared (base_of base) (next_of next) in
       let name : List ℕ = string_bytes draft.name in
-      let loop = lanes_after tells files count out out 0 name draft.first.items term from to draft.letters whys x old new lanes few
+      let loop = lanes_after ghosts out out 0 name draft.first.items term from to draft.letters whys x old new lanes few
       (record { file = prepared_file base next; canonical = is.canonical; bytes_are = is.first; record_is = refl }) wrote tell unused are in
-      let left : Leaves x lanes loop.after = after_leaves tells files count by_places out out 0 name draft.letters whys x old new lanes are.counted loop in
+      let left : Leaves x lanes loop.after = after_leaves ghosts by_places out out 0 name draft.letters whys x old new lanes are.counted loop in
       record {
         after = loop.after;
-        are = after_are tells files count out out 0 name draft.first.items term from to draft.letters whys x old new lanes wrote loop;
+        are = after_are ghosts out out 0 name draft.first.items term from to draft.letters whys x old new lanes wrote loop;
         left = left;
         leaves = prepare_leaves own forward drawn (quorum_of draft) draft.letters (base_of base) (next_of next) lanes loop.after
-            (after_leaves_at tells files count by_targets out out 0 name draft.letters whys x old new lanes are.counted sized loop) left;
-        stay = after_stay tells files count out out 0 name draft.letters whys x old new lanes are.counted loop;
-        took = λ enough. after_have tells files count by_mask (quorum_of draft) out out name draft.letters whys x old new lanes (wrote.counted ∙ sized) enough loop;
+            (after_leaves_at ghosts by_targets out out 0 name draft.letters whys x old new lanes are.counted sized loop) left;
+        stay = after_stay ghosts out out 0 name draft.letters whys x old new lanes are.counted loop;
+        took = λ enough. after_have ghosts by_mask (quorum_of draft) out out name draft.letters whys x old new lanes (wrote.counted ∙ sized) enough loop;
       }
 
   -- what marking keeps, but for its result
   pub record HasMarked (draft : Draft) (took : Prepared) (next : Next) (whys : List Why) (new : List D) (lanes : List Lane) : Type 0 where
     pub after : List Lane
-    pub are : AreLanes files took.out (string_bytes draft.name) new after
+    pub are : AreLanes ghosts.files took.out (string_bytes draft.name) new after
     pub left : Leaves (marked (next_of next)) lanes after
     pub stay : (k : ℕ) → IsBitSet took.out k → lane_at after k ≡ lane_at lanes k
     pub any : (base : LaneBase) (last c : ℕ) (content : List ℕ) → IsProposed (quorum_of draft) last lanes c content took.whys base (next_of next)
@@ -135,8 +135,8 @@ module _ {D : Type 0} (tells : D → Bool) (files : D → Files) (count : D → 
   pub has_marked : LeftAtByPlaces → LeftByPlaces → HadByPlaces → MarkLaw → MarkSettles → MarkStaysDrawn
       → (draft : Draft) (took : Prepared) (term from to : ℕ) (next : Next) (whys : List Why) (old new : List D) (lanes : List Lane)
       → to ≤ 2 ^ 64 → 1 ≤ quorum_of draft → length took.whys ≡ length old → EndsAt draft (marked_base next)
-      → WritesLast tells files count draft took term from to whys old new
-      → AllTell tells took.out old → AreUnused files took.out term from old → AreLanes files took.out (string_bytes draft.name) old lanes
+      → WritesLast ghosts draft took term from to whys old new
+      → AllTell ghosts.tells took.out old → AreUnused ghosts.files took.out term from old → AreLanes ghosts.files took.out (string_bytes draft.name) old lanes
       → HasMarked draft took next whys new lanes
   has_marked by_targets by_places by_mask any settles drawn draft took term from to next whys old new lanes few some sized ends wrote tell unused are =
       let w : ℕ = quorum_of draft in
@@ -144,21 +144,21 @@ module _ {D : Type 0} (tells : D → Bool) (files : D → Files) (count : D → 
       let x : Lane = marked n in
       let out : ℕ = took.out in
       let name : List ℕ = string_bytes draft.name in
-      let loop = lanes_after tells files count out out 0 name draft.last.items term from to took.whys whys x old new lanes few
+      let loop = lanes_after ghosts out out 0 name draft.last.items term from to took.whys whys x old new lanes few
       (record { file = settled_file (marked_base next); canonical = ends.canonical; bytes_are = ends.last; record_is = refl }) wrote tell unused are in
       let left_at : LeavesAt (map is_good took.whys) x lanes loop.after =
-      after_leaves_at tells files count by_targets out out 0 name took.whys whys x old new lanes are.counted sized loop in
-      let left : Leaves x lanes loop.after = after_leaves tells files count by_places out out 0 name took.whys whys x old new lanes are.counted loop in
+      after_leaves_at ghosts by_targets out out 0 name took.whys whys x old new lanes are.counted sized loop in
+      let left : Leaves x lanes loop.after = after_leaves ghosts by_places out out 0 name took.whys whys x old new lanes are.counted loop in
       record {
         after = loop.after;
-        are = after_are tells files count out out 0 name draft.last.items term from to took.whys whys x old new lanes wrote loop;
+        are = after_are ghosts out out 0 name draft.last.items term from to took.whys whys x old new lanes wrote loop;
         left = left;
-        stay = after_stay tells files count out out 0 name took.whys whys x old new lanes are.counted loop;
+        stay = after_stay ghosts out out 0 name took.whys whys x old new lanes are.counted loop;
         any = λ base last c content ready.
             any w last c content lanes loop.after base n (map is_good took.whys) some ready.holds ready.ready ready.took left_at;
         enough = λ many base last c content ready.
             let done = settles w last c content lanes loop.after base n (map is_good took.whys) (map is_good whys) some ready.holds ready.ready ready.took left_at
-            (after_have tells files count by_mask w out out name took.whys whys x old new lanes (wrote.counted ∙ sized) many loop) in
+            (after_have ghosts by_mask w out out name took.whys whys x old new lanes (wrote.counted ∙ sized) many loop) in
             record { holds = done.0; stands = done.1; held = done.2; calm = done.3 };
         numbers = λ base last had lawful.
             drawn last lanes loop.after base n lawful (some_has (map is_good took.whys) (prepared base n) lanes had.have (omega (arith, had.enough))) left;
@@ -169,23 +169,23 @@ module _ {D : Type 0} (tells : D → Bool) (files : D → Files) (count : D → 
   pub mend_keeps : LeftByPlaces → MendLaw → MendStaysCalm → MendStaysDrawn
       → (draft : Draft) (out unknown term from to : ℕ) (base : Base) (answer : Mended) (old new : List D) (lanes : List Lane)
       → to ≤ 2 ^ 64 → EndsAt draft base
-      → WritesEach tells files count out draft.passed (string_bytes draft.name) draft.last.items term from to (replicate draft.set.drives Good) answer.whys old new
-      → AllTell tells out old → AreUnused files out term from old → AreLanes files unknown (string_bytes draft.name) old lanes
-      → MendKeeps tells files count draft out unknown base answer new lanes
+      → WritesEach ghosts out draft.passed (string_bytes draft.name) draft.last.items term from to (replicate draft.set.drives Good) answer.whys old new
+      → AllTell ghosts.tells out old → AreUnused ghosts.files out term from old → AreLanes ghosts.files unknown (string_bytes draft.name) old lanes
+      → MendKeeps ghosts draft out unknown base answer new lanes
   mend_keeps by_places keeps calm drawn draft out unknown term from to base answer old new lanes few ends wrote tell unused are =
       let b : LaneBase = base_of base in
       let x : Lane = mended b in
       let name : List ℕ = string_bytes draft.name in
       let letters : List Why = replicate draft.set.drives Good in
-      let loop = lanes_after tells files count out unknown draft.passed name draft.last.items term from to letters answer.whys x old new lanes few
+      let loop = lanes_after ghosts out unknown draft.passed name draft.last.items term from to letters answer.whys x old new lanes few
       (record { file = settled_file base; canonical = ends.canonical; bytes_are = ends.last; record_is = refl }) wrote tell unused are in
       let left : Leaves x lanes loop.after =
-      after_leaves tells files count by_places out unknown draft.passed name letters answer.whys x old new lanes are.counted loop in
+      after_leaves ghosts by_places out unknown draft.passed name letters answer.whys x old new lanes are.counted loop in
       record {
         after = loop.after;
-        are = after_are tells files count out unknown draft.passed name draft.last.items term from to letters answer.whys x old new lanes wrote loop;
+        are = after_are ghosts out unknown draft.passed name draft.last.items term from to letters answer.whys x old new lanes wrote loop;
         left = left;
-        stay = after_stay tells files count out unknown draft.passed name letters answer.whys x old new lanes are.counted loop;
+        stay = after_stay ghosts out unknown draft.passed name letters answer.whys x old new lanes are.counted loop;
         leaves = record {
           value = λ last c content holds stands is. (
             keeps (quorum_of draft) last c content lanes loop.after b holds stands is left,
@@ -204,8 +204,8 @@ module _ {D : Type 0} (tells : D → Bool) (files : D → Files) (count : D → 
 
   -- what mending answers
   pub mends : (draft : Draft) (out term from to : ℕ) (answer : Mended) (old new : List D) → length old ≡ draft.set.drives
-      → WritesEach tells files count out draft.passed (string_bytes draft.name) draft.last.items term from to (replicate draft.set.drives Good) answer.whys old new
-      → CountsWritten draft.passed answer.whys answer.lanes → Mends tells files count draft out term from to answer old new
+      → WritesEach ghosts out draft.passed (string_bytes draft.name) draft.last.items term from to (replicate draft.set.drives Good) answer.whys old new
+      → CountsWritten draft.passed answer.whys answer.lanes → Mends ghosts draft out term from to answer old new
   mends draft out term from to answer old new sized wrote counts =
       let letters : List Why = replicate draft.set.drives Good in
       let many : length answer.whys ≡ length old = wrote.counted ∙ length-replicate draft.set.drives Good ∙ sym sized in
@@ -215,7 +215,7 @@ module _ {D : Type 0} (tells : D → Bool) (files : D → Files) (count : D → 
         counted = counts.counted ∙ many;
         are = λ k below. (
           λ has. let was = (counts.are k (omega arith)).0 has in
-              (target_at tells files count out draft.passed (string_bytes draft.name) draft.last.items term from to letters answer.whys old new wrote k below was.1 was.0, was.1),
+              (target_at ghosts out draft.passed (string_bytes draft.name) draft.last.items term from to letters answer.whys old new wrote k below was.1 was.0, was.1),
           λ was. (counts.are k (omega arith)).1 (was.0.not_passed, was.1),
         );
         many = counts.many_is;

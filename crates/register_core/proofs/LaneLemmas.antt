@@ -11,6 +11,7 @@ use Rattle.call_types.specs.declared.why.FileKind.TheVariants.{Format}
 use Rattle.call_types.specs.declared.why.Why.{Why}
 use Rattle.call_types.specs.declared.why.Why.TheVariants.{Good, Failed, Damaged, Behind, Lacks}
 use Rattle.call_types.proofs.GoodLemmas.{good_means}
+use Rattle.drive_base.specs.declared.drive.Drive.{Ghosts}
 use Rattle.drive_base.specs.Files.{Files, Named}
 use Rattle.file_access.specs.Writing.{IsInPlace, Touches, WriteLeaves}
 use Rattle.register_file.specs.Record.{IsCanonical}
@@ -20,7 +21,7 @@ use Rattle.vote_core.specs.Lane.{Lane, blank_lane, lane_at}
 use Rattle.register_core.specs.Loose.{loose_name}
 use Rattle.vote_core.specs.Laws.{HadByPlaces, LeftAtByPlaces, LeftByPlaces}
 use Rattle.vote_core.specs.Loops.{AtLeastHave, Leaves, LeavesAt, size}
-use Rattle.register_core.specs.Loops.{IsTarget, OnLane, WritesEach, letter_at}
+use Rattle.register_core.specs.LaneWrites.{IsTarget, OnLane, WritesEach, letter_at}
 use Rattle.register_core.specs.OnLanes.{AllTell, AreLanes, AreUnused}
 use Rattle.register_core.specs.Records.{HasLane, lane_of}
 use Rattle.register_core.proofs.LoopLemmas.{in_place}
@@ -95,19 +96,19 @@ size_of_good (why ∷ whys) =
     ∙ ap (λ (n : ℕ). cond (is_good why) 1 0 + n) (size_of_good whys)
     ∙ sym (sum_by-cons (λ (w : Why). cond (is_good w) 1 0) why whys)
 
-module _ {D : Type 0} (tells : D → Bool) (files : D → Files) (count : D → ℕ) where
+module _ {D : Type 0} (ghosts : Ghosts D) where
   -- the record of a lane after a loop: the one before, or the loop's
   pub record LaneAfter (out unknown passed k : ℕ) (name : List ℕ) (letters whys : List Why) (x : Lane) (new : D) (before after : Lane) : Type 0 where
-    pub are : (IsBitSet unknown k → ⊥) → HasLane ((files new).kept name) after
-    pub left : (after ≡ before) ⊎ (IsTarget out passed letters k × (after ≡ x) × HasLane ((files new).kept name) after)
-    pub has : IsTarget out passed letters k → letter_at whys k ≡ Good → (after ≡ x) × HasLane ((files new).kept name) after
+    pub are : (IsBitSet unknown k → ⊥) → HasLane ((ghosts.files new).kept name) after
+    pub left : (after ≡ before) ⊎ (IsTarget out passed letters k × (after ≡ x) × HasLane ((ghosts.files new).kept name) after)
+    pub has : IsTarget out passed letters k → letter_at whys k ≡ Good → (after ≡ x) × HasLane ((ghosts.files new).kept name) after
 
   -- a lane that wasn't written
   stays : (out unknown passed k : ℕ) (name : List ℕ) (letters whys : List Why) (x : Lane) (old new : D) (before : Lane) → new ≡ old
-      → ((IsBitSet unknown k → ⊥) → HasLane ((files old).kept name) before) → (IsTarget out passed letters k → ⊥)
+      → ((IsBitSet unknown k → ⊥) → HasLane ((ghosts.files old).kept name) before) → (IsTarget out passed letters k → ⊥)
       → LaneAfter out unknown passed k name letters whys x new before before
   stays out unknown passed k name letters whys x old new before same was no_target = record {
-    are = λ known. subst (λ (d : D). HasLane ((files d).kept name) before) (sym same) (was known);
+    are = λ known. subst (λ (d : D). HasLane ((ghosts.files d).kept name) before) (sym same) (was known);
     left = inl refl;
     has = λ target good. absurd (no_target target);
   }
@@ -115,10 +116,10 @@ module _ {D : Type 0} (tells : D → Bool) (files : D → Files) (count : D → 
   -- the record of a lane after a loop
   lane_after : (out unknown passed k : ℕ) (name bytes : List ℕ) (term from to : ℕ) (letters whys : List Why) (x : Lane) (old new : D) (before : Lane)
       → to ≤ 2 ^ 64 → FileOf bytes x
-      → ((IsBitSet out k → ⊥) → IsTrue (tells old))
-      → ((IsBitSet out k → ⊥) → (later : ℕ) → from ≤ later → later < 2 ^ 64 → (files old).loose (loose_name term later) ≡ None)
-      → ((IsBitSet unknown k → ⊥) → HasLane ((files old).kept name) before)
-      → OnLane tells files count out passed name bytes term from to letters k (letter_at whys k) old new
+      → ((IsBitSet out k → ⊥) → IsTrue (ghosts.tells old))
+      → ((IsBitSet out k → ⊥) → (later : ℕ) → from ≤ later → later < 2 ^ 64 → (ghosts.files old).loose (loose_name term later) ≡ None)
+      → ((IsBitSet unknown k → ⊥) → HasLane ((ghosts.files old).kept name) before)
+      → OnLane ghosts out passed name bytes term from to letters k (letter_at whys k) old new
       → Choice (LaneAfter out unknown passed k name letters whys x new before)
   lane_after out unknown passed k name bytes term from to letters whys x old new before few is tell unused was on = elim on [
     | inl gone ↦ record {
@@ -134,12 +135,12 @@ module _ {D : Type 0} (tells : D → Bool) (files : D → Files) (count : D → 
         let target = done.0 in
         let writes = done.1 in
         let loose = loose_name term writes.number in
-        let left : WriteLeaves (letter_at whys k) loose name bytes (files old) (files new) =
+        let left : WriteLeaves (letter_at whys k) loose name bytes (ghosts.files old) (ghosts.files new) =
         writes.leaves (tell target.in_use) (unused target.in_use writes.number writes.low (omega (arith, writes.high))) in
-        elim (placed_or_failed (letter_at whys k) loose name bytes (files old) (files new) left) [
+        elim (placed_or_failed (letter_at whys k) loose name bytes (ghosts.files old) (ghosts.files new) left) [
           | inl placed ↦
-              let there : HasLane ((files new).kept name) x =
-              has_lane_of_file bytes x ((files new).kept name) is (in_place tells files count loose name bytes (files old) (files new) placed).0 in
+              let there : HasLane ((ghosts.files new).kept name) x =
+              has_lane_of_file bytes x ((ghosts.files new).kept name) is (in_place ghosts loose name bytes (ghosts.files old) (ghosts.files new) placed).0 in
               record {
                 lane = x;
                 is = record { are = λ known. there; left = inr (target, refl, there); has = λ aimed good. (refl, there) };
@@ -157,7 +158,7 @@ module _ {D : Type 0} (tells : D → Bool) (files : D → Files) (count : D → 
 
   -- a lane that isn't passed over, and whose letter is good then, was to be written
   aimed : (out passed k : ℕ) (name bytes : List ℕ) (term from to : ℕ) (letters : List Why) (why : Why) (old new : D)
-      → OnLane tells files count out passed name bytes term from to letters k why old new → why ≡ Good → (IsBitSet passed k → ⊥) → IsTarget out passed letters k
+      → OnLane ghosts out passed name bytes term from to letters k why old new → why ≡ Good → (IsBitSet passed k → ⊥) → IsTarget out passed letters k
   aimed out passed k name bytes term from to letters why old new on good not_passed = elim on [
     | inl gone ↦ absurd (not_lacking (sym gone.letter ∙ good))
     | inr (inl kept) ↦ elim kept.passed_is [ inl bit ↦ absurd (not_passed bit) | inr bad ↦ absurd (bad (sym kept.letter_is ∙ good)) ]
@@ -169,7 +170,7 @@ module _ {D : Type 0} (tells : D → Bool) (files : D → Files) (count : D → 
 
   -- the same of each lane
   pub target_at : (out passed : ℕ) (name bytes : List ℕ) (term from to : ℕ) (letters whys : List Why) (old new : List D)
-      → WritesEach tells files count out passed name bytes term from to letters whys old new
+      → WritesEach ghosts out passed name bytes term from to letters whys old new
       → (k : ℕ) → k < length old → letter_at whys k ≡ Good → (IsBitSet passed k → ⊥) → IsTarget out passed letters k
   target_at out passed name bytes term from to letters whys [] new wrote k below good not_passed = absurd (omega arith)
   target_at out passed name bytes term from to letters whys (o ∷ os) new wrote k below good not_passed =
@@ -187,8 +188,8 @@ module _ {D : Type 0} (tells : D → Bool) (files : D → Files) (count : D → 
 
   pub lanes_after : (out unknown passed : ℕ) (name bytes : List ℕ) (term from to : ℕ) (letters whys : List Why) (x : Lane) (old new : List D) (lanes : List Lane)
       → to ≤ 2 ^ 64 → FileOf bytes x
-      → WritesEach tells files count out passed name bytes term from to letters whys old new
-      → AllTell tells out old → AreUnused files out term from old → AreLanes files unknown name old lanes
+      → WritesEach ghosts out passed name bytes term from to letters whys old new
+      → AllTell ghosts.tells out old → AreUnused ghosts.files out term from old → AreLanes ghosts.files unknown name old lanes
       → LanesAfter out unknown passed name letters whys x old new lanes
   lanes_after out unknown passed name bytes term from to letters whys x [] new lanes few is wrote tell unused are = record {
     after = [];
@@ -216,8 +217,8 @@ module _ {D : Type 0} (tells : D → Bool) (files : D → Files) (count : D → 
 
   -- the drives keep these records
   pub after_are : (out unknown passed : ℕ) (name bytes : List ℕ) (term from to : ℕ) (letters whys : List Why) (x : Lane) (old new : List D) (lanes : List Lane)
-      → WritesEach tells files count out passed name bytes term from to letters whys old new
-      → (loop : LanesAfter out unknown passed name letters whys x old new lanes) → AreLanes files unknown name new loop.after
+      → WritesEach ghosts out passed name bytes term from to letters whys old new
+      → (loop : LanesAfter out unknown passed name letters whys x old new lanes) → AreLanes ghosts.files unknown name new loop.after
   after_are out unknown passed name bytes term from to letters whys x old new lanes wrote loop = record {
     counted = loop.counted ∙ sym wrote.long;
     each = λ k d below known. (loop.each k d (omega (arith, wrote.long))).are known;

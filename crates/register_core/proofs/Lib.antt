@@ -12,4 +12,5 @@ pub mod ReadLemmas
 pub mod RefusalLemmas
 pub mod SeenLemmas
 pub mod ServingLemmas
+pub mod ViewedLemmas
 pub mod WrittenLemmas

@@ -8,26 +8,27 @@ use Rattle.std.proofs.lemmas.Slice.Eq.{bytes_eq-Decides}
 use Rattle.call_types.specs.declared.why.FileKind.TheVariants.{Format}
 use Rattle.call_types.specs.declared.why.Why.{Why}
 use Rattle.call_types.specs.declared.why.Why.TheVariants.{Good, Failed, Damaged, Behind, Lacks}
+use Rattle.drive_base.specs.declared.drive.Drive.{Ghosts}
 use Rattle.drive_base.specs.Files.{Files, Named}
 use Rattle.file_access.specs.Writing.{IsInPlace, Touches, WriteLeaves}
 use Rattle.register_core.specs.Loose.{loose_name}
-use Rattle.register_core.specs.Loops.{IsPassed, IsTarget, KeepsDrives, OnLane, Writes, letter_at}
+use Rattle.register_core.specs.LaneWrites.{IsPassed, IsTarget, KeepsDrives, OnLane, Writes, letter_at}
 use Rattle.register_core.specs.OnLanes.{AllTell, AreUnused}
 use Rattle.register_core.specs.Records.{IsHonest}
 use Rattle.register_core.proofs.LooseLemmas.{loose_names_differ}
 
-module _ {D : Type 0} (tells : D → Bool) (files : D → Files) (count : D → ℕ) where
+module _ {D : Type 0} (ghosts : Ghosts D) where
   -- what is left of a lane, where the numbers are within a wider range
   pub on_lane_wider : (out passed : ℕ) (name bytes : List ℕ) (term from to low high : ℕ) (letters : List Why) (k : ℕ) (why : Why) (old new : D) → low ≤ from → to ≤ high
-      → OnLane tells files count out passed name bytes term from to letters k why old new
-      → OnLane tells files count out passed name bytes term low high letters k why old new
+      → OnLane ghosts out passed name bytes term from to letters k why old new
+      → OnLane ghosts out passed name bytes term low high letters k why old new
   on_lane_wider out passed name bytes term from to low high letters k why old new below above on = elim on [
     | inl gone ↦ inl gone
     | inr (inl kept) ↦ inr (inl kept)
     | inr (inr done) ↦ inr (inr (done.0, wider done.1))
   ]
     where
-      wider : Writes tells files count name bytes term from to why old new → Writes tells files count name bytes term low high why old new
+      wider : Writes ghosts name bytes term from to why old new → Writes ghosts name bytes term low high why old new
       wider writes = record {
         number = writes.number;
         low = omega (arith, writes.low);
@@ -51,14 +52,14 @@ module _ {D : Type 0} (tells : D → Bool) (files : D → Files) (count : D → 
     pub number : ℕ
     pub low : from ≤ number
     pub high : number < to
-    pub leaves : WriteLeaves why (loose_name term number) name bytes (files old) (files new)
+    pub leaves : WriteLeaves why (loose_name term number) name bytes (ghosts.files old) (ghosts.files new)
 
   -- a lane that tells is as it was, with its letter or as one that is out, or is written
   pub told : (out passed k : ℕ) (name bytes : List ℕ) (term from to : ℕ) (letters : List Why) (why : Why) (old new : D) → to ≤ 2 ^ 64
-      → (IsBitSet out k → ⊥) → IsTrue (tells old)
-      → ((later : ℕ) → from ≤ later → later < 2 ^ 64 → (files old).loose (loose_name term later) ≡ None)
-      → OnLane tells files count out passed name bytes term from to letters k why old new
-      → IsPassed tells files count out passed k (letter_at letters k) why old new ⊎ Told out passed k name bytes term from to letters why old new
+      → (IsBitSet out k → ⊥) → IsTrue (ghosts.tells old)
+      → ((later : ℕ) → from ≤ later → later < 2 ^ 64 → (ghosts.files old).loose (loose_name term later) ≡ None)
+      → OnLane ghosts out passed name bytes term from to letters k why old new
+      → IsPassed ghosts out passed k (letter_at letters k) why old new ⊎ Told out passed k name bytes term from to letters why old new
   told out passed k name bytes term from to letters why old new few in_use tell unused on = elim on [
     | inl gone ↦ absurd (in_use gone.out_is)
     | inr (inl kept) ↦ inl kept
@@ -113,38 +114,38 @@ module _ {D : Type 0} (tells : D → Bool) (files : D → Files) (count : D → 
   pub keeps_drives : (out passed : ℕ) (name bytes : List ℕ) (term from to : ℕ) (letters whys : List Why) (old new : List D) → to ≤ 2 ^ 64 → from ≤ to
       → length new ≡ length old
       → ((k : ℕ) (d : D) → k < length old
-      → OnLane tells files count out passed name bytes term from to letters k (letter_at whys k) (slice_index_or old k d) (slice_index_or new k d))
-      → AllTell tells out old → AreUnused files out term from old → KeepsDrives tells files count out name term from to old new
+      → OnLane ghosts out passed name bytes term from to letters k (letter_at whys k) (slice_index_or old k d) (slice_index_or new k d))
+      → AllTell ghosts.tells out old → AreUnused ghosts.files out term from old → KeepsDrives ghosts out name term from to old new
   keeps_drives out passed name bytes term from to letters whys old new few rises long each tell unused =
       record {
         unused = λ k d later below in_use at fits.
             let was = unused k d later (omega (arith, long)) in_use (omega arith) fits in
             elim (known k d (omega (arith, long)) in_use) [
-              | inl passed_by ↦ subst (λ (x : D). (files x).loose (loose_name term later) ≡ None) (sym passed_by.stays) was
+              | inl passed_by ↦ subst (λ (x : D). (ghosts.files x).loose (loose_name term later) ≡ None) (sym passed_by.stays) was
               | inr writes ↦
                   loose_stays (loose_name term writes.number) name bytes (loose_name term later) _ _
                   (loose_names_differ term writes.number later (omega (arith, writes.high)) fits (λ e. omega (arith, e, writes.high)))
                   (touched_or_placed _ _ _ _ _ _ writes.leaves) ∙ was
             ];
         loose = λ k d other below in_use differs. elim (known k d below in_use) [
-          | inl passed_by ↦ ap (λ (x : D). (files x).loose other) passed_by.stays
+          | inl passed_by ↦ ap (λ (x : D). (ghosts.files x).loose other) passed_by.stays
           | inr writes ↦ loose_stays (loose_name term writes.number) name bytes other _ _ (differs writes.number writes.low writes.high)
               (touched_or_placed _ _ _ _ _ _ writes.leaves)
         ];
         others = λ k d other below in_use differ. elim (known k d below in_use) [
-          | inl passed_by ↦ (ap (λ (x : D). (files x).kept other) passed_by.stays, ap (λ (x : D). (files x).shown other) passed_by.stays)
+          | inl passed_by ↦ (ap (λ (x : D). (ghosts.files x).kept other) passed_by.stays, ap (λ (x : D). (ghosts.files x).shown other) passed_by.stays)
           | inr writes ↦ kept_stays (loose_name term writes.number) name bytes other _ _ differ (touched_or_placed _ _ _ _ _ _ writes.leaves)
         ];
         honest = λ honest k d below in_use.
             let was = honest k d (omega (arith, long)) in_use in
             elim (known k d (omega (arith, long)) in_use) [
-              | inl passed_by ↦ subst (λ (x : D). IsHonest ((files x).kept name) ((files x).shown name)) (sym passed_by.stays) was
+              | inl passed_by ↦ subst (λ (x : D). IsHonest ((ghosts.files x).kept name) ((ghosts.files x).shown name)) (sym passed_by.stays) was
               | inr writes ↦ honest_stays (loose_name term writes.number) name bytes _ _ (touched_or_placed _ _ _ _ _ _ writes.leaves) was
             ];
       }
     where
       known : (k : ℕ) (d : D) → k < length old → (IsBitSet out k → ⊥)
-          → IsPassed tells files count out passed k (letter_at letters k) (letter_at whys k) (slice_index_or old k d) (slice_index_or new k d)
+          → IsPassed ghosts out passed k (letter_at letters k) (letter_at whys k) (slice_index_or old k d) (slice_index_or new k d)
           ⊎ Told out passed k name bytes term from to letters (letter_at whys k) (slice_index_or old k d) (slice_index_or new k d)
       known k d below in_use =
           told out passed k name bytes term from to letters (letter_at whys k) (slice_index_or old k d) (slice_index_or new k d) few in_use

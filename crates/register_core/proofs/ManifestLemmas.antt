@@ -11,8 +11,7 @@ use Rattle.drive_base.specs.declared.plan.SetPlan.{SetPlan}
 use Rattle.file_access.specs.declared.fault.FetchFault.{FetchFault}
 use Rattle.file_access.specs.declared.fault.FetchFault.TheVariants.{Because}
 use Rattle.register_file.specs.declared.record.Adds.{Adds}
-use Rattle.register_core.specs.Manifests.{ManifestLetter}
-use Rattle.register_core.specs.ManifestSteps.{ReadsManifest}
+use Rattle.register_core.specs.Manifests.{ManifestLetter, ReadsManifest}
 use Rattle.manifest_file.specs.Spelling.{file_of, manifest_kind, spelling}
 use Rattle.manifest_file.specs.declared.manifest.Manifest.{Manifest as ManifestRecord}
 

@@ -8,8 +8,8 @@ use Rattle.drive_base.specs.Files.{Files}
 use Rattle.file_access.specs.declared.fault.FetchFault.{FetchFault}
 use Rattle.file_access.specs.declared.fault.FetchFault.TheVariants.{Because}
 use Rattle.register_file.specs.declared.record.RegFile.{RegFile}
-use Rattle.register_core.specs.Looking.{LaneIsRead}
-use Rattle.register_core.specs.Reads.{ReadsLane}
+use Rattle.register_core.specs.Looks.{LaneIsRead}
+use Rattle.register_core.specs.LaneReads.{ReadsLane}
 
 -- two ways to say that a lane is out
 pub out_same : (most : ℕ) (name : List ℕ) (file : Option RegFile) (why : Why) (out mask : Type 0) (tells : Bool) (files : Files) (old new : ℕ) → out ↔ mask

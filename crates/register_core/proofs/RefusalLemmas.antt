@@ -8,7 +8,7 @@ use Rattle.call_types.specs.declared.why.Why.TheVariants.{Damaged, Lacks}
 use Rattle.seal_file.specs.declared.damage.Damage.TheVariants.{Spelling}
 use Rattle.register_file.specs.declared.record.RegFile.{RegFile}
 use Rattle.register_core.specs.Found.{HasContent, RefusedLetter, found_at}
-use Rattle.register_core.specs.Loops.{letter_at}
+use Rattle.register_core.specs.LaneWrites.{letter_at}
 
 -- the letters of the first lanes are refused where they have the content, and the others are as they were
 pub record RefusedSoFar (files : List (Option RegFile)) (content : List ℕ) (place : ℕ) (letters whys : List Why) (k : ℕ) : Type 0 where

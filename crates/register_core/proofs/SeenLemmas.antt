@@ -9,6 +9,7 @@ use Rattle.seal_file.proofs.SealedLemmas.{no_damage}
 use Rattle.call_types.specs.Good.{is_good}
 use Rattle.call_types.specs.declared.why.Why.{Why}
 use Rattle.call_types.specs.declared.why.Why.TheVariants.{Good, Failed, Damaged, Behind, Lacks}
+use Rattle.drive_base.specs.declared.drive.Drive.{Ghosts}
 use Rattle.drive_base.specs.Files.{Files}
 use Rattle.register_file.specs.Table.{FileIsInjective}
 use Rattle.register_file.specs.Record.{IsCanonical}
@@ -22,8 +23,8 @@ use Rattle.vote_core.specs.Row.{is_good as is_good_row}
 use Rattle.vote_core.specs.Shown.{ShowLanes, ShowsLane, ShowsNext}
 use Rattle.vote_core.specs.declared.row.Row.{Row}
 use Rattle.register_core.specs.Found.{found_at}
-use Rattle.register_core.specs.Looking.{LaneIsRead, LanesAreRead, Sees}
-use Rattle.register_core.specs.Loops.{letter_at}
+use Rattle.register_core.specs.Looks.{LaneIsRead, LanesAreRead, Sees}
+use Rattle.register_core.specs.LaneWrites.{letter_at}
 use Rattle.register_core.specs.Records.{HasLane, IsHonest, ShowsFile, StandsFor, added_of, lane_of, next_of, row_of, row_of_next}
 use Rattle.register_core.specs.Seen.{AreSeen}
 use Rattle.register_core.proofs.ConcludingLemmas.{row_found}
@@ -85,19 +86,19 @@ rows_show found lanes by_places counted each =
     (shows_read (found_at found k) (lane_at lanes k) (λ file is. each k file low is)))
 
 -- lanes that tell, and whose damage is honest, are seen as they are
-pub lanes_seen : {D : Type 0} (tells : D → Bool) (files : D → Files) (count : D → ℕ) (out most : ℕ) (name : List ℕ) (found : List (Option RegFile)) (whys : List Why)
-    (old new : List D) → FileIsInjective → ShownByPlaces → LanesAreRead tells files count out most name found whys old new
-    → Sees tells files count out name old (AreSeen found)
-lanes_seen tells files count out most name found whys old new injective by_places read lanes told honest are =
+pub lanes_seen : {D : Type 0} (ghosts : Ghosts D) (out most : ℕ) (name : List ℕ) (found : List (Option RegFile)) (whys : List Why)
+    (old new : List D) → FileIsInjective → ShownByPlaces → LanesAreRead ghosts out most name found whys old new
+    → Sees ghosts out name old (AreSeen found)
+lanes_seen ghosts out most name found whys old new injective by_places read lanes told honest are =
     let counted : length found ≡ length lanes = read.counted ∙ sym are.counted in
     let each : (k : ℕ) (file : RegFile) → k < length lanes → found_at found k ≡ Some file → lane_at lanes k ≡ lane_of file =
     (λ k file low is.
     let here : k < length old = omega (arith, are.counted) in
     let d = element old k here in
-    lane_seen most name file (letter_at whys k) (IsBitSet out k) (tells (slice_index_or old k d)) (files (slice_index_or old k d))
-    (count (slice_index_or old k d)) (count (slice_index_or new k d)) (lane_at lanes k) injective
-    (subst (λ (r : Option RegFile). LaneIsRead most name r (letter_at whys k) (IsBitSet out k) (tells (slice_index_or old k d)) (files (slice_index_or old k d))
-    (count (slice_index_or old k d)) (count (slice_index_or new k d))) is (read.each k d here))
+    lane_seen most name file (letter_at whys k) (IsBitSet out k) (ghosts.tells (slice_index_or old k d)) (ghosts.files (slice_index_or old k d))
+    (ghosts.count (slice_index_or old k d)) (ghosts.count (slice_index_or new k d)) (lane_at lanes k) injective
+    (subst (λ (r : Option RegFile). LaneIsRead most name r (letter_at whys k) (IsBitSet out k) (ghosts.tells (slice_index_or old k d)) (ghosts.files (slice_index_or old k d))
+    (ghosts.count (slice_index_or old k d)) (ghosts.count (slice_index_or new k d))) is (read.each k d here))
     (told k d here) (honest k d here) (are.each k d here)) in
     record { counted = counted; each = each; rows = rows_show found lanes by_places counted each }
 
@@ -122,14 +123,14 @@ on_by_places (why ∷ whys) (read ∷ found) same at =
     ap₂ (λ (b : Bool) (bs : List Bool). b ∷ bs) (at zero (omega arith)) (on_by_places whys found (omega arith) (λ k below. at (suc k) (omega arith)))
 
 -- what was read of each lane has letters that agree with its rows
-pub letters_on : {D : Type 0} (tells : D → Bool) (files : D → Files) (count : D → ℕ) (out most : ℕ) (name : List ℕ) (found : List (Option RegFile)) (whys : List Why)
+pub letters_on : {D : Type 0} (ghosts : Ghosts D) (out most : ℕ) (name : List ℕ) (found : List (Option RegFile)) (whys : List Why)
     (old new : List D) → length found ≡ length old → length whys ≡ length old
     → ((k : ℕ) (d : D) → k < length old → LaneIsRead most name (found_at found k) (letter_at whys k) (IsBitSet out k)
-    (tells (slice_index_or old k d)) (files (slice_index_or old k d)) (count (slice_index_or old k d)) (count (slice_index_or new k d)))
+    (ghosts.tells (slice_index_or old k d)) (ghosts.files (slice_index_or old k d)) (ghosts.count (slice_index_or old k d)) (ghosts.count (slice_index_or new k d)))
     → map is_good whys ≡ map is_good_row (map row_of found)
-letters_on tells files count out most name found whys old new counted lettered each =
+letters_on ghosts out most name found whys old new counted lettered each =
     on_by_places whys found (lettered ∙ sym counted) (λ k low.
     let here : k < length old = omega arith in
     let d = element old k here in
-    letter_on most name (found_at found k) (letter_at whys k) (IsBitSet out k) (tells (slice_index_or old k d)) (files (slice_index_or old k d))
-    (count (slice_index_or old k d)) (count (slice_index_or new k d)) (each k d here))
+    letter_on most name (found_at found k) (letter_at whys k) (IsBitSet out k) (ghosts.tells (slice_index_or old k d)) (ghosts.files (slice_index_or old k d))
+    (ghosts.count (slice_index_or old k d)) (ghosts.count (slice_index_or new k d)) (each k d here))

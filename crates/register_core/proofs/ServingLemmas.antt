@@ -14,6 +14,7 @@ use Rattle.call_types.specs.Good.{good_count, is_good}
 use Rattle.call_types.specs.declared.why.FileKind.TheVariants.{Format, Register, Manifest, Shard}
 use Rattle.call_types.specs.declared.why.Why.{Why}
 use Rattle.call_types.specs.declared.why.Why.TheVariants.{Good, Failed, Damaged, Behind, Lacks}
+use Rattle.drive_base.specs.declared.drive.Drive.{Ghosts}
 use Rattle.drive_base.specs.DriveSet.{count_in, is_in}
 use Rattle.drive_base.specs.Files.{Files}
 use Rattle.file_access.specs.Reading.{FailedWhile, IsTooLong}
@@ -28,10 +29,10 @@ use Rattle.register_file.specs.Table.{register_table}
 use Rattle.register_file.specs.declared.record.Next.{Next}
 use Rattle.register_file.specs.declared.record.RegFile.{RegFile}
 use Rattle.vote_core.specs.Lane.{Lane, blank_lane, Next as LaneNext}
-use Rattle.register_core.specs.Looking.{LaneIsRead}
-use Rattle.register_core.specs.Loops.{OnLane, WritesEach, letter_at}
+use Rattle.register_core.specs.Looks.{LaneIsRead}
+use Rattle.register_core.specs.LaneWrites.{OnLane, WritesEach, letter_at}
 use Rattle.register_core.specs.Records.{HasLane, IsRegisterDamage, StandsFor, lane_of, next_of}
-use Rattle.register_core.specs.Serving.{AllServe, IsWithin, Serves}
+use Rattle.register_core.specs.ServingLanes.{AllServe, IsWithin, Serves}
 use Rattle.stamp_id.specs.declared.stamp.Ballot.{Ballot}
 use Rattle.register_core.proofs.LaneLemmas.{none_set}
 use Rattle.register_core.proofs.SeenLemmas.{element}
@@ -162,20 +163,20 @@ cause_is_good (Damaged damage) there old new cause told calm = absurd cause
 cause_is_good (Behind ballot) there old new cause told calm = absurd cause
 cause_is_good (Lacks kind) there old new cause told calm = absurd (cause.1 told)
 
-module _ {D : Type 0} (tells : D → Bool) (files : D → Files) (count : D → ℕ) where
+module _ {D : Type 0} (ghosts : Ghosts D) where
   -- a lane that serves takes the write of a loop
   on_lane_good : (out : ℕ) (name bytes : List ℕ) (term from to : ℕ) (letters : List Why) (k : ℕ) (why : Why) (old new : D)
-      → OnLane tells files count out 0 name bytes term from to letters k why old new → Serves tells count out k old new → letter_at letters k ≡ Good → why ≡ Good
+      → OnLane ghosts out 0 name bytes term from to letters k why old new → Serves ghosts out k old new → letter_at letters k ≡ Good → why ≡ Good
   on_lane_good out name bytes term from to letters k why old new on serves good = elim on [
     | inl gone ↦ absurd (serves.in_use gone.out_is)
     | inr (inl kept) ↦ elim kept.passed_is [ inl bit ↦ absurd (none_set k bit) | inr bad ↦ absurd (bad good) ]
-    | inr (inr done) ↦ cause_is_good why (IsTrue (tells old)) (count old) (count new) done.1.cause serves.told serves.calm
+    | inr (inr done) ↦ cause_is_good why (IsTrue (ghosts.tells old)) (ghosts.count old) (ghosts.count new) done.1.cause serves.told serves.calm
   ]
 
   -- so the lanes of a set that serve are no more than the good letters after it
   pub served : (out : ℕ) (name bytes : List ℕ) (term from to : ℕ) (letters whys : List Why) (old new : List D) (serving : ℕ)
-      → WritesEach tells files count out 0 name bytes term from to letters whys old new → length letters ≡ length old
-      → AllServe tells count out serving letters old new → count_in serving (length old) ≤ good_count whys
+      → WritesEach ghosts out 0 name bytes term from to letters whys old new → length letters ≡ length old
+      → AllServe ghosts out serving letters old new → count_in serving (length old) ≤ good_count whys
   served out name bytes term from to letters whys old new serving wrote sized serve =
       subst (λ (n : ℕ). count_in serving n ≤ good_count whys) (wrote.counted ∙ sized)
       (good_letters_count serving whys (λ k low bit.
@@ -186,7 +187,7 @@ module _ {D : Type 0} (tells : D → Bool) (files : D → Files) (count : D → 
 
   -- and no more than the good letters before it
   pub served_before : (out : ℕ) (letters : List Why) (old new : List D) (serving : ℕ) → length letters ≡ length old
-      → AllServe tells count out serving letters old new → count_in serving (length old) ≤ good_count letters
+      → AllServe ghosts out serving letters old new → count_in serving (length old) ≤ good_count letters
   served_before out letters old new serving sized serve =
       subst (λ (n : ℕ). count_in serving n ≤ good_count letters) sized
       (good_letters_count serving letters (λ k low bit. let here : k < length old = omega arith in (serve k (element old k here) here bit).1))

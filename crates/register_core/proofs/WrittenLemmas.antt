@@ -8,8 +8,8 @@ use Rattle.std.proofs.lemmas.List.{get_or-append_right, get_or_append_left, leng
 use Rattle.std.proofs.lemmas.List.Sums.{sum_by-append, sum_by-cons}
 use Rattle.call_types.specs.declared.why.Why.{Why}
 use Rattle.call_types.specs.declared.why.Why.TheVariants.{Good}
-use Rattle.register_core.specs.Loops.{letter_at}
-use Rattle.register_core.specs.Proposing.{CountsWritten}
+use Rattle.register_core.specs.LaneWrites.{letter_at}
+use Rattle.register_core.specs.Proposals.{CountsWritten}
 
 -- a lane was written
 abbrev pub WasWritten : ℕ → List Why → ℕ → Type 0

@@ -8,7 +8,7 @@ use Rattle.register_file.specs.declared.record.Base.{Base}
 use Rattle.register_file.specs.declared.record.Next.{Next}
 use Rattle.register_core.specs.Records.{marked_base, settled_file, prepared_file}
 use Rattle.register_core.specs.declared.drafts.Draft.{Draft}
-use Rattle.register_core.specs.declared.looked.Looked.{Looked}
+use Rattle.register_core.specs.declared.looks.Looked.{Looked}
 
 -- a draft that leaves this base in the end
 pub record EndsAt (draft : Draft) (base : Base) : Type 0 where

@@ -1,5 +1,5 @@
 -- The manifests of a pending change's data, on the data drives.
-use Rattle.std.specs.Prelude.{◌≡◌, ◌≢◌, ◌⊎◌, ◌+◌, ◌<◌, ◌≤◌, ℕ, Bool, IsTrue, List, length, Some, None, slice_index_or}
+use Rattle.std.specs.Prelude.{◌≡◌, ◌≢◌, ◌⊎◌, ◌+◌, ◌<◌, ◌≤◌, ℕ, Bool, IsTrue, List, length, Some, None, slice_index_or, true, false, Result, Ok, Err}
 use Rattle.std.specs.Int.{IsBitSet}
 use Rattle.sha2.specs.Sha256.{sha256}
 use Rattle.seal_file.specs.Sealing.{sealed, IsDamage}
@@ -9,6 +9,7 @@ use Rattle.field_reader.specs.Format.{fault_at}
 use Rattle.call_types.specs.declared.why.FileKind.TheVariants.{Format, Register, Manifest as TheManifest, Shard}
 use Rattle.call_types.specs.declared.why.Why.{Why}
 use Rattle.call_types.specs.declared.why.Why.TheVariants.{Good, Failed, Damaged, Behind, Lacks}
+use Rattle.drive_base.specs.declared.drive.Drive.{Ghosts}
 use Rattle.drive_base.specs.Files.{Files}
 use Rattle.drive_base.specs.declared.plan.SetPlan.{SetPlan}
 use Rattle.file_access.specs.Reading.{FailedWhile, IsTooLong}
@@ -20,7 +21,9 @@ use Rattle.manifest_file.specs.declared.manifest.Manifest.{Manifest}
 use Rattle.manifest_file.specs.declared.manifest.TheConstants.{LONGEST_FILE}
 use Rattle.body_print.specs.Names.{manifest_name}
 use Rattle.register_file.specs.declared.record.Adds.{Adds}
-use Rattle.register_core.specs.Loops.{letter_at}
+use Rattle.register_core.specs.LaneWrites.{letter_at}
+use Rattle.file_access.specs.declared.fault.FetchFault.{FetchFault}
+use Rattle.file_access.specs.declared.fault.FetchFault.TheVariants.{Because, NoMemory}
 
 -- a manifest names a set's number of drives, and a parity that such a set can have
 pub record NamesSet (set : SetPlan) (m : Manifest) : Type 0 where
@@ -61,11 +64,41 @@ ManifestLetter set adds (Lacks TheManifest) out tells files old new = (out → �
 ManifestLetter set adds (Lacks Register) out tells files old new = ⊥
 ManifestLetter set adds (Lacks Shard) out tells files old new = ⊥
 
-module _ {D : Type 0} (tells : D → Bool) (files : D → Files) (count : D → ℕ) where
+-- a manifest names the set's numbers, or not
+abbrev pub TellsOf : SetPlan → Manifest → Bool → Type 0
+TellsOf set m true = NamesSet set m
+TellsOf set m false = NamesSet set m → ⊥
+
+-- only a damage is told, and the file has it
+abbrev pub IsDamagedSo : SetPlan → List ℕ → List ℕ → Why → Type 0
+IsDamagedSo set print file Good = ⊥
+IsDamagedSo set print file (Failed _ _) = ⊥
+IsDamagedSo set print file (Damaged damage) = IsManifestDamage set print file damage
+IsDamagedSo set print file (Behind _) = ⊥
+IsDamagedSo set print file (Lacks _) = ⊥
+
+-- a file is that of a manifest that verifies, or what is wrong with it
+abbrev pub LettersOf : {T : Type 0} → SetPlan → List ℕ → List ℕ → Result T FetchFault → Type 0
+LettersOf set print file (Ok _) = (m : Manifest) × (file ≡ file_of m) × Verifies set print m
+LettersOf set print file (Err (Because why)) = IsDamagedSo set print file why
+LettersOf set print file (Err NoMemory) = Unit {0}
+
+-- the letter of a data drive, or there was not enough memory, and no count rose
+abbrev pub ReadsManifest : {T : Type 0} → SetPlan → Adds → Type 0 → Result T FetchFault → Bool → Files → ℕ → ℕ → Type 0
+ReadsManifest set adds out (Ok _) tells files old new = ManifestLetter set adds Good out tells files old new
+ReadsManifest set adds out (Err (Because why)) tells files old new = ManifestLetter set adds why out tells files old new
+ReadsManifest set adds out (Err NoMemory) tells files old new = (out → ⊥) × (new ≡ old)
+
+module _ {D : Type 0} (ghosts : Ghosts D) where
+  -- the letter of data drive k, before and after it was read
+  abbrev pub ReadsManifestOn : {T : Type 0} → SetPlan → Adds → ℕ → Result T FetchFault → D → D → Type 0
+  ReadsManifestOn set adds k result old new =
+      ReadsManifest set adds (IsBitSet set.out k) result (ghosts.tells old) (ghosts.files old) (ghosts.count old) (ghosts.count new)
+
   -- the letter of each data drive; a drive that is out isn't called
   pub record AreManifestLetters (set : SetPlan) (adds : Adds) (whys : List Why) (old new : List D) : Type 0 where
     pub counted : length whys ≡ length old
     pub each : (k : ℕ) (default : D) → k < length old → ManifestLetter set adds (letter_at whys k) (IsBitSet set.out k)
-        (tells (slice_index_or old k default)) (files (slice_index_or old k default))
-        (count (slice_index_or old k default)) (count (slice_index_or new k default))
+        (ghosts.tells (slice_index_or old k default)) (ghosts.files (slice_index_or old k default))
+        (ghosts.count (slice_index_or old k default)) (ghosts.count (slice_index_or new k default))
     pub stay : (k : ℕ) (default : D) → IsBitSet set.out k → slice_index_or new k default ≡ slice_index_or old k default

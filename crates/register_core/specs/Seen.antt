@@ -11,7 +11,7 @@ use Rattle.vote_core.specs.Shown.{FindsPending, ShowLanes}
 use Rattle.vote_core.specs.Sound.{HoldsValue}
 use Rattle.register_core.specs.Found.{found_at}
 use Rattle.register_core.specs.Records.{base_of, lane_of, next_of, row_of}
-use Rattle.register_core.specs.declared.looked.Looked.{Looked}
+use Rattle.register_core.specs.declared.looks.Looked.{Looked}
 
 -- each file that was read is its lane's record, so the rows show the lanes
 pub record AreSeen (found : List (Option RegFile)) (lanes : List Lane) : Type 0 where

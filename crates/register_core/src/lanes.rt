@@ -1,19 +1,24 @@
-//! Reading a register's files from the lanes.
+//! The lanes of a register: what is read of them, and the loose names of what is written on them.
 
-ghost use Rattle.std.specs.Prelude.{◌≡◌, ◌<◌, ◌≤◌, ◌↔◌, ℕ, IsTrue, IfOk, IfErr, length, map, slice_index_or};
+ghost use Rattle.std.specs.Prelude.{◌≡◌, ◌<◌, ◌≤◌, ◌↔◌, IsTrue, IfOk, IfErr, length, map, ◌*◌};
 ghost use Rattle.std.specs.Int.{IsBitSet};
+ghost use Rattle.drive_base.specs.View.{AllOnlyRead, OnlyRead, view, views};
 ghost use Rattle.vote_core.specs.Lane.{blank_lane};
 ghost use Rattle.register_file.specs.Record.{IsCanonical};
-ghost use Rattle.register_core.specs.Looking.{LanesAreRead};
+ghost use Rattle.register_core.specs.Looks.{LanesAreRead};
 ghost use Rattle.register_core.specs.Records.{lane_of, row_of};
-ghost use Rattle.register_core.specs.Reads.{ReadsLane, OpensFile};
+ghost use Rattle.register_core.specs.LaneReads.{ReadsLane, OpensFile};
 ghost use Rattle.register_core.specs.declared.faults.QuorumFault.TheVariants.{NoMemory};
+ghost use Rattle.std.specs.Str.{is_utf8};
+ghost use Rattle.hex.specs.Hex.{encode_lower};
+ghost use Rattle.register_core.specs.Loose.{loose_name};
+ghost use Rattle.register_core.specs.ServingLanes.{GoodLettersCount, NoFileIsBlank, ServingLaneIsRead};
 
 use crate::faults::QuorumFault;
 use call_types::{FileKind, Why, Whys};
 use drive_base::{Drive, DriveSet};
 use file_access::{FetchFault, file_on};
-use register_file::{Base, RegFile, read};
+use register_file::{Base, RegFile, file_laws, read};
 use seal_file::{Bytes, Damage, RecordFault};
 use stamp_id::{Ballot, ChangeId};
 use std::alloc::{AllocError, Global};
@@ -38,11 +43,9 @@ pub fn read_lanes<D: Drive>(
 ) -> Result<Found, QuorumFault>
     requires some { 1 ≤ length lanes.old }
     requires few { length lanes.old ≤ 16 }
-    ensures read { IfOk result (λ found. LanesAreRead D.tells D.files D.count out most name.now found.files.items found.whys lanes.old lanes.new) }
+    ensures read { IfOk result (λ found. LanesAreRead D.Drive out most name.now found.files.items found.whys lanes.old lanes.new) }
     ensures refused { IfErr result (λ fault. fault ≡ NoMemory) }
-    ensures files { (k : ℕ) (d : D) → k < length lanes.old → IsTrue (D.tells (slice_index_or lanes.old k d)) → D.files (slice_index_or lanes.new k d) ≡ D.files (slice_index_or lanes.old k d) }
-    ensures tells { (k : ℕ) (d : D) → k < length lanes.old → D.tells (slice_index_or lanes.new k d) ≡ D.tells (slice_index_or lanes.old k d) }
-    ensures counts { (k : ℕ) (d : D) → k < length lanes.old → D.count (slice_index_or lanes.old k d) ≤ D.count (slice_index_or lanes.new k d) }
+    ensures lanes_read { AllOnlyRead (views D.Drive lanes.old) (views D.Drive lanes.new) }
 {
     let mut files = Vec::with_capacity(alloc, lanes.len())?;
     let mut whys = Whys::all_good(lanes.len() as u8);
@@ -77,9 +80,7 @@ fn read_lane<D: Drive>(
 ) -> Result<RegFile, FetchFault>
     ensures outcome { ReadsLane most name.now result (IsTrue is_out) (D.tells lane.old) (D.files lane.old) (D.count lane.old) (D.count lane.new) }
     ensures alone { IsTrue is_out → lane.new ≡ lane.old }
-    ensures files { IsTrue (D.tells lane.old) → D.files lane.new ≡ D.files lane.old }
-    ensures tells { D.tells lane.new ≡ D.tells lane.old }
-    ensures count { D.count lane.old ≤ D.count lane.new }
+    ensures read { OnlyRead (view D.Drive lane.old) (view D.Drive lane.new) }
 {
     if is_out {
         return Err(FetchFault::Because(Why::Lacks(FileKind::Format)));
@@ -153,4 +154,52 @@ fn row_of(file: &Option<RegFile>) -> Row
         change: file.base.change,
         next,
     }
+}
+
+/// A loose name, kept in place: it takes no memory.
+#[derive(Drop)]
+pub struct LooseName {
+    /// The 29 letters.
+    letters: [u8; 29],
+    ghost text: { IsTrue (is_utf8 letters) },
+}
+
+impl LooseName {
+    /// The loose name of a term, below 2^48, and a number: a `w`, the term in 12 hex digits and the number in 16.
+    pub fn new(term: u64, number: u64) -> LooseName
+        ensures { result.letters ≡ loose_name term number }
+    {
+        let mut letters = [b'w'; 29];
+        write_digits(&term.to_be_bytes()[2..], &mut letters[1..13]);
+        write_digits(&number.to_be_bytes(), &mut letters[13..]);
+        LooseName { letters }
+    }
+
+    /// Its text.
+    pub fn as_str(&self) -> &str
+        ensures { result.now ≡ self.now.letters }
+    {
+        match std::str::from_utf8(&self.letters) {
+            Ok(text) => text,
+            Err(_) => unreachable!(),
+        }
+    }
+}
+
+/// Writes the hex digits of bytes into a place that has room for just them.
+fn write_digits(bytes: &[u8], place: &mut [u8])
+    requires { length place.old ≡ 2 * length bytes.now }
+    ensures { place.new ≡ encode_lower bytes.now }
+{
+    let _ = hex::encode_to_slice(bytes, place);
+}
+
+/// A lane that is in use, tells what it holds, had no fault and shows what it keeps is read, so that its letter is good; lanes with good letters are
+/// counted; and a lane that keeps no file has the blank record. It does nothing.
+pub fn lane_laws()
+    ensures read { ServingLaneIsRead }
+    ensures counted { GoodLettersCount }
+    ensures blank { NoFileIsBlank }
+{
+    file_laws();
 }

@@ -1,7 +1,7 @@
 //! The quorum register: one value under one name over N lanes, of which some may be lost, damaged or slow to come back.
 //!
 //! [`look`] reads the register on every lane and answers its value, or that a change is on its way which must be completed
-//! first, or why nothing can be said. [`draft`] makes the two files of a change; [`propose`] writes the first one, which
+//! first, or why nothing can be said. [`draft_change`] makes the two files of a change; [`propose`] writes the first one, which
 //! prepares the change, and [`mark`] the second, which makes it the value. [`mend`] writes the value on the lanes that have
 //! anything else. A change that is refused half-way may take effect later, once or never, and a later look says so. Files
 //! are made before the first write: `propose`, `mark` and `mend` take no memory.
@@ -14,28 +14,18 @@
 #![tactic(auto)]
 
 mod content;
-mod copies;
-mod drafting;
 mod drafts;
 mod faults;
-mod found;
 mod lanes;
-mod laws;
-mod looked;
-mod looking;
-mod loose;
+mod looks;
 mod manifests;
-mod mending;
-mod proposing;
-mod writes;
+mod mends;
+mod proposals;
 
 pub use content::{ContentFault, ContentRule};
-pub use drafting::{draft, draft_after, draft_mend};
-pub use drafts::Draft;
+pub use drafts::{Draft, draft_after, draft_change, draft_mend};
 pub use faults::QuorumFault;
-pub use lanes::is_out;
-pub use laws::lane_laws;
-pub use looked::Looked;
-pub use looking::look;
-pub use mending::{Mended, mend};
-pub use proposing::{Prepared, mark, propose};
+pub use lanes::{is_out, lane_laws};
+pub use looks::{Looked, look};
+pub use mends::{Mended, mend};
+pub use proposals::{Prepared, mark, propose};

@@ -7,8 +7,7 @@ ghost use Rattle.drive_base.specs.View.{AllOnlyRead, OnlyRead, view, views};
 ghost use Rattle.manifest_file.specs.Canonical.{IsCanonical};
 ghost use Rattle.manifest_file.specs.Spelling.{file_of};
 ghost use Rattle.manifest_file.specs.declared.manifest.TheConstants.{LONGEST_FILE};
-ghost use Rattle.register_core.specs.Manifests.{AreManifestLetters, ManifestLetter};
-ghost use Rattle.register_core.specs.ManifestSteps.{LettersOf, ReadsManifest, TellsOf};
+ghost use Rattle.register_core.specs.Manifests.{AreManifestLetters, LettersOf, ReadsManifestOn, TellsOf};
 ghost use Rattle.register_core.specs.declared.faults.QuorumFault.TheVariants.{NoMemory};
 
 use crate::faults::QuorumFault;
@@ -30,7 +29,7 @@ pub fn look_for_data<D: Drive>(
     disks: &mut [D],
 ) -> Result<Whys, QuorumFault>
     requires { length disks.old ≡ set.drives }
-    ensures letters { IfOk result (λ whys. AreManifestLetters D.tells D.files D.count set adds.now whys disks.old disks.new) }
+    ensures letters { IfOk result (λ whys. AreManifestLetters D.Drive set adds.now whys disks.old disks.new) }
     ensures refused { IfErr result (λ fault. fault ≡ NoMemory) }
     ensures disks_read { AllOnlyRead (views D.Drive disks.old) (views D.Drive disks.new) }
 {
@@ -58,7 +57,7 @@ fn manifest_on<D: Drive>(
     name: &str,
 ) -> Result<(), FetchFault>
     requires { index < set.now.drives }
-    ensures outcome { name.now ≡ manifest_name adds.now.id → ReadsManifest set.now adds.now (IsBitSet set.now.out index) result (D.tells disk.old) (D.files disk.old) (D.count disk.old) (D.count disk.new) }
+    ensures outcome { name.now ≡ manifest_name adds.now.id → ReadsManifestOn D.Drive set.now adds.now index result disk.old disk.new }
     ensures alone { IsBitSet set.now.out index → disk.new ≡ disk.old }
     ensures read { OnlyRead (view D.Drive disk.old) (view D.Drive disk.new) }
 {

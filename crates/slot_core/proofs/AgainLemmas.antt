@@ -2,8 +2,8 @@
 use Rattle.std.proofs.Common.{◌≡◌, ◌≤◌, ◌∙◌, ℕ, List, [], ◌∷◌, Contains, false, bytes_eq, sym, ap, subst, refl, inl, inr}
 use Rattle.vote_core.specs.Lane.{Next}
 use Rattle.vote_core.specs.Laws.{DrawingKeeps, FreshIsCalm}
-use Rattle.register_caller.specs.Leaving.{LeavesLanes, Written, written_of}
-use Rattle.register_caller.specs.Settling.{IsPending}
+use Rattle.register_caller.specs.WrittenLanes.{LeavesLanes, Written, written_of}
+use Rattle.register_caller.specs.Pending.{IsPending}
 use Rattle.slot_history.specs.Laws.{OnlyTheOld}
 use Rattle.slot_history.specs.Sections.{IsOnItsWay}
 use Rattle.slot_history.specs.Standing.{WaitsAs}

@@ -1,12 +1,12 @@
 -- A read of a slot, by that of its lanes.
 use Rattle.std.proofs.Common.{◌≡◌, ◌∙◌, ℕ, ◌+◌, ◌*◌, ◌^◌, ◌<◌, ◌≤◌, List, [], ◌∷◌, ◌++◌, Option, Result, Ok, Err, map, ap, subst, sym, arith}
-use Rattle.std.specs.Prelude.{All, Bool}
+use Rattle.std.specs.Prelude.{All}
 use Rattle.std.proofs.lemmas.List.{map-append}
 use Rattle.std.proofs.lemmas.List.Elements.{All-contains, All-map, All-push, All-weaker}
 use Rattle.stamp_id.specs.declared.stamp.ChangeId.{ChangeId}
 use Rattle.call_types.specs.declared.names.Key.{Key}
 use Rattle.call_types.specs.declared.names.Pick.{Pick}
-use Rattle.drive_base.specs.Files.{Files}
+use Rattle.drive_base.specs.declared.drive.Drive.{Ghosts}
 use Rattle.version_list.specs.declared.state.KeyState.{KeyState}
 use Rattle.slot_history.specs.Contents.{number_of_id}
 use Rattle.slot_data.specs.Holding.{Holding, Pinned}
@@ -57,10 +57,10 @@ pub flights_drawn_on : (rows : List FlightRow) (term seq later : ℕ) → seq �
 flights_drawn_on rows term seq later rises before =
     All-weaker (λ (row : FlightRow). number_of_id row.id ≤ term * 2 ^ 64 + seq) (λ (row : FlightRow). number_of_id row.id ≤ term * 2 ^ 64 + later) (λ row low. omega arith) rows before
 
-module _ {D : Type 0} (tells : D → Bool) (files : D → Files) (count : D → ℕ) where
+module _ {D : Type 0} (ghosts : Ghosts D) where
   -- what a look gave doesn't go by how many sections were done
   gave_turned : (numbers later : SlotNumbers) (turns : ℕ) (at : Key) (Due : KeyState → Type 0) (late : Option ChangeId) (old new disks disks_after : List D)
-      → ReadGave tells files count numbers later at Due late old new disks disks_after → ReadGave tells files count numbers (with_turns later turns) at Due late old new disks disks_after
+      → ReadGave ghosts numbers later at Due late old new disks disks_after → ReadGave ghosts numbers (with_turns later turns) at Due late old new disks disks_after
   gave_turned numbers later turns at Due late old new disks disks_after gave = record {
     content = gave.content;
     gave = gave.gave;
@@ -71,8 +71,8 @@ module _ {D : Type 0} (tells : D → Bool) (files : D → Files) (count : D → 
   }
 
   turned_cause : (numbers later : SlotNumbers) (turns : ℕ) (at : Key) (pick : Pick) (answer : Result ReadStart SlotFault) (late : Option ChangeId) (old new disks disks_after : List D)
-      → ReadCause tells files count numbers later at pick answer late old new disks disks_after
-      → ReadCause tells files count numbers (with_turns later turns) at pick answer late old new disks disks_after
+      → ReadCause ghosts numbers later at pick answer late old new disks disks_after
+      → ReadCause ghosts numbers (with_turns later turns) at pick answer late old new disks disks_after
   turned_cause numbers later turns at pick (Ok start) late old new disks disks_after gave = gave_turned numbers later turns at _ late old new disks disks_after gave
   turned_cause numbers later turns at pick (Err (Quorum fault)) late old new disks disks_after cause = cause
   turned_cause numbers later turns at pick (Err (KeyFault why)) late old new disks disks_after gave = gave_turned numbers later turns at _ late old new disks disks_after gave
@@ -83,9 +83,9 @@ module _ {D : Type 0} (tells : D → Bool) (files : D → Files) (count : D → 
 
   pub read_cause_turned : (numbers later : SlotNumbers) (turns : ℕ) (at : Key) (pick : Pick) (answer : Result ReadStart SlotFault) (late : Option ChangeId)
       (old old_is new new_is disks disks_after : List D)
-      → old_is ≡ old → new_is ≡ new → ReadCause tells files count numbers later at pick answer late old_is new_is disks disks_after
-      → ReadCause tells files count numbers (with_turns later turns) at pick answer late old new disks disks_after
+      → old_is ≡ old → new_is ≡ new → ReadCause ghosts numbers later at pick answer late old_is new_is disks disks_after
+      → ReadCause ghosts numbers (with_turns later turns) at pick answer late old new disks disks_after
   read_cause_turned numbers later turns at pick answer late old old_is new new_is disks disks_after same_old same_new cause =
       turned_cause numbers later turns at pick answer late old new disks disks_after
-      (subst (λ (l : List D). ReadCause tells files count numbers later at pick answer late old l disks disks_after) same_new
-      (subst (λ (l : List D). ReadCause tells files count numbers later at pick answer late l new_is disks disks_after) same_old cause))
+      (subst (λ (l : List D). ReadCause ghosts numbers later at pick answer late old l disks disks_after) same_new
+      (subst (λ (l : List D). ReadCause ghosts numbers later at pick answer late l new_is disks disks_after) same_old cause))

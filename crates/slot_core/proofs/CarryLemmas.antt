@@ -13,7 +13,7 @@ use Rattle.vote_core.specs.Calm.{IsCalm}
 use Rattle.vote_core.specs.Lane.{Lane}
 use Rattle.register_core.specs.Records.{next_of}
 use Rattle.register_core.specs.declared.faults.QuorumFault.{QuorumFault}
-use Rattle.register_caller.specs.Leaving.{written_of}
+use Rattle.register_caller.specs.WrittenLanes.{written_of}
 use Rattle.slot_history.specs.Doing.{Does}
 use Rattle.slot_history.proofs.TakenLemmas.{none_there}
 use Rattle.slot_history.specs.Laws.{IsMade, MadeIsLate, with_waiting}

@@ -1,13 +1,13 @@
 -- What carrying out a plan tells, and from which calls its outcome comes.
 use Rattle.std.proofs.Common.{◌≡◌, ◌≤◌, ◌+◌, ◌∙◌, ℕ, List, [], Option, None, Some, Result, Ok, Err, ap, subst, sym, refl, inl, inr, arith}
 use Rattle.std.proofs.lemmas.List.{append-nil}
-use Rattle.std.specs.Prelude.{◌++◌, Bool, ⊤, IfSome, MatchOption, string_bytes}
+use Rattle.std.specs.Prelude.{◌++◌, ⊤, IfSome, MatchOption, string_bytes}
 use Rattle.call_types.specs.Refusals.{refusal_of}
 use Rattle.call_types.specs.declared.refusal.KeyRefusal.{KeyRefusal}
 use Rattle.call_types.specs.declared.reply.Reply.{Reply}
 use Rattle.call_types.specs.declared.reply.Reply.TheVariants.{Refused}
 use Rattle.call_types.specs.declared.why.Why.{Why}
-use Rattle.drive_base.specs.Files.{Files}
+use Rattle.drive_base.specs.declared.drive.Drive.{Ghosts}
 use Rattle.drive_base.specs.declared.plan.SetPlan.{SetPlan}
 use Rattle.stamp_id.specs.declared.stamp.Ballot.{Ballot}
 use Rattle.stamp_id.specs.declared.stamp.ChangeId.{ChangeId}
@@ -18,7 +18,7 @@ use Rattle.register_core.specs.Found.{content_of}
 use Rattle.register_core.specs.declared.drafts.Draft.{Draft}
 use Rattle.register_core.specs.declared.faults.QuorumFault.{QuorumFault}
 use Rattle.register_core.specs.declared.faults.QuorumFault.TheVariants.{ReadQuorum, WriteQuorum, Undecided, NoMemory}
-use Rattle.register_core.specs.declared.looked.Looked.{Looked}
+use Rattle.register_core.specs.declared.looks.Looked.{Looked}
 use Rattle.register_caller.specs.Steps.{WritesBoth}
 use Rattle.slot_rules.specs.Deeds.{name_of}
 use Rattle.slot_rules.specs.Owning.{IsOwnDraft, IsOwnOf, again_takes, base_after}
@@ -85,10 +85,10 @@ own_over site last ready deed put now reply own ballot first named is =
 
 -- ---- entries and tales
 
-module _ {D : Type 0} (tells : D → Bool) (files : D → Files) (count : D → ℕ) where
+module _ {D : Type 0} (ghosts : Ghosts D) where
   -- the entry of own writes
   pub writes_entry : (site : Site) (drawn later : Drawn) (own : Own) (late : Option ChangeId) (tale : Tale) (outcome : Outcome) (old new : List D) (ticket : ℕ) (name : List ℕ)
-      → CallsOwnWrites tells files count site drawn later own late tale outcome old new
+      → CallsOwnWrites ghosts site drawn later own late tale outcome old new
       → Some (entry_at ticket name late (deed_told outcome)) ≡ entry_told ticket name outcome
   writes_entry site drawn later own late tale (Done told first) old new ticket name calls =
       ap (λ (l : Option ChangeId). Some (entry_at ticket name l (deed_told (Done told first)))) (sym calls.1)
@@ -98,7 +98,7 @@ module _ {D : Type 0} (tells : D → Bool) (files : D → Files) (count : D → 
   writes_entry site drawn later own late tale LacksMemory old new ticket name calls = absurd calls
 
   -- own writes are refused with the letters of lanes
-  pub writes_refused : (draft : Draft) (out term from to : ℕ) (fault : QuorumFault) (old new : List D) → WritesBoth tells files count draft out term from to (Err fault) old new
+  pub writes_refused : (draft : Draft) (out term from to : ℕ) (fault : QuorumFault) (old new : List D) → WritesBoth ghosts draft out term from to (Err fault) old new
       → (whys : List Why) × (fault ≡ WriteQuorum whys)
   writes_refused draft out term from to (ReadQuorum whys) old new writes = absurd (elim writes [
     | inl proposes ↦ proposes
@@ -117,7 +117,7 @@ module _ {D : Type 0} (tells : D → Bool) (files : D → Files) (count : D → 
   -- what own writes tell
   pub writes_told : (site : Site) (drawn later : Drawn) (own : Own) (late : Option ChangeId) (tale : Tale) (outcome : Outcome) (old new : List D) (deed : Commit) (now : ℕ)
       → IsTale deed (Some own.change) now tale → tale.refused ≡ None
-      → CallsOwnWrites tells files count site drawn later own late tale outcome old new → IsTold deed now outcome
+      → CallsOwnWrites ghosts site drawn later own late tale outcome old new → IsTold deed now outcome
   writes_told site drawn later own late tale (Done told first) old new deed now is served calls = (
     Some own.change,
     subst (λ (t : Tale). IsTale deed (Some own.change) now t) (sym calls.0) is,
@@ -133,9 +133,9 @@ module _ {D : Type 0} (tells : D → Bool) (files : D → Files) (count : D → 
 
   -- the calls of a section with a change of its own
   pub writes_calls : (site : Site) (drawn middle later : Drawn) (first : Option Draft) (plan : Plan) (own : Own) (late : Option ChangeId) (outcome : Outcome)
-      (old between new : List D) → plan.own ≡ Some own → later.seq ≡ own.seq → CallsForward tells files count site drawn middle first (Ok late) old between
-      → CallsOwnWrites tells files count site middle later own late plan.tale outcome between new
-      → CallsCarry tells files count site drawn later first plan outcome old new
+      (old between new : List D) → plan.own ≡ Some own → later.seq ≡ own.seq → CallsForward ghosts site drawn middle first (Ok late) old between
+      → CallsOwnWrites ghosts site middle later own late plan.tale outcome between new
+      → CallsCarry ghosts site drawn later first plan outcome old new
   writes_calls site drawn middle later first plan own late (Done told begun) old between new some seq forward calls = (
     calls.0,
     inr (
@@ -146,7 +146,7 @@ module _ {D : Type 0} (tells : D → Bool) (files : D → Files) (count : D → 
         seq = seq;
         between = between;
         middle = middle;
-        forward = subst (λ (l : Option ChangeId). CallsForward tells files count site drawn middle first (Ok l) old between) (sym calls.1) forward;
+        forward = subst (λ (l : Option ChangeId). CallsForward ghosts site drawn middle first (Ok l) old between) (sym calls.1) forward;
         writes = calls.2.1;
       },
     ),
@@ -161,7 +161,7 @@ module _ {D : Type 0} (tells : D → Bool) (files : D → Files) (count : D → 
         seq = seq;
         between = between;
         middle = middle;
-        forward = subst (λ (l : Option ChangeId). CallsForward tells files count site drawn middle first (Ok l) old between) (sym calls.1) forward;
+        forward = subst (λ (l : Option ChangeId). CallsForward ghosts site drawn middle first (Ok l) old between) (sym calls.1) forward;
         writes = calls.3;
       },
     ),
@@ -171,7 +171,7 @@ module _ {D : Type 0} (tells : D → Bool) (files : D → Files) (count : D → 
 
   -- so many numbers are drawn at most to complete what is pending
   pub mid_low : (site : Site) (drawn middle : Drawn) (first : Option Draft) (late : Option ChangeId) (old new : List D) → middle.seq ≤ drawn.seq + 1
-      → CallsForward tells files count site drawn middle first (Ok late) old new → middle.seq ≤ drawn.seq + again_takes first
+      → CallsForward ghosts site drawn middle first (Ok late) old new → middle.seq ≤ drawn.seq + again_takes first
   mid_low site drawn middle (Some draft) late old new few calls = few
   mid_low site drawn middle None None old new few calls = let same = ap (λ (d : Drawn). d.seq) calls.2 in omega arith
   mid_low site drawn middle None (Some change) old new few calls = absurd (let clash : None ≡ Some calls.1.draft = calls.1.is in cc)

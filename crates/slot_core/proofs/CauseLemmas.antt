@@ -4,7 +4,7 @@ use Rattle.std.proofs.lemmas.Bool.Decides.{nat_tests}
 use Rattle.std.specs.Prelude.{Bool, false, nat_le, if◌then◌else◌, string_bytes}
 use Rattle.bucket_book.specs.Content.{content_fault}
 use Rattle.call_types.specs.declared.why.Why.{Why}
-use Rattle.drive_base.specs.Files.{Files}
+use Rattle.drive_base.specs.declared.drive.Drive.{Ghosts}
 use Rattle.call_types.specs.Good.{good_count}
 use Rattle.drive_base.specs.Plan.{write_drives}
 use Rattle.drive_base.specs.declared.plan.SetPlan.{SetPlan}
@@ -18,9 +18,9 @@ use Rattle.register_core.specs.Records.{again_of}
 use Rattle.register_core.specs.declared.drafts.Draft.{Draft}
 use Rattle.register_core.specs.declared.faults.QuorumFault.{QuorumFault}
 use Rattle.register_core.specs.declared.faults.QuorumFault.TheVariants.{NoMemory}
-use Rattle.register_core.specs.declared.looked.Looked.{Looked}
-use Rattle.register_caller.specs.Settling.{WritesAgain}
-use Rattle.register_caller.specs.Steps.{FilesStay, WritesBoth}
+use Rattle.register_core.specs.declared.looks.Looked.{Looked}
+use Rattle.register_caller.specs.Pending.{WritesAgain}
+use Rattle.register_caller.specs.Steps.{WritesBoth}
 use Rattle.slot_rules.specs.Rules.{is_bucket_name, key_fault, longest_for, rule_for}
 use Rattle.slot_rules.specs.declared.ready.Ready.{Ready}
 use Rattle.slot_rules.specs.declared.rules.TheConstants.{BUCKET_BYTES, KEY_BYTES}
@@ -30,6 +30,7 @@ use Rattle.slot_core.specs.Causes.{Completes, LookCause, LookGave}
 use Rattle.slot_core.specs.RegisterLook.{CallsForward, DraftFits, LooksAt, WritesFirst, late_of}
 use Rattle.slot_core.specs.Settlement.{FirstIs, IsReady, numbers_at}
 use Rattle.slot_core.proofs.SettlingLemmas.{first_found, first_none}
+use Rattle.slot_core.specs.LanesStay.{FilesStay}
 
 -- the rule of a register's contents, by whether it is a bucket's
 abbrev pub rule_at : Bool → List ℕ → Option ℕ
@@ -41,9 +42,9 @@ longest_at bucket = if bucket then BUCKET_BYTES else KEY_BYTES
 few_if : (w good : ℕ) → nat_le w good ≡ false → good < w
 few_if w good none = grind (arith, nat_tests)
 
-module _ {D : Type 0} (tells : D → Bool) (files : D → Files) (count : D → ℕ) where
+module _ {D : Type 0} (ghosts : Ghosts D) where
   -- both writes of a draft aren't refused for want of memory
-  pub writes_have_memory : (draft : Draft) (out term from to : ℕ) (old new : List D) → WritesBoth tells files count draft out term from to (Err NoMemory) old new → ⊥
+  pub writes_have_memory : (draft : Draft) (out term from to : ℕ) (old new : List D) → WritesBoth ghosts draft out term from to (Err NoMemory) old new → ⊥
   writes_have_memory draft out term from to old new writes = elim writes [
     | inl proposes ↦ proposes
     | inr marks ↦ marks.marks
@@ -75,46 +76,46 @@ module _ {D : Type 0} (tells : D → Bool) (files : D → Files) (count : D → 
 
   -- a refused look
   pub cause_of_look : (site : Site) (drawn : Drawn) (name : List ℕ) (rule : List ℕ → Option ℕ) (longest : ℕ) (fault : QuorumFault) (old new disks disks_after : List D)
-      → LooksAt tells files count site drawn name rule longest (Err fault) old new disks disks_after
-      → LookCause tells files count (numbers_at site drawn) (numbers_at site drawn) name rule longest fault old new disks disks_after
+      → LooksAt ghosts site drawn name rule longest (Err fault) old new disks disks_after
+      → LookCause ghosts (numbers_at site drawn) (numbers_at site drawn) name rule longest fault old new disks disks_after
   cause_of_look site drawn name rule longest fault old new disks disks_after looks = elim looks [
     | inl refused ↦ inl (refused, refl)
     | inr few ↦ inr (inl (few, refl))
   ]
 
   pub look_cause : (site : Site) (drawn : Drawn) (name : List ℕ) (bucket : Bool) (fault : QuorumFault) (old new disks disks_after : List D) → bucket ≡ is_bucket_name name
-      → LooksAt tells files count site drawn name (rule_at bucket) (longest_at bucket) (Err fault) old new disks disks_after
-      → LookCause tells files count (numbers_at site drawn) (numbers_at site drawn) name (rule_for name) (longest_for name) fault old new disks disks_after
+      → LooksAt ghosts site drawn name (rule_at bucket) (longest_at bucket) (Err fault) old new disks disks_after
+      → LookCause ghosts (numbers_at site drawn) (numbers_at site drawn) name (rule_for name) (longest_for name) fault old new disks disks_after
   look_cause site drawn name bucket fault old new disks disks_after is looks =
       cause_of_look site drawn name (rule_at (is_bucket_name name)) (longest_at (is_bucket_name name)) fault old new disks disks_after
-      (subst (λ (b : Bool). LooksAt tells files count site drawn name (rule_at b) (longest_at b) (Err fault) old new disks disks_after) is looks)
+      (subst (λ (b : Bool). LooksAt ghosts site drawn name (rule_at b) (longest_at b) (Err fault) old new disks disks_after) is looks)
 
   -- a look that could conclude, by the name
   pub ready_at : (site : Site) (drawn : Drawn) (name : List ℕ) (bucket : Bool) (ready : Ready) (old mid disks disks_after : List D) → bucket ≡ is_bucket_name name
-      → IsReady tells files count site drawn name (rule_at bucket) (longest_at bucket) ready old mid disks disks_after
-      → IsReady tells files count site drawn name (rule_for name) (longest_for name) ready old mid disks disks_after
+      → IsReady ghosts site drawn name (rule_at bucket) (longest_at bucket) ready old mid disks disks_after
+      → IsReady ghosts site drawn name (rule_for name) (longest_for name) ready old mid disks disks_after
   ready_at site drawn name bucket ready old mid disks disks_after is ready_is =
-      subst (λ (b : Bool). IsReady tells files count site drawn name (rule_at b) (longest_at b) ready old mid disks disks_after) is ready_is
+      subst (λ (b : Bool). IsReady ghosts site drawn name (rule_at b) (longest_at b) ready old mid disks disks_after) is ready_is
 
   -- what was written is what was pending, again
   writes_again : (site : Site) (drawn later : Drawn) (name : List ℕ) (rule : List ℕ → Option ℕ) (longest : ℕ) (ready : Ready) (result : Result (List Why) QuorumFault)
-      (old mid new disks disks_after : List D) → (is : IsReady tells files count site drawn name rule longest ready old mid disks disks_after)
-      → WritesFirst tells files count site drawn later ready.first result mid new
-      → WritesAgain tells files count site.set.out site.term ready.looked is.ballot drawn.count later.count result mid new
+      (old mid new disks disks_after : List D) → (is : IsReady ghosts site drawn name rule longest ready old mid disks disks_after)
+      → WritesFirst ghosts site drawn later ready.first result mid new
+      → WritesAgain ghosts site.set.out site.term ready.looked is.ballot drawn.count later.count result mid new
   writes_again site drawn later name rule longest ready result old mid new disks disks_after is writes =
       let found = first_found ready.looked ready.looked.pending is.ballot ready.first writes.draft is.first writes.is in
       record { found = found.0; pending = found.1; draft = writes.draft; drafted = found.2; writes = writes.writes }
 
   -- where nothing is pending nothing is written again
   again_pending : (out term : ℕ) (looked : Looked) (ballot : Ballot) (from to : ℕ) (result : Result (List Why) QuorumFault) (old new : List D)
-      → WritesAgain tells files count out term looked ballot from to result old new → looked.pending ≡ None → to ≡ from
+      → WritesAgain ghosts out term looked ballot from to result old new → looked.pending ≡ None → to ≡ from
   again_pending out term looked ballot from to result old new writes none = absurd (let some : None ≡ Some writes.found = sym none ∙ writes.pending in cc)
 
   -- a refused completion
   pub cause_of_forward : (site : Site) (drawn later : Drawn) (name : List ℕ) (rule : List ℕ → Option ℕ) (longest : ℕ) (ready : Ready) (fault : QuorumFault) (old mid new disks disks_after : List D)
-      → IsReady tells files count site drawn name rule longest ready old mid disks disks_after → FilesStay tells files count old mid
-      → CallsForward tells files count site drawn later ready.first (Err fault) mid new
-      → LookCause tells files count (numbers_at site drawn) (numbers_at site later) name rule longest fault old new disks disks_after
+      → IsReady ghosts site drawn name rule longest ready old mid disks disks_after → FilesStay ghosts old mid
+      → CallsForward ghosts site drawn later ready.first (Err fault) mid new
+      → LookCause ghosts (numbers_at site drawn) (numbers_at site later) name rule longest fault old new disks disks_after
   cause_of_forward site drawn later name rule longest ready fault old mid new disks disks_after is stay calls = inr (inr (
     record {
       looked = ready.looked;
@@ -130,10 +131,10 @@ module _ {D : Type 0} (tells : D → Bool) (files : D → Files) (count : D → 
 
   -- a completion that was done, or none
   pub gave_of : (site : Site) (drawn later : Drawn) (name : List ℕ) (rule : List ℕ → Option ℕ) (longest : ℕ) (ready : Ready) (content : List ℕ) (late : Option ChangeId) (old mid new disks disks_after : List D)
-      → IsReady tells files count site drawn name rule longest ready old mid disks disks_after → FilesStay tells files count old mid
+      → IsReady ghosts site drawn name rule longest ready old mid disks disks_after → FilesStay ghosts old mid
       → content ≡ content_of ready.looked.base ready.looked.pending
-      → CallsForward tells files count site drawn later ready.first (Ok late) mid new
-      → LookGave tells files count (numbers_at site drawn) later.count name rule longest content old new disks disks_after
+      → CallsForward ghosts site drawn later ready.first (Ok late) mid new
+      → LookGave ghosts (numbers_at site drawn) later.count name rule longest content old new disks disks_after
   gave_of site drawn later name rule longest ready content None old mid new disks disks_after is stay same calls = record {
     looked = ready.looked;
     mid = mid;
@@ -160,7 +161,7 @@ module _ {D : Type 0} (tells : D → Bool) (files : D → Files) (count : D → 
 
   -- and what a section tells of it
   drafted_change : (looked : Looked) (pending : Option Next) (ballot : Ballot) (site : Site) (drawn later : Drawn) (first : Option Draft) (late : Option ChangeId) (mid new : List D)
-      → FirstIs looked pending ballot first → late ≡ late_of first → CallsForward tells files count site drawn later first (Ok late) mid new
+      → FirstIs looked pending ballot first → late ≡ late_of first → CallsForward ghosts site drawn later first (Ok late) mid new
       → Completes (numbers_at site drawn) (numbers_at site later) pending late
   drafted_change looked None ballot site drawn later first None mid new is told calls = (refl, ap (λ (d : Drawn). d.seq) calls.2)
   drafted_change looked None ballot site drawn later first (Some change) mid new is told calls =
@@ -171,18 +172,18 @@ module _ {D : Type 0} (tells : D → Bool) (files : D → Files) (count : D → 
       (told ∙ ap late_of is.1 ∙ ap (λ (b : Base). Some b.change) is.2.of.ends.value, calls.1.seq)
 
   completes_of : (site : Site) (drawn later : Drawn) (name : List ℕ) (rule : List ℕ → Option ℕ) (longest : ℕ) (ready : Ready) (late : Option ChangeId) (old mid new disks disks_after : List D)
-      → IsReady tells files count site drawn name rule longest ready old mid disks disks_after → late ≡ late_of ready.first
-      → CallsForward tells files count site drawn later ready.first (Ok late) mid new
+      → IsReady ghosts site drawn name rule longest ready old mid disks disks_after → late ≡ late_of ready.first
+      → CallsForward ghosts site drawn later ready.first (Ok late) mid new
       → Completes (numbers_at site drawn) (numbers_at site later) ready.looked.pending late
   completes_of site drawn later name rule longest ready late old mid new disks disks_after is told calls =
       drafted_change ready.looked ready.looked.pending is.ballot site drawn later ready.first late mid new is.first told calls
 
   -- both
   pub gives_of : (site : Site) (drawn later : Drawn) (name : List ℕ) (rule : List ℕ → Option ℕ) (longest : ℕ) (ready : Ready) (content : List ℕ) (late : Option ChangeId) (old mid new disks disks_after : List D)
-      → IsReady tells files count site drawn name rule longest ready old mid disks disks_after → FilesStay tells files count old mid
+      → IsReady ghosts site drawn name rule longest ready old mid disks disks_after → FilesStay ghosts old mid
       → content ≡ content_of ready.looked.base ready.looked.pending → late ≡ late_of ready.first
-      → CallsForward tells files count site drawn later ready.first (Ok late) mid new
-      → (gave : LookGave tells files count (numbers_at site drawn) later.count name rule longest content old new disks disks_after)
+      → CallsForward ghosts site drawn later ready.first (Ok late) mid new
+      → (gave : LookGave ghosts (numbers_at site drawn) later.count name rule longest content old new disks disks_after)
       × Completes (numbers_at site drawn) (numbers_at site later) gave.looked.pending late
   unfolding gave_of
   gives_of site drawn later name rule longest ready content None old mid new disks disks_after is stay same told calls = (

@@ -1,20 +1,19 @@
 -- From which calls the outcome of a commit of a register comes.
 use Rattle.std.proofs.Common.{◌≡◌, ◌⊎◌, ◌≤◌, ◌+◌, ◌∙◌, ℕ, List, Option, None, Some, Result, Ok, Err, length, ap, subst, sym, refl, inl, inr, arith}
-use Rattle.std.specs.Prelude.{Bool, IfSome, MatchOption}
+use Rattle.std.specs.Prelude.{IfSome, MatchOption}
 use Rattle.call_types.specs.Refusals.{refusal_of}
 use Rattle.call_types.specs.declared.refusal.KeyRefusal.{KeyRefusal}
 use Rattle.call_types.specs.declared.reply.Reply.{Reply}
 use Rattle.call_types.specs.declared.reply.Reply.TheVariants.{Refused}
 use Rattle.call_types.specs.declared.why.Why.{Why}
-use Rattle.drive_base.specs.Files.{Files}
+use Rattle.drive_base.specs.declared.drive.Drive.{Ghosts}
 use Rattle.stamp_id.specs.declared.stamp.ChangeId.{ChangeId}
 use Rattle.stamp_id.specs.declared.version.VersionId.{VersionId}
 use Rattle.register_file.specs.declared.record.Next.{Next}
 use Rattle.register_core.specs.Found.{content_of}
-use Rattle.register_core.specs.Loops.{TellsStay}
 use Rattle.register_core.specs.declared.drafts.Draft.{Draft}
 use Rattle.register_core.specs.declared.faults.QuorumFault.{QuorumFault}
-use Rattle.register_caller.specs.Steps.{FilesStay, WritesBoth}
+use Rattle.register_caller.specs.Steps.{WritesBoth}
 use Rattle.audit_trail.specs.declared.entry.Deed.{Deed}
 use Rattle.audit_trail.specs.declared.entry.Deed.TheVariants.{Done as DoneDeed, Kept as KeptDeed, Refused as RefusedDeed}
 use Rattle.call_types.specs.declared.act.Brief.TheVariants.{Answer}
@@ -40,13 +39,14 @@ use Rattle.slot_core.specs.declared.commit_write.Outcome.TheVariants.{Begun, Don
 use Rattle.slot_core.proofs.CauseLemmas.{cause_of_forward, gave_of, writes_have_memory}
 use Rattle.slot_core.proofs.SettlingLemmas.{first_found, first_none}
 use Rattle.slot_core.proofs.TurnLemmas.{forward_has_memory}
+use Rattle.slot_core.specs.LanesStay.{FilesStay, TellsStay}
 
-module _ {D : Type 0} (tells : D → Bool) (files : D → Files) (count : D → ℕ) where
+module _ {D : Type 0} (ghosts : Ghosts D) where
   -- a refused look
   pub look_refused : (site : Site) (drawn : Drawn) (deed : Commit) (put : Option VersionId) (rule : List ℕ → Option ℕ) (longest : ℕ) (fault : QuorumFault) (old new disks disks_after : List D)
       → IsRuleOf (numbers_at site drawn) deed put rule longest
-      → LooksAt tells files count site drawn (name_of deed) rule longest (Err fault) old new disks disks_after
-      → LookRefused tells files count (numbers_at site drawn) (numbers_at site drawn) deed put fault KeptDeed old new disks disks_after
+      → LooksAt ghosts site drawn (name_of deed) rule longest (Err fault) old new disks disks_after
+      → LookRefused ghosts (numbers_at site drawn) (numbers_at site drawn) deed put fault KeptDeed old new disks disks_after
   look_refused site drawn deed put rule longest fault old new disks disks_after rule_is looks = record {
     rule = rule;
     longest = longest;
@@ -88,11 +88,11 @@ module _ {D : Type 0} (tells : D → Bool) (files : D → Files) (count : D → 
 
   own_written : (site : Site) (drawn later : Drawn) (name : List ℕ) (rule : List ℕ → Option ℕ) (longest : ℕ) (ready : Ready) (late : Option ChangeId) (own : Own) (next : Next)
       (result : Result (List Why) QuorumFault) (old mid new disks disks_after : List D)
-      → IsReady tells files count site drawn name rule longest ready old mid disks disks_after → FilesStay tells files count old mid
-      → length mid ≡ length old → TellsStay tells files count old mid
+      → IsReady ghosts site drawn name rule longest ready old mid disks disks_after → FilesStay ghosts old mid
+      → length mid ≡ length old → TellsStay ghosts old mid
       → IsOwnDraft ready.looked ready.first next own.draft
-      → CallsOwn tells files count site drawn later ready.first late own result mid new
-      → OwnIsWritten tells files count (numbers_at site drawn) (numbers_at site later) name rule longest (content_of ready.looked.base ready.looked.pending) next result
+      → CallsOwn ghosts site drawn later ready.first late own result mid new
+      → OwnIsWritten ghosts (numbers_at site drawn) (numbers_at site later) name rule longest (content_of ready.looked.base ready.looked.pending) next result
       old new disks disks_after
   own_written site drawn later name rule longest ready None own next result old mid new disks disks_after is stay long told drafted calls =
       let none : ready.first ≡ None = calls.forward.0 in
@@ -108,8 +108,8 @@ module _ {D : Type 0} (tells : D → Bool) (files : D → Files) (count : D → 
         content_is = refl;
         draft = own.draft;
         drafted = subst (λ (o : Option Draft). IsOwnDraft ready.looked o next own.draft) none drafted;
-        writes = subst (λ (l : List D). WritesBoth tells files count own.draft site.set.out site.term drawn.count later.count result l new) here
-            (subst (λ (n : ℕ). WritesBoth tells files count own.draft site.set.out site.term n later.count result calls.between new) count_is calls.writes);
+        writes = subst (λ (l : List D). WritesBoth ghosts own.draft site.set.out site.term drawn.count later.count result l new) here
+            (subst (λ (n : ℕ). WritesBoth ghosts own.draft site.set.out site.term n later.count result calls.between new) count_is calls.writes);
       })
   own_written site drawn later name rule longest ready (Some change) own next result old mid new disks disks_after is stay long told drafted calls =
       let first = calls.forward.1 in
@@ -137,8 +137,8 @@ module _ {D : Type 0} (tells : D → Bool) (files : D → Files) (count : D → 
 
   module _ (site : Site) (drawn later : Drawn) (ready : Ready) (deed : Commit) (put : Option VersionId) (now : ℕ) (rule : List ℕ → Option ℕ) (longest : ℕ)
       (old mid new disks disks_after : List D) (rule_is : IsRuleOf (numbers_at site drawn) deed put rule longest)
-      (is : IsReady tells files count site drawn (name_of deed) rule longest ready old mid disks disks_after) (stay : FilesStay tells files count old mid)
-      (long : length mid ≡ length old) (tells_on : TellsStay tells files count old mid) (plan : Plan) (planned : IsPlan site (drawn.seq + again_takes ready.first) ready deed put now plan) where
+      (is : IsReady ghosts site drawn (name_of deed) rule longest ready old mid disks disks_after) (stay : FilesStay ghosts old mid)
+      (long : length mid ≡ length old) (tells_on : TellsStay ghosts old mid) (plan : Plan) (planned : IsPlan site (drawn.seq + again_takes ready.first) ready deed put now plan) where
     abbrev last : ℕ
     last = drawn.seq + again_takes ready.first
 
@@ -154,8 +154,8 @@ module _ {D : Type 0} (tells : D → Bool) (files : D → Files) (count : D → 
     mine : (own : Own) → plan.own ≡ Some own → PlansOwn site last ready deed put now plan own
     mine own some = subst (λ (o : Option Own). IsPlanBy o site last ready deed put now plan) some planned
 
-    found_so : (tale : Tale) (late : Option ChangeId) → tale ≡ plan.tale → plan.own ≡ None → CallsForward tells files count site drawn later ready.first (Ok late) mid new
-        → FoundSo tells files count (numbers_at site drawn) (numbers_at site later) deed put now tale.reply (deed_told (Done tale late)) old new disks disks_after
+    found_so : (tale : Tale) (late : Option ChangeId) → tale ≡ plan.tale → plan.own ≡ None → CallsForward ghosts site drawn later ready.first (Ok late) mid new
+        → FoundSo ghosts (numbers_at site drawn) (numbers_at site later) deed put now tale.reply (deed_told (Done tale late)) old new disks disks_after
     found_so tale late same none calls =
         let plans : PlansNone ready deed now plan = subst (λ (o : Option Own). IsPlanBy o site last ready deed put now plan) none planned in
         let content : List ℕ = content_of ready.looked.base ready.looked.pending in
@@ -164,7 +164,7 @@ module _ {D : Type 0} (tells : D → Bool) (files : D → Files) (count : D → 
           longest = longest;
           rule_is = rule_is;
           content = content;
-          gave = gave_of {D = D} tells files count site drawn later (name_of deed) rule longest ready content late old mid new disks disks_after is stay refl calls;
+          gave = gave_of {D = D} ghosts site drawn later (name_of deed) rule longest ready content late old mid new disks disks_after is stay refl calls;
           id = plans.id;
           does = subst (λ (t : Tale). DoesOver (name_of deed) content (call_of deed None now) plans.id t.reply content) (sym same) plans.does;
           deed_is = told_done tale late None (subst (λ (t : Tale). IsTale deed None now t) (sym same) plans.tale);
@@ -172,8 +172,8 @@ module _ {D : Type 0} (tells : D → Bool) (files : D → Files) (count : D → 
 
     wrote_so : (tale : Tale) (late : Option ChangeId) (own : Own) (result : Result (List Why) QuorumFault) (entered : Deed) → tale ≡ plan.tale
         → plan.own ≡ Some own → entered ≡ own_deed deed now own.change tale.reply result
-        → CallsOwn tells files count site drawn later ready.first late own result mid new
-        → WroteSo tells files count (numbers_at site drawn) (numbers_at site later) deed put now tale.reply result entered old new disks disks_after
+        → CallsOwn ghosts site drawn later ready.first late own result mid new
+        → WroteSo ghosts (numbers_at site drawn) (numbers_at site later) deed put now tale.reply result entered old new disks disks_after
     wrote_so tale late own result entered same some told calls =
         let plans = mine own some in
         let content : List ℕ = content_of ready.looked.base ready.looked.pending in
@@ -191,11 +191,11 @@ module _ {D : Type 0} (tells : D → Bool) (files : D → Files) (count : D → 
 
     -- the answer of a tale whose deed left the content
     found_cause : (tale : Tale) (o : Option KeyRefusal) (entered : Deed) → MatchOption o (Unit {0}) (λ why. tale.reply ≡ Refused (refusal_of why))
-        → FoundSo tells files count (numbers_at site drawn) (numbers_at site later) deed put now tale.reply entered old new disks disks_after
-        → CommitCause tells files count (numbers_at site drawn) (numbers_at site later) deed put now (answer_of tale o) entered old new disks disks_after
+        → FoundSo ghosts (numbers_at site drawn) (numbers_at site later) deed put now tale.reply entered old new disks disks_after
+        → CommitCause ghosts (numbers_at site drawn) (numbers_at site later) deed put now (answer_of tale o) entered old new disks disks_after
     found_cause tale None entered all found = inl found
     found_cause tale (Some why) entered reply found =
-        subst (λ (r : Reply). FoundSo tells files count (numbers_at site drawn) (numbers_at site later) deed put now r entered old new disks disks_after) reply found
+        subst (λ (r : Reply). FoundSo ghosts (numbers_at site drawn) (numbers_at site later) deed put now r entered old new disks disks_after) reply found
 
     found_reply : (o : Option KeyRefusal) → IfSome o (λ why. plan.tale.reply ≡ Refused (refusal_of why))
         → MatchOption o (Unit {0}) (λ why. plan.tale.reply ≡ Refused (refusal_of why))
@@ -203,8 +203,8 @@ module _ {D : Type 0} (tells : D → Bool) (files : D → Files) (count : D → 
     found_reply (Some why) all = all
 
     -- the cause of an outcome
-    pub carry_cause : (outcome : Outcome) → CallsCarry tells files count site drawn later ready.first plan outcome mid new
-        → CommitCause tells files count (numbers_at site drawn) (numbers_at site later) deed put now (answer_told outcome) (deed_told outcome) old new disks disks_after
+    pub carry_cause : (outcome : Outcome) → CallsCarry ghosts site drawn later ready.first plan outcome mid new
+        → CommitCause ghosts (numbers_at site drawn) (numbers_at site later) deed put now (answer_told outcome) (deed_told outcome) old new disks disks_after
     carry_cause (Done tale late) calls = elim calls.1 [
       | inl none ↦
           let plans : PlansNone ready deed now plan = subst (λ (o : Option Own). IsPlanBy o site last ready deed put now plan) none.0 planned in
@@ -213,7 +213,7 @@ module _ {D : Type 0} (tells : D → Bool) (files : D → Files) (count : D → 
           (found_so tale late calls.0 none.0 none.1)
       | inr some ↦
           let served : tale.refused ≡ None = ap (λ (t : Tale). t.refused) calls.0 ∙ (mine some.0 some.1).served in
-          subst (λ (o : Option KeyRefusal). CommitCause tells files count (numbers_at site drawn) (numbers_at site later) deed put now (answer_of tale o) (deed_told (Done tale late)) old new
+          subst (λ (o : Option KeyRefusal). CommitCause ghosts (numbers_at site drawn) (numbers_at site later) deed put now (answer_of tale o) (deed_told (Done tale late)) old new
           disks disks_after) (sym served) (inr (
             some.2,
             wrote_so tale late some.0 (Ok some.2) (deed_told (Done tale late)) calls.0 some.1
@@ -222,8 +222,8 @@ module _ {D : Type 0} (tells : D → Bool) (files : D → Files) (count : D → 
     ]
     carry_cause (Begun tale change late fault) calls =
         let some = calls.1 in (
-          (λ same. writes_have_memory {D = D} tells files count some.0.draft site.set.out site.term some.3.middle.count later.count some.3.between new
-              (subst (λ (f : QuorumFault). WritesBoth tells files count some.0.draft site.set.out site.term some.3.middle.count later.count (Err f) some.3.between new) same some.3.writes)),
+          (λ same. writes_have_memory {D = D} ghosts some.0.draft site.set.out site.term some.3.middle.count later.count some.3.between new
+              (subst (λ (f : QuorumFault). WritesBoth ghosts some.0.draft site.set.out site.term some.3.middle.count later.count (Err f) some.3.between new) same some.3.writes)),
           inr (
             tale.reply,
             wrote_so tale late some.0 (Err fault) (deed_told (Begun tale change late fault)) calls.0 some.1
@@ -233,12 +233,12 @@ module _ {D : Type 0} (tells : D → Bool) (files : D → Files) (count : D → 
           ),
         )
     carry_cause (Kept fault) calls = (
-      (λ same. forward_has_memory {D = D} tells files count site drawn later ready.first fault mid new calls same),
+      (λ same. forward_has_memory {D = D} ghosts site drawn later ready.first fault mid new calls same),
       inl (record {
         rule = rule;
         longest = longest;
         rule_is = rule_is;
-        cause = cause_of_forward {D = D} tells files count site drawn later (name_of deed) rule longest ready fault old mid new disks disks_after is stay calls;
+        cause = cause_of_forward {D = D} ghosts site drawn later (name_of deed) rule longest ready fault old mid new disks disks_after is stay calls;
         deed_is = refl;
       }),
     )
@@ -247,11 +247,11 @@ module _ {D : Type 0} (tells : D → Bool) (files : D → Files) (count : D → 
   -- and that of a section after its look
   pub finish_cause : (site : Site) (drawn later : Drawn) (ready : Ready) (deed : Commit) (put : Option VersionId) (now : ℕ) (rule : List ℕ → Option ℕ) (longest : ℕ)
       (old mid new disks disks_after : List D) → IsRuleOf (numbers_at site drawn) deed put rule longest
-      → IsReady tells files count site drawn (name_of deed) rule longest ready old mid disks disks_after → FilesStay tells files count old mid
-      → length mid ≡ length old → TellsStay tells files count old mid → (outcome : Outcome) → FinishCalls tells files count site drawn later ready deed put now outcome mid new
-      → CommitCause tells files count (numbers_at site drawn) (numbers_at site later) deed put now (answer_told outcome) (deed_told outcome) old new disks disks_after
+      → IsReady ghosts site drawn (name_of deed) rule longest ready old mid disks disks_after → FilesStay ghosts old mid
+      → length mid ≡ length old → TellsStay ghosts old mid → (outcome : Outcome) → FinishCalls ghosts site drawn later ready deed put now outcome mid new
+      → CommitCause ghosts (numbers_at site drawn) (numbers_at site later) deed put now (answer_told outcome) (deed_told outcome) old new disks disks_after
   finish_cause site drawn later ready deed put now rule longest old mid new disks disks_after rule_is is stay long told outcome (inl lacks) =
-      subst (λ (o : Outcome). CommitCause tells files count (numbers_at site drawn) (numbers_at site later) deed put now (answer_told o) (deed_told o) old new disks disks_after) (sym lacks.0)
-      (subst (λ (l : List D). FilesStay tells files count old l) (sym lacks.1) stay)
+      subst (λ (o : Outcome). CommitCause ghosts (numbers_at site drawn) (numbers_at site later) deed put now (answer_told o) (deed_told o) old new disks disks_after) (sym lacks.0)
+      (subst (λ (l : List D). FilesStay ghosts old l) (sym lacks.1) stay)
   finish_cause site drawn later ready deed put now rule longest old mid new disks disks_after rule_is is stay long told outcome (inr p) =
       carry_cause site drawn later ready deed put now rule longest old mid new disks disks_after rule_is is stay long told p.plan p.is outcome p.calls

@@ -1,8 +1,8 @@
 -- What a commit leaves, by the entry that it wrote.
 use Rattle.std.proofs.Common.{◌≡◌, ◌∙◌, ℕ, List, [], ◌++◌, Option, None, Some, Result, Err, All, ap, subst, sym, refl, inl, inr}
-use Rattle.std.specs.Prelude.{Bool, MatchOption}
+use Rattle.std.specs.Prelude.{MatchOption}
 use Rattle.std.proofs.lemmas.List.{append-nil}
-use Rattle.drive_base.specs.Files.{Files}
+use Rattle.drive_base.specs.declared.drive.Drive.{Ghosts}
 use Rattle.stamp_id.specs.declared.version.VersionId.{VersionId}
 use Rattle.audit_trail.specs.declared.entry.Deed.{Deed}
 use Rattle.audit_trail.specs.Entries.{with_entry}
@@ -139,21 +139,21 @@ missed_gone site name id turn trash (inl lost) = lost_gone site lost.0 turn tras
 missed_gone site name id turn trash (inr kept) =
     ([], sym (append-nil trash), subst (λ (a : Result Committed SlotFault). GoneByAnswer a []) (sym kept.0) refl)
 
-module _ {D : Type 0} (tells : D → Bool) (files : D → Files) (count : D → ℕ) where
+module _ {D : Type 0} (ghosts : Ghosts D) where
   pub lost_cause : (numbers later : SlotNumbers) (deed : Commit) (put : Option VersionId) (now : ℕ) (site : Site) (why : ReserveFault) (turn : Turn Committed) (entered : Deed)
-      (old disks disks_after : List D) → IsUnreserved site why turn → CommitCause tells files count numbers later deed put now turn.answer entered old old disks disks_after
+      (old disks disks_after : List D) → IsUnreserved site why turn → CommitCause ghosts numbers later deed put now turn.answer entered old old disks disks_after
   lost_cause numbers later deed put now site (Failed before after) turn entered old disks disks_after is =
-      subst (λ (a : Result Committed SlotFault). CommitCause tells files count numbers later deed put now a entered old old disks disks_after) (sym is.answer) refl
+      subst (λ (a : Result Committed SlotFault). CommitCause ghosts numbers later deed put now a entered old old disks disks_after) (sym is.answer) refl
   lost_cause numbers later deed put now site NoMemory turn entered old disks disks_after is =
-      subst (λ (a : Result Committed SlotFault). CommitCause tells files count numbers later deed put now a entered old old disks disks_after) (sym is.answer) (λ k d low told. refl)
+      subst (λ (a : Result Committed SlotFault). CommitCause ghosts numbers later deed put now a entered old old disks disks_after) (sym is.answer) (λ k d low told. refl)
 
   -- ---- what turns leave
 
   -- by the entry
   pub entry_turn : (numbers later : SlotNumbers) (held kept : Holding) (lanes : List D) (entry : Option Entry) (stub : Option Stub) (Shows : State → State → Type 0)
       (Moves : Disks → Hands → Hands → Type 0) (records : Records) (state : State) → entry_of stub ≡ entry
-      → EntryLeaves tells files numbers later held kept lanes entry Shows Moves records state
-      → TurnLeaves tells files numbers later held kept lanes stub Shows Moves records state
+      → EntryLeaves ghosts.tells ghosts.files numbers later held kept lanes entry Shows Moves records state
+      → TurnLeaves ghosts.tells ghosts.files numbers later held kept lanes stub Shows Moves records state
   entry_turn numbers later held kept lanes entry stub Shows Moves records state is leaves = record {
     after = leaves.after;
     now = leaves.now;
@@ -167,7 +167,7 @@ module _ {D : Type 0} (tells : D → Bool) (files : D → Files) (count : D → 
   -- a section that wrote no entry, where its put ends
   pub lost_leaves : LandLaws → (site : Site) (drawn : Drawn) (deed : Commit) (put : Option VersionId) (before trash : List VersionId) (lanes : List D) (stub : Option Stub)
       (Shows : State → State → Type 0) (holding : Holding) (rest : List Flying) → entry_of stub ≡ None → Lands put holding.flights rest → holding.trash ≡ before → trash ≡ before
-      → Leaves tells files (numbers_at site drawn) (numbers_at site drawn) holding (kept_with holding rest trash) lanes lanes stub Shows
+      → Leaves ghosts.tells ghosts.files (numbers_at site drawn) (numbers_at site drawn) holding (kept_with holding rest trash) lanes lanes stub Shows
       (MayCommitData deed (kept_with holding rest trash))
   lost_leaves laws site drawn deed put before trash lanes stub Shows holding rest none lands was same records state s =
       let kept : kept_with holding rest holding.trash ≡ kept_with holding rest trash = ap (λ (t : List VersionId). kept_with holding rest t) (was ∙ sym same) in
@@ -187,22 +187,22 @@ module _ {D : Type 0} (tells : D → Bool) (files : D → Files) (count : D → 
   pub missing_leaves : LandLaws → (site : Site) (drawn : Drawn) (deed : Commit) (before trash : List VersionId) (lanes : List D) (stub : Option Stub)
       (answer : Result Committed SlotFault) (id : VersionId) (holding : Holding) (rest : List Flying) → answer ≡ Err (NotInFlight id)
       → entry_of stub ≡ Some (entry_at site.turns (name_of deed) None KeptDeed) → Lands None holding.flights rest → holding.trash ≡ before → trash ≡ before
-      → Leaves tells files (numbers_at site drawn) (numbers_at site drawn) holding (kept_with holding rest trash) lanes lanes stub (ShowsTrash deed answer before trash)
+      → Leaves ghosts.tells ghosts.files (numbers_at site drawn) (numbers_at site drawn) holding (kept_with holding rest trash) lanes lanes stub (ShowsTrash deed answer before trash)
       (MayCommitData deed (kept_with holding rest trash))
   missing_leaves laws site drawn deed before trash lanes stub answer id holding rest told entry lands was same records state s =
-      let settled = looked_settled {D = D} tells files count (numbers_at site drawn) holding (λ after now. Unit {0}) lanes lanes records state refl (λ k d low t. refl) (λ k d low. refl) tt s in
+      let settled = looked_settled {D = D} ghosts (numbers_at site drawn) holding (λ after now. Unit {0}) lanes lanes records state refl (λ k d low t. refl) (λ k d low. refl) tt s in
       entry_turn (numbers_at site drawn) (numbers_at site drawn) holding (kept_with holding rest trash) lanes (Some (entry_at site.turns (name_of deed) None KeptDeed)) stub
       (ShowsTrash deed answer before trash) (MayCommitData deed (kept_with holding rest trash)) records state entry
-      (subst (λ (a : Result Committed SlotFault). EntryLeaves tells files (numbers_at site drawn) (numbers_at site drawn) holding (kept_with holding rest trash) lanes
+      (subst (λ (a : Result Committed SlotFault). EntryLeaves ghosts.tells ghosts.files (numbers_at site drawn) (numbers_at site drawn) holding (kept_with holding rest trash) lanes
       (Some (entry_at site.turns (name_of deed) None KeptDeed)) (ShowsTrash deed a before trash) (MayCommitData deed (kept_with holding rest trash)) records state) (sym told)
-      (entry_leaves {D = D} tells files site drawn drawn drawn holding (kept_with holding rest trash) (name_of deed) None KeptDeed site.turns (λ after now. Unit {0}) lanes lanes
+      (entry_leaves {D = D} ghosts.tells ghosts.files site drawn drawn drawn holding (kept_with holding rest trash) (name_of deed) None KeptDeed site.turns (λ after now. Unit {0}) lanes lanes
       (λ before_it after. Unit {0}) (λ disks hands less. MayCommitData deed (kept_with holding rest trash) disks hands less) records state (λ after now known. tt) settled
-      (kept_leaves {D = D} tells files laws site drawn deed holding rest None before trash lanes settled.after settled.now settled.stands lands was same)))
+      (kept_leaves {D = D} ghosts.tells ghosts.files laws site drawn deed holding rest None before trash lanes settled.after settled.now settled.stands lands was same)))
 
   -- a commit whose put was missed
   pub missed_leaves : LandLaws → (site : Site) (drawn : Drawn) (deed : Commit) (id : VersionId) (trash : List VersionId) (lanes : List D) (turn : Turn Committed)
       (holding : Holding) (rest : List Flying) → IsMissed site (name_of deed) id turn → Lands None holding.flights rest → holding.trash ≡ trash
-      → Leaves tells files (numbers_at site drawn) (numbers_at site drawn) holding (kept_with holding rest trash) lanes lanes turn.stub
+      → Leaves ghosts.tells ghosts.files (numbers_at site drawn) (numbers_at site drawn) holding (kept_with holding rest trash) lanes lanes turn.stub
       (ShowsTrash deed turn.answer trash trash) (MayCommitData deed (kept_with holding rest trash))
   missed_leaves laws site drawn deed id trash lanes turn holding rest (inl lost) lands was =
       lost_leaves laws site drawn deed None trash trash lanes turn.stub (ShowsTrash deed turn.answer trash trash) holding rest
@@ -212,22 +212,22 @@ module _ {D : Type 0} (tells : D → Bool) (files : D → Files) (count : D → 
 
   pub missed_cause : (numbers later : SlotNumbers) (deed : Commit) (put : Option VersionId) (now : ℕ) (site : Site) (name : List ℕ) (id : VersionId) (turn : Turn Committed)
       (entered : Deed) (old disks disks_after : List D) → IsMissed site name id turn
-      → CommitCause tells files count numbers later deed put now turn.answer entered old old disks disks_after
+      → CommitCause ghosts numbers later deed put now turn.answer entered old old disks disks_after
   missed_cause numbers later deed put now site name id turn entered old disks disks_after (inl lost) =
       lost_cause numbers later deed put now site lost.0 turn entered old disks disks_after lost.1
   missed_cause numbers later deed put now site name id turn entered old disks disks_after (inr kept) =
-      subst (λ (a : Result Committed SlotFault). CommitCause tells files count numbers later deed put now a entered old old disks disks_after) (sym kept.0) refl
+      subst (λ (a : Result Committed SlotFault). CommitCause ghosts numbers later deed put now a entered old old disks disks_after) (sym kept.0) refl
 
   -- a commit, by what came of it
   pub outcome_leaves : (site : Site) (drawn later : Drawn) (deed : Commit) (put : Option VersionId) (outcome : Outcome) (before trash : List VersionId) (old new : List D)
       (answer : Result Committed SlotFault) (stub : Option Stub) (holding : Holding) (rest : List Flying) → answer ≡ answer_told outcome
-      → entry_of stub ≡ entry_told site.turns (name_of deed) outcome → CommitLeaves tells files site drawn later deed put outcome before trash old new
+      → entry_of stub ≡ entry_told site.turns (name_of deed) outcome → CommitLeaves ghosts.tells ghosts.files site drawn later deed put outcome before trash old new
       → Lands put holding.flights rest → FitsPut deed put → holding.trash ≡ before
-      → Leaves tells files (numbers_at site drawn) (numbers_at site later) holding (kept_with holding rest trash) old new stub (ShowsTrash deed answer before trash)
+      → Leaves ghosts.tells ghosts.files (numbers_at site drawn) (numbers_at site later) holding (kept_with holding rest trash) old new stub (ShowsTrash deed answer before trash)
       (MayCommitData deed (kept_with holding rest trash))
   outcome_leaves site drawn later deed put outcome before trash old new answer stub holding rest answered entry leaves lands fits was records state s =
       entry_turn (numbers_at site drawn) (numbers_at site later) holding (kept_with holding rest trash) new (entry_told site.turns (name_of deed) outcome) stub
       (ShowsTrash deed answer before trash) (MayCommitData deed (kept_with holding rest trash)) records state entry
-      (subst (λ (a : Result Committed SlotFault). EntryLeaves tells files (numbers_at site drawn) (numbers_at site later) holding (kept_with holding rest trash) new
+      (subst (λ (a : Result Committed SlotFault). EntryLeaves ghosts.tells ghosts.files (numbers_at site drawn) (numbers_at site later) holding (kept_with holding rest trash) new
       (entry_told site.turns (name_of deed) outcome) (ShowsTrash deed a before trash) (MayCommitData deed (kept_with holding rest trash)) records state) (sym answered)
       (leaves holding rest records state s lands fits was))

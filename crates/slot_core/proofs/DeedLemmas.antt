@@ -15,7 +15,7 @@ use Rattle.bucket_book.specs.declared.step.BucketAct.{BucketAct}
 use Rattle.bucket_book.specs.declared.step.BucketAct.TheVariants as bucket_act
 use Rattle.drive_base.specs.Plan.{write_drives}
 use Rattle.register_core.specs.Records.{added_of, next_of}
-use Rattle.register_caller.specs.Leaving.{written_of}
+use Rattle.register_caller.specs.WrittenLanes.{written_of}
 use Rattle.version_list.specs.Naming.{same_id}
 use Rattle.version_list.specs.NamesId.{act_brings as brings_id, names_id}
 use Rattle.version_list.specs.Spelling.{spelling}

@@ -1,9 +1,9 @@
 -- A commit of a register: what it is ready for, its ids and rules, and what it leaves where it is refused.
 use Rattle.std.proofs.Common.{◌≡◌, ◌≢◌, ◌≤◌, ◌+◌, ◌∙◌, ℕ, List, [], Option, None, Some, length, ap, subst, sym, refl, arith}
-use Rattle.std.specs.Prelude.{Bool, false, MatchOption, is_some}
+use Rattle.std.specs.Prelude.{false, MatchOption, is_some}
 use Rattle.std.proofs.lemmas.List.{length-replicate}
 use Rattle.call_types.specs.declared.why.Why.TheVariants.{Good}
-use Rattle.drive_base.specs.Files.{Files}
+use Rattle.drive_base.specs.declared.drive.Drive.{Ghosts}
 use Rattle.drive_base.specs.declared.plan.SetPlan.{SetPlan}
 use Rattle.stamp_id.specs.VersionId.{id_bytes}
 use Rattle.stamp_id.specs.declared.stamp.Ballot.{Ballot}
@@ -13,12 +13,10 @@ use Rattle.register_file.specs.declared.record.Base.{Base}
 use Rattle.register_file.specs.declared.record.Next.{Next}
 use Rattle.register_core.specs.Drafts.{letters_for}
 use Rattle.register_core.specs.Found.{IsLawfulPending}
-use Rattle.register_core.specs.Loops.{TellsStay}
 use Rattle.register_core.specs.declared.drafts.Draft.{Draft}
 use Rattle.register_core.specs.declared.faults.QuorumFault.{QuorumFault}
 use Rattle.register_core.specs.declared.faults.QuorumFault.TheVariants.{ReadQuorum, WriteQuorum, Undecided, NoMemory as NoMemoryQuorum}
-use Rattle.register_core.specs.declared.looked.Looked.{Looked}
-use Rattle.register_caller.specs.Steps.{FilesStay}
+use Rattle.register_core.specs.declared.looks.Looked.{Looked}
 use Rattle.audit_trail.specs.declared.entry.Deed.TheVariants.{Kept as KeptDeed}
 use Rattle.version_list.specs.NamesId.{names_id}
 use Rattle.version_list.specs.Places.{id_place}
@@ -63,6 +61,7 @@ use Rattle.slot_core.proofs.CarryLemmas.{entry_leaves, kept_leaves}
 use Rattle.slot_core.proofs.LandLemmas.{LandLaws, land_data, land_stands}
 use Rattle.slot_core.proofs.SettlingLemmas.{first_found, looked_settled}
 use Rattle.slot_core.proofs.TurnLemmas.{stands_looked}
+use Rattle.slot_core.specs.LanesStay.{FilesStay, TellsStay}
 
 -- ---- what a section is ready for
 
@@ -75,11 +74,11 @@ draftable_of looked (Some first) ballot is base lawful =
     let lawful_found : IsLawfulPending (Some found.0) = subst IsLawfulPending found.1 lawful in
     (subst (λ (b : Base). IsContent b.content) (sym found.2.«of».ends.value) lawful_found.1, found.2.longest)
 
-module _ {D : Type 0} (tells : D → Bool) (files : D → Files) (count : D → ℕ) where
+module _ {D : Type 0} (ghosts : Ghosts D) where
   -- what a look gave can be carried out
   pub ready_fits : (site : Site) (drawn : Drawn) (name : List ℕ) (rule : List ℕ → Option ℕ) (longest : ℕ) (ready : Ready) (old new disks disks_after : List D) (deed : Commit)
       → FirstFits site.set ready.first → length old ≡ site.set.drives → length name ≤ 1129 → most_for deed ≡ longest
-      → IsReady tells files count site drawn name rule longest ready old new disks disks_after → ReadyFits site.set deed ready
+      → IsReady ghosts site drawn name rule longest ready old new disks disks_after → ReadyFits site.set deed ready
   ready_fits site drawn name rule longest ready old new disks disks_after deed first lanes short most is = record {
     first = first;
     set_is = is.looks.plan;
@@ -214,15 +213,15 @@ kept_cases P (WriteQuorum whys) outcome is kept lacks = subst P (sym is) (kept (
 kept_cases P (Undecided k u whys) outcome is kept lacks = subst P (sym is) (kept (λ same. absurd cc))
 kept_cases P NoMemoryQuorum outcome is kept lacks = subst P (sym is) lacks
 
-module _ {D : Type 0} (tells : D → Bool) (files : D → Files) (count : D → ℕ) where
+module _ {D : Type 0} (ghosts : Ghosts D) where
   -- what a commit leaves that found no memory: its lanes were looked at
   pub lacks_leaves : LandLaws → (site : Site) (drawn : Drawn) (deed : Commit) (put : Option VersionId) (before trash : List VersionId) (old new : List D)
-      → length new ≡ length old → FilesStay tells files count old new → TellsStay tells files count old new → trash ≡ before
-      → CommitLeaves tells files site drawn drawn deed put LacksMemory before trash old new
+      → length new ≡ length old → FilesStay ghosts old new → TellsStay ghosts old new → trash ≡ before
+      → CommitLeaves ghosts.tells ghosts.files site drawn drawn deed put LacksMemory before trash old new
   lacks_leaves laws site drawn deed put before trash old new long stay told same holding rest records state s lands fits was =
       let kept : kept_with holding rest holding.trash ≡ kept_with holding rest trash = ap (λ (t : List VersionId). kept_with holding rest t) (was ∙ sym same) in
-      let looked : SlotStands tells files (numbers_at site drawn) holding.flights new records state =
-      stands_looked {D = D} tells files count (numbers_at site drawn) holding old new records state long stay told s in
+      let looked : SlotStands ghosts.tells ghosts.files (numbers_at site drawn) holding.flights new records state =
+      stands_looked {D = D} ghosts (numbers_at site drawn) holding old new records state long stay told s in
       record {
         after = records;
         now = state;
@@ -240,10 +239,10 @@ module _ {D : Type 0} (tells : D → Bool) (files : D → Files) (count : D → 
 
   -- and one that its look refused
   pub look_leaves : LandLaws → (site : Site) (drawn : Drawn) (deed : Commit) (put : Option VersionId) (fault : QuorumFault) (before trash : List VersionId) (old new : List D)
-      → length new ≡ length old → FilesStay tells files count old new → TellsStay tells files count old new → trash ≡ before
-      → CommitLeaves tells files site drawn drawn deed put (Kept fault) before trash old new
+      → length new ≡ length old → FilesStay ghosts old new → TellsStay ghosts old new → trash ≡ before
+      → CommitLeaves ghosts.tells ghosts.files site drawn drawn deed put (Kept fault) before trash old new
   look_leaves laws site drawn deed put fault before trash old new long stay told same holding rest records state s lands fits was =
-      let settled = looked_settled {D = D} tells files count (numbers_at site drawn) holding (λ after now. Unit {0}) old new records state long stay told tt s in
-      entry_leaves {D = D} tells files site drawn drawn drawn holding (kept_with holding rest trash) (name_of deed) None KeptDeed site.turns (λ after now. Unit {0}) new new
+      let settled = looked_settled {D = D} ghosts (numbers_at site drawn) holding (λ after now. Unit {0}) old new records state long stay told tt s in
+      entry_leaves {D = D} ghosts.tells ghosts.files site drawn drawn drawn holding (kept_with holding rest trash) (name_of deed) None KeptDeed site.turns (λ after now. Unit {0}) new new
       (λ before_it after. Unit {0}) (λ disks hands less. MayCommitData deed (kept_with holding rest trash) disks hands less) records state (λ after now known. tt) settled
-      (kept_leaves {D = D} tells files laws site drawn deed holding rest put before trash new settled.after settled.now settled.stands lands was same)
+      (kept_leaves {D = D} ghosts.tells ghosts.files laws site drawn deed holding rest put before trash new settled.after settled.now settled.stands lands was same)

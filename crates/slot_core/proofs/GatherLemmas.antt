@@ -15,18 +15,19 @@ use Rattle.std.specs.declared.cmp.Ordering.TheVariants.{Less}
 use Rattle.call_types.specs.declared.why.FileKind.TheVariants.{Format, Manifest, Register, Shard}
 use Rattle.call_types.specs.declared.why.Why.{Why}
 use Rattle.call_types.specs.declared.why.Why.TheVariants.{Behind, Damaged, Failed, Good, Lacks}
-use Rattle.drive_base.specs.Files.{Files, Named}
+use Rattle.drive_base.specs.declared.drive.Drive.{Ghosts}
+use Rattle.drive_base.specs.Files.{Named}
 use Rattle.drive_base.specs.Names.{IsBefore, IsPage, ListsShown, byte_order}
 use Rattle.drive_base.specs.declared.drive.TheConstants.{LONGEST_NAME}
-use Rattle.register_core.specs.Loops.{letter_at}
+use Rattle.register_core.specs.LaneWrites.{letter_at}
 use Rattle.slot_core.proofs.SortedLemmas.{before_trans, each_or, within_same}
 use Rattle.slot_core.specs.NamePages.{AreGathered, AsksLane, HasPage}
 use Rattle.slot_core.specs.NameList.{AreShownNames, IsGiven, IsListable, IsShown, NamesLetter}
 
-module _ {D : Type 0} (tells : D → Bool) (files : D → Files) where
+module _ {D : Type 0} (ghosts : Ghosts D) where
   -- a page that is gathered stays so
   page_later : (from : List ℕ) (most : ℕ) (Had Has : List ℕ → Type 0) (lane : D) → ((name : List ℕ) → Had name → Has name)
-      → HasPage tells files from most Had lane → HasPage tells files from most Has lane
+      → HasPage ghosts.tells ghosts.files from most Had lane → HasPage ghosts.tells ghosts.files from most Has lane
   page_later from most Had Has lane keeps h = record {
     given = h.given;
     page = h.page;
@@ -37,8 +38,8 @@ module _ {D : Type 0} (tells : D → Bool) (files : D → Files) where
   -- a name that a lane shows which answered, and which is in the stretch, is given where its page was gathered
   given_of_page : {T : Type 0} (union : Named T) (from : List ℕ) (most : ℕ) (names : List (List ℕ)) (lane : D)
       → IsPage from most LONGEST_NAME names → ListsShown union from most LONGEST_NAME names
-      → HasPage tells files from most (λ name. IsSome (union name)) lane → IsTrue (tells lane)
-      → (name : List ℕ) → IsSome ((files lane).shown name) → IsListable from name → IsGiven most names name
+      → HasPage ghosts.tells ghosts.files from most (λ name. IsSome (union name)) lane → IsTrue (ghosts.tells lane)
+      → (name : List ℕ) → IsSome ((ghosts.files lane).shown name) → IsListable from name → IsGiven most names name
   given_of_page union from most names lane page lists has told name shown listable = elim ((has.shown told).complete name shown listable.begins listable.short) [
     | inl there ↦ lists.complete name (All-contains (λ n. IsSome (union n)) has.given name has.there there) listable.begins listable.short
     | inr full ↦ elim (each_or (Contains names) ((length names ≡ most) × All (λ g. IsBefore g name) names) has.given (λ g there. of_given full.1 g there)) [
@@ -68,24 +69,24 @@ module _ {D : Type 0} (tells : D → Bool) (files : D → Files) where
 
   -- so the first of all that was gathered are the first that lanes show
   pub names_of_gathered : {T : Type 0} (union : Named T) (from : List ℕ) (most : ℕ) (whys : List Why) (names : List (List ℕ)) (lanes : List D)
-      → AreGathered tells files (length lanes) from most whys (λ name. IsSome (union name)) lanes
+      → AreGathered ghosts.tells ghosts.files (length lanes) from most whys (λ name. IsSome (union name)) lanes
       → IsPage from most LONGEST_NAME names → ListsShown union from most LONGEST_NAME names
-      → AreShownNames tells files from most whys lanes names
+      → AreShownNames ghosts.tells ghosts.files from most whys lanes names
   names_of_gathered union from most whys names lanes gathered page lists = record {
     page = page;
-    shows = All-weaker (λ n. IsSome (union n)) (IsShown tells files whys lanes) (λ n has. (gathered.shows n has).0) names lists.shows;
+    shows = All-weaker (λ n. IsSome (union n)) (IsShown ghosts.tells ghosts.files whys lanes) (λ n has. (gathered.shows n has).0) names lists.shows;
     complete = λ k d name within good told shown listable.
         given_of_page union from most names (slice_index_or lanes k d) page lists (gathered.pages k d within good) told name shown listable;
   }
 
   -- one lane more was asked
-  pub gathered_more : (count : D → ℕ) (out : Type 0) (i : ℕ) (from : List ℕ) (most : ℕ) (whys : List Why) (why : Why) (Had Has : List ℕ → Type 0) (lanes : List D) (old new : D)
+  pub gathered_more : (out : Type 0) (i : ℕ) (from : List ℕ) (most : ℕ) (whys : List Why) (why : Why) (Had Has : List ℕ → Type 0) (lanes : List D) (old new : D)
       → i < length lanes → i < length whys → ((d : D) → slice_index_or lanes i d ≡ old)
-      → AreGathered tells files i from most whys Had lanes → AsksLane tells files count out from most why Had Has old new
-      → AreGathered tells files (i + 1) from most (slice_set whys i why) Has lanes
-  gathered_more count out i from most whys why Had Has lanes old new within lettered is gathered asks = record { shows = shows; pages = pages }
+      → AreGathered ghosts.tells ghosts.files i from most whys Had lanes → AsksLane ghosts out from most why Had Has old new
+      → AreGathered ghosts.tells ghosts.files (i + 1) from most (slice_set whys i why) Has lanes
+  gathered_more out i from most whys why Had Has lanes old new within lettered is gathered asks = record { shows = shows; pages = pages }
     where
-      shows : (name : List ℕ) → Has name → (by : IsShown tells files (slice_set whys i why) lanes name) × (by.place < i + 1)
+      shows : (name : List ℕ) → Has name → (by : IsShown ghosts.tells ghosts.files (slice_set whys i why) lanes name) × (by.place < i + 1)
       shows name has = elim (asks.from_lane name has) [
         | inl had ↦
             let before = gathered.shows name had in
@@ -103,16 +104,16 @@ module _ {D : Type 0} (tells : D → Bool) (files : D → Files) where
             place = i;
             within = within;
             answered = get_or-set_same whys i why (Lacks Format) lettered ∙ found.0;
-            shown = λ d. subst (λ (lane : D). IsTrue (tells lane) → IsSome ((files lane).shown name)) (sym (is d)) found.1;
+            shown = λ d. subst (λ (lane : D). IsTrue (ghosts.tells lane) → IsSome ((ghosts.files lane).shown name)) (sym (is d)) found.1;
           },
           omega arith,
         )
       ]
 
-      pages : (k : ℕ) (d : D) → k < i + 1 → letter_at (slice_set whys i why) k ≡ Good → HasPage tells files from most Has (slice_index_or lanes k d)
+      pages : (k : ℕ) (d : D) → k < i + 1 → letter_at (slice_set whys i why) k ≡ Good → HasPage ghosts.tells ghosts.files from most Has (slice_index_or lanes k d)
       pages k d below good = elim (cases_eq k i) [
-        | inl same ↦ subst (λ (m : ℕ). HasPage tells files from most Has (slice_index_or lanes m d)) (sym same)
-            (subst (λ (lane : D). HasPage tells files from most Has lane) (sym (is d))
+        | inl same ↦ subst (λ (m : ℕ). HasPage ghosts.tells ghosts.files from most Has (slice_index_or lanes m d)) (sym same)
+            (subst (λ (lane : D). HasPage ghosts.tells ghosts.files from most Has lane) (sym (is d))
             (asks.page (sym (get_or-set_same whys i why (Lacks Format) lettered) ∙ (ap (λ (m : ℕ). letter_at (slice_set whys i why) m) (sym same) ∙ good))))
         | inr other ↦ page_later from most Had Has (slice_index_or lanes k d) asks.keeps
             (gathered.pages k d (omega arith) (sym (get_or-set_other whys i k why (Lacks Format) other) ∙ good))
@@ -184,18 +185,18 @@ pub iff_trans : {P Q R : Type 0} → P ↔ Q → Q ↔ R → P ↔ R
 iff_trans first second = ((λ p. second.0 (first.0 p)), (λ r. first.1 (second.1 r)))
 
 -- a lane that isn't out answered, and its page was gathered
-pub asks_good : {D : Type 0} (tells : D → Bool) (files : D → Files) (count : D → ℕ) (out : Type 0) (from : List ℕ) (most : ℕ) (given : List (List ℕ))
+pub asks_good : {D : Type 0} (ghosts : Ghosts D) (out : Type 0) (from : List ℕ) (most : ℕ) (given : List (List ℕ))
     (Had Has : List ℕ → Type 0) (old new : D)
-    → (out → ⊥) → count new ≡ count old → ((name : List ℕ) → Has name ↔ (Had name ⊎ Contains given name))
-    → IsPage from most LONGEST_NAME given → (IsTrue (tells old) → ListsShown (files old).shown from most LONGEST_NAME given)
-    → AsksLane tells files count out from most Good Had Has old new
-asks_good tells files count out from most given Had Has old new used counted gathers page lists = record {
+    → (out → ⊥) → ghosts.count new ≡ ghosts.count old → ((name : List ℕ) → Has name ↔ (Had name ⊎ Contains given name))
+    → IsPage from most LONGEST_NAME given → (IsTrue (ghosts.tells old) → ListsShown (ghosts.files old).shown from most LONGEST_NAME given)
+    → AsksLane ghosts out from most Good Had Has old new
+asks_good ghosts out from most given Had Has old new used counted gathers page lists = record {
   letter = (used, counted);
   stay = λ is. absurd (used is);
   keeps = λ name had. (gathers name).1 (inl had);
   from_lane = λ name has. elim ((gathers name).0 has) [
     | inl had ↦ inl had
-    | inr found ↦ inr (refl, λ told. All-contains (λ n. IsSome ((files old).shown n)) given name (lists told).shows found)
+    | inr found ↦ inr (refl, λ told. All-contains (λ n. IsSome ((ghosts.files old).shown n)) given name (lists told).shows found)
   ];
   page = λ good. record {
     given = given;

@@ -6,13 +6,12 @@ use Rattle.stamp_id.specs.declared.stamp.ChangeId.{ChangeId}
 use Rattle.audit_trail.specs.declared.entry.Deed.{Deed}
 use Rattle.audit_trail.specs.declared.entry.Deed.TheVariants.{Kept}
 use Rattle.audit_trail.specs.declared.entry.Entry.{Entry}
+use Rattle.drive_base.specs.declared.drive.Drive.{Ghosts}
 use Rattle.drive_base.specs.Files.{Files}
 use Rattle.drive_base.specs.Plan.{write_drives}
 use Rattle.drive_base.specs.declared.plan.SetPlan.{SetPlan}
-use Rattle.register_core.specs.Loops.{TellsStay}
 use Rattle.register_core.specs.Loose.{loose_name}
 use Rattle.register_core.specs.Records.{HasLane, IsHonest}
-use Rattle.register_caller.specs.Steps.{FilesStay}
 use Rattle.vote_core.specs.Lane.{lane_at}
 use Rattle.slot_history.specs.Moving.{Deeds, IsLast}
 use Rattle.slot_history.specs.Sections.{IsOnItsWay, SectionMoves}
@@ -30,6 +29,7 @@ use Rattle.slot_core.specs.Stubs.{entry_of}
 use Rattle.slot_core.specs.Turns.{EntryMoves, Leaves, TurnLeaves}
 use Rattle.slot_core.specs.Views.{SlotNumbers, last_of, quorum_of}
 use Rattle.slot_core.specs.declared.stub.Stub.{Stub}
+use Rattle.slot_core.specs.LanesStay.{FilesStay, TellsStay}
 
 -- an entry of a section that did nothing, and completed nothing, moves a state to itself
 abbrev pub kept_moves : (slot : ℕ) (entry : Entry) (records_old records_new : Records) (state : State) → entry.late ≡ None → entry.deed ≡ Kept
@@ -49,10 +49,10 @@ kept_moves slot entry records_old records_new state late deed same = record {
 }
 
 -- lanes that were only read have the records that they had
-pub have_read : {D : Type 0} (tells : D → Bool) (files : D → Files) (count : D → ℕ) (numbers : SlotNumbers) (old new : List D) (records : Records)
-    → length new ≡ length old → FilesStay tells files count old new → TellsStay tells files count old new
-    → LanesHave tells files numbers old records → LanesHave tells files numbers new records
-have_read {D} tells files count numbers old new records long stay told have = record {
+pub have_read : {D : Type 0} (ghosts : Ghosts D) (numbers : SlotNumbers) (old new : List D) (records : Records)
+    → length new ≡ length old → FilesStay ghosts old new → TellsStay ghosts old new
+    → LanesHave ghosts.tells ghosts.files numbers old records → LanesHave ghosts.tells ghosts.files numbers new records
+have_read {D} ghosts numbers old new records long stay told have = record {
   tell = λ k d within used. subst (λ (b : Bool). IsTrue b) (sym (told k d (low k within))) (have.tell k d (low k within) used);
   unused = λ k d later within used above small. subst (λ (f : Files). f.loose (loose_name numbers.term later) ≡ None) (sym (same k d (low k within) used))
       (have.unused k d later (low k within) used above small);
@@ -70,23 +70,23 @@ have_read {D} tells files count numbers old new records long stay told have = re
     low : (k : ℕ) → k < length new → k < length old
     low k within = let counted = long in omega arith
 
-    same : (k : ℕ) (d : D) → k < length old → (IsBitSet numbers.set.out k → ⊥) → files (slice_index_or new k d) ≡ files (slice_index_or old k d)
+    same : (k : ℕ) (d : D) → k < length old → (IsBitSet numbers.set.out k → ⊥) → ghosts.files (slice_index_or new k d) ≡ ghosts.files (slice_index_or old k d)
     same k d within used = stay k d within (have.tell k d within used)
 
 -- a section that only read its lanes, and wrote that it did nothing, leaves what they stand for
-pub kept_leaves : {D : Type 0} (tells : D → Bool) (files : D → Files) (count : D → ℕ) (old later : SlotNumbers) (held kept : Holding) (lanes new : List D)
+pub kept_leaves : {D : Type 0} (ghosts : Ghosts D) (old later : SlotNumbers) (held kept : Holding) (lanes new : List D)
     (stub : Option Stub) (entry : Entry) (Shows : State → State → Type 0)
     → NumbersMove old later → later.seq ≡ old.seq → kept ≡ held → length new ≡ length lanes
-    → FilesStay tells files count lanes new → TellsStay tells files count lanes new
+    → FilesStay ghosts lanes new → TellsStay ghosts lanes new
     → entry_of stub ≡ Some entry → entry.late ≡ None → entry.deed ≡ Kept
-    → ((records : Records) (state : State) → SlotStands tells files old held.flights lanes records state → Shows state state)
-    → Leaves tells files old later held kept lanes new stub Shows HandsStay
-kept_leaves tells files count old later held kept lanes new stub entry Shows moves drawn same long stay told is late deed shows records state standing =
-    subst (λ (h : Holding). TurnLeaves tells files old later held h new stub Shows HandsStay records state) (sym same) (record {
+    → ((records : Records) (state : State) → SlotStands ghosts.tells ghosts.files old held.flights lanes records state → Shows state state)
+    → Leaves ghosts.tells ghosts.files old later held kept lanes new stub Shows HandsStay
+kept_leaves ghosts old later held kept lanes new stub entry Shows moves drawn same long stay told is late deed shows records state standing =
+    subst (λ (h : Holding). TurnLeaves ghosts.tells ghosts.files old later held h new stub Shows HandsStay records state) (sym same) (record {
       after = records;
       now = state;
       stands = record {
-        have = have_later tells files old later new records moves (have_read tells files count old lanes new records long stay told standing.have);
+        have = have_later ghosts.tells ghosts.files old later new records moves (have_read ghosts old lanes new records long stay told standing.have);
         stands = subst (λ (s : SetPlan). Stands (write_drives s.drives s.parity) s.drives (last_of later) held.flights records state) (sym moves.set)
             (subst (λ (last : ℕ). Stands (write_drives old.set.drives old.set.parity) old.set.drives last held.flights records state) (last_stays old later moves drawn) standing.stands);
       };
@@ -99,17 +99,17 @@ kept_leaves tells files count old later held kept lanes new stub entry Shows mov
     })
 
 -- a section that only read its lanes, and wrote no entry, leaves it too
-pub read_leaves : {D : Type 0} (tells : D → Bool) (files : D → Files) (count : D → ℕ) (old later : SlotNumbers) (held kept : Holding) (lanes new : List D)
+pub read_leaves : {D : Type 0} (ghosts : Ghosts D) (old later : SlotNumbers) (held kept : Holding) (lanes new : List D)
     (stub : Option Stub) (Shows : State → State → Type 0)
     → NumbersMove old later → later.seq ≡ old.seq → kept ≡ held → length new ≡ length lanes
-    → FilesStay tells files count lanes new → TellsStay tells files count lanes new → entry_of stub ≡ None
-    → Leaves tells files old later held kept lanes new stub Shows HandsStay
-read_leaves tells files count old later held kept lanes new stub Shows moves drawn same long stay told none records state standing =
-    subst (λ (h : Holding). TurnLeaves tells files old later held h new stub Shows HandsStay records state) (sym same) (record {
+    → FilesStay ghosts lanes new → TellsStay ghosts lanes new → entry_of stub ≡ None
+    → Leaves ghosts.tells ghosts.files old later held kept lanes new stub Shows HandsStay
+read_leaves ghosts old later held kept lanes new stub Shows moves drawn same long stay told none records state standing =
+    subst (λ (h : Holding). TurnLeaves ghosts.tells ghosts.files old later held h new stub Shows HandsStay records state) (sym same) (record {
       after = records;
       now = state;
       stands = record {
-        have = have_later tells files old later new records moves (have_read tells files count old lanes new records long stay told standing.have);
+        have = have_later ghosts.tells ghosts.files old later new records moves (have_read ghosts old lanes new records long stay told standing.have);
         stands = subst (λ (s : SetPlan). Stands (write_drives s.drives s.parity) s.drives (last_of later) held.flights records state) (sym moves.set)
             (subst (λ (last : ℕ). Stands (write_drives old.set.drives old.set.parity) old.set.drives last held.flights records state) (last_stays old later moves drawn) standing.stands);
       };

@@ -4,13 +4,13 @@ use Rattle.std.specs.Prelude.{Bool, slice_index_or}
 use Rattle.std.specs.Int.{IsBitSet}
 use Rattle.std.proofs.lemmas.Bool.{cond-true, cond-false}
 use Rattle.std.proofs.lemmas.Slice.Eq.{bytes_eq-Decides}
+use Rattle.drive_base.specs.declared.drive.Drive.{Ghosts}
 use Rattle.drive_base.specs.Files.{Files}
 use Rattle.vote_core.specs.Lane.{Lane, lane_at}
-use Rattle.register_core.specs.Loops.{KeepsDrives, TellsStay}
+use Rattle.register_core.specs.LaneWrites.{KeepsDrives}
 use Rattle.register_core.specs.Loose.{loose_name}
 use Rattle.register_core.specs.OnLanes.{AllTell, AreHonest, AreLanes, AreUnused}
 use Rattle.register_core.specs.Records.{HasLane, IsHonest}
-use Rattle.register_caller.specs.Steps.{FilesStay}
 use Rattle.register_caller.proofs.CallingLemmas.{lanes_after_look, tell_after, unused_after_look}
 use Rattle.register_caller.proofs.StepLemmas.{keeps_after_look}
 use Rattle.slot_history.specs.Standing.{Flying, Records}
@@ -20,6 +20,7 @@ use Rattle.slot_history.proofs.MemberLemmas.{same_or_other}
 use Rattle.slot_core.proofs.LooseLemmas.{loose_terms_differ}
 use Rattle.slot_core.specs.Standing.{LanesHave, SlotStands}
 use Rattle.slot_core.specs.Views.{SlotNumbers}
+use Rattle.slot_core.specs.LanesStay.{FilesStay, TellsStay}
 
 -- lanes put under a name
 abbrev pub with_lanes : List ℕ → List Lane → Records → Records
@@ -60,21 +61,21 @@ module _ {D : Type 0} (tells : D → Bool) (files : D → Files) where
     stands = s.stands;
   }
 
-module _ {D : Type 0} (tells : D → Bool) (files : D → Files) (count : D → ℕ) where
+module _ {D : Type 0} (ghosts : Ghosts D) where
   -- lanes that were looked at keep what they kept
-  pub have_after_look : (numbers : SlotNumbers) (old new : List D) (records : Records) → length new ≡ length old → FilesStay tells files count old new
-      → TellsStay tells files count old new → LanesHave tells files numbers old records → LanesHave tells files numbers new records
+  pub have_after_look : (numbers : SlotNumbers) (old new : List D) (records : Records) → length new ≡ length old → FilesStay ghosts old new
+      → TellsStay ghosts old new → LanesHave ghosts.tells ghosts.files numbers old records → LanesHave ghosts.tells ghosts.files numbers new records
   have_after_look numbers old new records long stay tells_stay have = record {
-    tell = tell_after tells files numbers.set.out old new long tells_stay have.tell;
-    unused = unused_after_look tells files numbers.set.out numbers.term numbers.count old new long stay have.tell have.unused;
-    unused_later = λ term above fits. unused_after_look tells files numbers.set.out term 0 old new long stay have.tell (have.unused_later term above fits);
-    honest = λ name. (keeps_after_look tells files count numbers.set.out name numbers.term numbers.count old new long stay have.tell have.unused).honest (have.honest name);
-    are = λ name. lanes_after_look tells files numbers.set.out name old new (records name) long stay have.tell (have.are name);
+    tell = tell_after ghosts.tells ghosts.files numbers.set.out old new long tells_stay have.tell;
+    unused = unused_after_look ghosts.tells ghosts.files numbers.set.out numbers.term numbers.count old new long stay have.tell have.unused;
+    unused_later = λ term above fits. unused_after_look ghosts.tells ghosts.files numbers.set.out term 0 old new long stay have.tell (have.unused_later term above fits);
+    honest = λ name. (keeps_after_look ghosts numbers.set.out name numbers.term numbers.count old new long stay have.tell have.unused).honest (have.honest name);
+    are = λ name. lanes_after_look ghosts.tells ghosts.files numbers.set.out name old new (records name) long stay have.tell (have.are name);
   }
 
   -- those of another name keep theirs through a write
   lanes_elsewhere : (out term from to : ℕ) (name other : List ℕ) (old new : List D) (lanes : List Lane) → length new ≡ length old
-      → KeepsDrives tells files count out name term from to old new → bytes_eq name other ≡ false → AreLanes files out other old lanes → AreLanes files out other new lanes
+      → KeepsDrives ghosts out name term from to old new → bytes_eq name other ≡ false → AreLanes ghosts.files out other old lanes → AreLanes ghosts.files out other new lanes
   lanes_elsewhere out term from to name other old new lanes long keeps differs are = record {
     counted = are.counted ∙ sym long;
     each = λ k d below in_use. let low : k < length old = omega arith in
@@ -82,18 +83,18 @@ module _ {D : Type 0} (tells : D → Bool) (files : D → Files) (count : D → 
   }
 
   honest_elsewhere : (out term from to : ℕ) (name other : List ℕ) (old new : List D) → length new ≡ length old
-      → KeepsDrives tells files count out name term from to old new → bytes_eq name other ≡ false → AreHonest files out other old → AreHonest files out other new
+      → KeepsDrives ghosts out name term from to old new → bytes_eq name other ≡ false → AreHonest ghosts.files out other old → AreHonest ghosts.files out other new
   honest_elsewhere out term from to name other old new long keeps differs honest k d below in_use =
       let low : k < length old = omega arith in
       let same = keeps.others k d other low in_use differs in
-      subst (λ (f : Option (List ℕ)). IsHonest f ((files (slice_index_or new k d)).shown other)) (sym same.0)
-      (subst (λ (f : Option (List ℕ)). IsHonest ((files (slice_index_or old k d)).kept other) f) (sym same.1) (honest k d low in_use))
+      subst (λ (f : Option (List ℕ)). IsHonest f ((ghosts.files (slice_index_or new k d)).shown other)) (sym same.0)
+      (subst (λ (f : Option (List ℕ)). IsHonest ((ghosts.files (slice_index_or old k d)).kept other) f) (sym same.1) (honest k d low in_use))
 
   -- lanes of which one register was written
   pub have_after_write : (numbers : SlotNumbers) (seq to : ℕ) (name : List ℕ) (old new : List D) (records : Records) (after : List Lane) → length new ≡ length old
-      → LanesHave tells files numbers old records → AllTell tells numbers.set.out new → AreUnused files numbers.set.out numbers.term to new
-      → AreLanes files numbers.set.out name new after → KeepsDrives tells files count numbers.set.out name numbers.term numbers.count to old new
-      → LanesHave tells files (with_drawn numbers seq to) new (with_lanes name after records)
+      → LanesHave ghosts.tells ghosts.files numbers old records → AllTell ghosts.tells numbers.set.out new → AreUnused ghosts.files numbers.set.out numbers.term to new
+      → AreLanes ghosts.files numbers.set.out name new after → KeepsDrives ghosts numbers.set.out name numbers.term numbers.count to old new
+      → LanesHave ghosts.tells ghosts.files (with_drawn numbers seq to) new (with_lanes name after records)
   have_after_write numbers seq to name old new records after long have told unused are keeps =
       let out : ℕ = numbers.set.out in
       let writes = with_lanes_writes name after records in
@@ -104,13 +105,13 @@ module _ {D : Type 0} (tells : D → Bool) (files : D → Files) (count : D → 
             keeps.loose k d (loose_name term later) before used (λ number from below. loose_terms_differ numbers.term term number later (omega arith) fits (λ same. omega (arith, same)))
             ∙ have.unused_later term above fits k d later before used low small;
         honest = λ other. elim (same_or_other name other) [
-          | inl same ↦ subst (λ (n : List ℕ). AreHonest files out n new) same (keeps.honest (have.honest name))
+          | inl same ↦ subst (λ (n : List ℕ). AreHonest ghosts.files out n new) same (keeps.honest (have.honest name))
           | inr differs ↦ honest_elsewhere out numbers.term numbers.count to name other old new long keeps differs (have.honest other)
         ];
         are = λ other. elim (same_or_other name other) [
-          | inl same ↦ subst (λ (n : List ℕ). AreLanes files out n new (with_lanes name after records n)) same
-              (subst (λ (l : List Lane). AreLanes files out name new l) (sym writes.is) are)
-          | inr differs ↦ subst (λ (l : List Lane). AreLanes files out other new l) (sym (writes.stays other differs))
+          | inl same ↦ subst (λ (n : List ℕ). AreLanes ghosts.files out n new (with_lanes name after records n)) same
+              (subst (λ (l : List Lane). AreLanes ghosts.files out name new l) (sym writes.is) are)
+          | inr differs ↦ subst (λ (l : List Lane). AreLanes ghosts.files out other new l) (sym (writes.stays other differs))
               (lanes_elsewhere out numbers.term numbers.count to name other old new (records other) long keeps differs (have.are other))
         ];
       }

@@ -8,11 +8,11 @@ use Rattle.call_types.specs.Good.{is_good}
 use Rattle.call_types.specs.declared.why.FileKind.TheVariants.{Format}
 use Rattle.call_types.specs.declared.why.Why.{Why}
 use Rattle.call_types.specs.declared.why.Why.TheVariants.{Behind, Damaged, Failed, Good, Lacks}
-use Rattle.drive_base.specs.Files.{Files}
+use Rattle.drive_base.specs.declared.drive.Drive.{Ghosts}
 use Rattle.drive_base.specs.Plan.{write_drives}
 use Rattle.drive_base.specs.declared.plan.SetPlan.{SetPlan}
 use Rattle.register_core.proofs.LookLemmas.{quorums_meet}
-use Rattle.register_core.specs.Loops.{letter_at}
+use Rattle.register_core.specs.LaneWrites.{letter_at}
 use Rattle.register_core.specs.Records.{HasLane, IsHonest}
 use Rattle.vote_core.specs.Lane.{Lane, backs, blank_lane, lane_at}
 use Rattle.vote_core.specs.Sound.{HoldsValue}
@@ -88,11 +88,11 @@ in_use : (out : Type 0) (why : Why) (old new : ℕ) → why ≡ Good → NamesLe
 in_use out why old new good letter = (subst (λ (w : Why). NamesLetter out w old new) good letter).0
 
 -- so each register that is held and that some change made is given
-pub stands_listed : {D : Type 0} (tells : D → Bool) (files : D → Files) (count : D → ℕ) (numbers : SlotNumbers) (flights : List Flying) (lanes new : List D)
+pub stands_listed : {D : Type 0} (ghosts : Ghosts D) (numbers : SlotNumbers) (flights : List Flying) (lanes new : List D)
     (records : Records) (state : State) (from : List ℕ) (most : ℕ) (names : List (List ℕ))
-    → SlotStands tells files numbers flights lanes records state → NamesAreListed tells files count numbers.set from most names lanes new
+    → SlotStands ghosts.tells ghosts.files numbers flights lanes records state → NamesAreListed ghosts numbers.set from most names lanes new
     → (name : List ℕ) → IsHeld state.registers name → (state.registers name).change ≢ 0 → IsListable from name → IsGiven most names name
-stands_listed {D} tells files count numbers flights lanes new records state from most names standing listed name held made listable =
+stands_listed {D} ghosts numbers flights lanes new records state from most names standing listed name held made listable =
     listed.are.complete place.0 d name within good told shown listable
   where
     set : SetPlan
@@ -134,14 +134,14 @@ stands_listed {D} tells files count numbers flights lanes new records state from
     good = good_is (letter_at listed.whys place.0) (place.3 (Lacks Format))
 
     used : IsBitSet set.out place.0 → ⊥
-    used = in_use (IsBitSet set.out place.0) (letter_at listed.whys place.0) (count lane) (count (slice_index_or new place.0 d)) good (listed.asked.each place.0 d within)
+    used = in_use (IsBitSet set.out place.0) (letter_at listed.whys place.0) (ghosts.count lane) (ghosts.count (slice_index_or new place.0 d)) good (listed.asked.each place.0 d within)
 
-    told : IsTrue (tells lane)
+    told : IsTrue (ghosts.tells lane)
     told = standing.have.tell place.0 d within used
 
-    kept : IsSome ((files lane).kept name)
-    kept = keeps_file ((files lane).kept name) (lane_at (records name) place.0) c top.base.ballot
+    kept : IsSome ((ghosts.files lane).kept name)
+    kept = keeps_file ((ghosts.files lane).kept name) (lane_at (records name) place.0) c top.base.ballot
         ((standing.have.are name).each place.0 d within used) (place.2 blank_lane) made
 
-    shown : IsSome ((files lane).shown name)
-    shown = shows_file ((files lane).kept name) ((files lane).shown name) (standing.have.honest name place.0 d within used) kept
+    shown : IsSome ((ghosts.files lane).shown name)
+    shown = shows_file ((ghosts.files lane).kept name) ((ghosts.files lane).shown name) (standing.have.honest name place.0 d within used) kept

@@ -8,7 +8,7 @@ use Rattle.drive_base.specs.declared.plan.SetPlan.{SetPlan}
 use Rattle.vote_core.specs.Lane.{Added, HasNext, HasRecord, Lane, Next}
 use Rattle.vote_core.specs.Laws.{DrawingKeeps}
 use Rattle.vote_core.specs.Sound.{HoldsValue, IsLive, LanesAreDrawn}
-use Rattle.register_caller.specs.Leaving.{LeavesLanes, WasLive, Written}
+use Rattle.register_caller.specs.WrittenLanes.{LeavesLanes, WasLive, Written}
 use Rattle.slot_history.specs.Contents.{NamedData, NamesData, number_of_id}
 use Rattle.slot_history.specs.Laws.{OnlyTheOld}
 use Rattle.slot_history.specs.Names.{part_name}

@@ -8,9 +8,9 @@ use Rattle.vote_core.specs.Calm.{IsCalm}
 use Rattle.vote_core.specs.Lane.{Base, Lane, Next}
 use Rattle.vote_core.specs.Laws.{AboveLastIsFresh}
 use Rattle.vote_core.specs.Loops.{Stands as StandsOn}
-use Rattle.register_core.specs.Keeping.{MayPropose}
-use Rattle.register_caller.specs.Calling.{BothLeave}
-use Rattle.register_caller.specs.Leaving.{LeavesByResult, LeavesLanes, written_of}
+use Rattle.register_core.specs.LaneMoves.{MayPropose}
+use Rattle.register_caller.specs.BothWrites.{BothLeave}
+use Rattle.register_caller.specs.WrittenLanes.{LeavesByResult, LeavesLanes, written_of}
 use Rattle.slot_history.specs.Committing.{MayCommit}
 use Rattle.slot_history.specs.Laws.{IsMade, OnlyTheOld, OnlyTheOldOr, OwnIsFresh, OwnStands, with_waiting}
 use Rattle.slot_history.specs.Standing.{Flying, Records, Stands}

@@ -1,6 +1,7 @@
 -- A look of a slot, by that of its lanes.
 use Rattle.std.proofs.Common.{◌≡◌, ℕ, List, Option, None, Some, Result, Ok, Err, subst, sym}
 use Rattle.std.specs.Prelude.{Bool}
+use Rattle.drive_base.specs.declared.drive.Drive.{Ghosts}
 use Rattle.drive_base.specs.Files.{Files}
 use Rattle.stamp_id.specs.declared.stamp.ChangeId.{ChangeId}
 use Rattle.register_file.specs.declared.record.Next.{Next}
@@ -43,11 +44,11 @@ pub completes_turned : (numbers later : SlotNumbers) (turns : ℕ) (pending : Op
 completes_turned numbers later turns None late told = told
 completes_turned numbers later turns (Some found) late told = told
 
-module _ {D : Type 0} (tells : D → Bool) (files : D → Files) (count : D → ℕ) where
+module _ {D : Type 0} (ghosts : Ghosts D) where
   -- nor does the cause of its answer
   turned_cause : (numbers later : SlotNumbers) (turns : ℕ) (name : List ℕ) (answer : Result (List ℕ) SlotFault) (late : Option ChangeId) (old new disks disks_after : List D)
-      → PeekCause tells files count numbers later name answer late old new disks disks_after
-      → PeekCause tells files count numbers (with_turns later turns) name answer late old new disks disks_after
+      → PeekCause ghosts numbers later name answer late old new disks disks_after
+      → PeekCause ghosts numbers (with_turns later turns) name answer late old new disks disks_after
   turned_cause numbers later turns name (Ok content) late old new disks disks_after cause = (cause.0, completes_turned numbers later turns cause.0.looked.pending late cause.1)
   turned_cause numbers later turns name (Err (Quorum fault)) late old new disks disks_after cause = cause
   turned_cause numbers later turns name (Err (Key why)) late old new disks disks_after cause = cause
@@ -57,16 +58,16 @@ module _ {D : Type 0} (tells : D → Bool) (files : D → Files) (count : D → 
   turned_cause numbers later turns name (Err (NotInFlight id)) late old new disks disks_after cause = cause
 
   pub cause_turned : (numbers later : SlotNumbers) (turns : ℕ) (name : List ℕ) (answer : Result (List ℕ) SlotFault) (late : Option ChangeId) (old old_is new new_is disks disks_after : List D)
-      → old_is ≡ old → new_is ≡ new → PeekCause tells files count numbers later name answer late old_is new_is disks disks_after
-      → PeekCause tells files count numbers (with_turns later turns) name answer late old new disks disks_after
+      → old_is ≡ old → new_is ≡ new → PeekCause ghosts numbers later name answer late old_is new_is disks disks_after
+      → PeekCause ghosts numbers (with_turns later turns) name answer late old new disks disks_after
   cause_turned numbers later turns name answer late old old_is new new_is disks disks_after same_old same_new cause =
       turned_cause numbers later turns name answer late old new disks disks_after
-      (subst (λ (l : List D). PeekCause tells files count numbers later name answer late old l disks disks_after) same_new
-      (subst (λ (l : List D). PeekCause tells files count numbers later name answer late l new_is disks disks_after) same_old cause))
+      (subst (λ (l : List D). PeekCause ghosts numbers later name answer late old l disks disks_after) same_new
+      (subst (λ (l : List D). PeekCause ghosts numbers later name answer late l new_is disks disks_after) same_old cause))
 
   -- and it is told by the entry that was written down
   pub told_cause : (numbers later : SlotNumbers) (name : List ℕ) (answer : Result (List ℕ) SlotFault) (late told : Option ChangeId) (old new disks disks_after : List D)
-      → told ≡ late → PeekCause tells files count numbers later name answer late old new disks disks_after
-      → PeekCause tells files count numbers later name answer told old new disks disks_after
+      → told ≡ late → PeekCause ghosts numbers later name answer late old new disks disks_after
+      → PeekCause ghosts numbers later name answer told old new disks disks_after
   told_cause numbers later name answer late told old new disks disks_after same cause =
-      subst (λ (l : Option ChangeId). PeekCause tells files count numbers later name answer l old new disks disks_after) (sym same) cause
+      subst (λ (l : Option ChangeId). PeekCause ghosts numbers later name answer l old new disks disks_after) (sym same) cause

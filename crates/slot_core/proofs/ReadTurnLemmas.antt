@@ -18,9 +18,9 @@ use Rattle.call_types.specs.declared.reply.Reply.TheVariants.{Refused as Refused
 use Rattle.call_types.specs.declared.version.Version.{Version}
 use Rattle.audit_trail.specs.Entries.{with_entry}
 use Rattle.audit_trail.specs.declared.entry.Entry.{Entry}
+use Rattle.drive_base.specs.declared.drive.Drive.{Ghosts}
 use Rattle.drive_base.specs.Files.{Files}
 use Rattle.register_core.specs.Found.{content_of}
-use Rattle.register_caller.specs.Steps.{FilesStay}
 use Rattle.version_list.specs.Reads.{Reads}
 use Rattle.version_list.specs.declared.state.KeyState.{KeyState}
 use Rattle.slot_history.specs.Contents.{SpellsKey}
@@ -60,6 +60,7 @@ use Rattle.slot_core.specs.declared.stub.Turn.{Turn}
 use Rattle.slot_core.proofs.CalmingLemmas.{look_calms}
 use Rattle.slot_core.proofs.CauseLemmas.{gives_of}
 use Rattle.slot_core.proofs.TurnLemmas.{refused_turn, wrote_turn}
+use Rattle.slot_core.specs.LanesStay.{FilesStay}
 
 -- the entries of a plan are two copies of one
 pub same_entries : (ticket : ℕ) (at : Key) (mode : Mode) (pick : Pick) (state : KeyState) (plan : ReadPlan) → PlansRead ticket at mode pick state plan
@@ -251,11 +252,11 @@ module _ {D : Type 0} (tells : D → Bool) (files : D → Files) where
       let same : kept ≡ holding = subst (λ (a : Result ReadStart SlotFault). ReadHolds numbers at a holding kept) is holds in
       subst (λ (h : Holding). TurnLeaves tells files numbers later holding h lanes stub ShowsNoMore HandsStay records state) (sym same) leaves
 
-module _ {D : Type 0} (tells : D → Bool) (files : D → Files) (count : D → ℕ) where
+module _ {D : Type 0} (ghosts : Ghosts D) where
   -- what is due is told otherwise
   gave_due : (numbers later : SlotNumbers) (at : Key) (Due Told : KeyState → Type 0) (late : Option ChangeId) (old new disks disks_after : List D)
       → ((state : KeyState) → Due state → Told state)
-      → ReadGave tells files count numbers later at Due late old new disks disks_after → ReadGave tells files count numbers later at Told late old new disks disks_after
+      → ReadGave ghosts numbers later at Due late old new disks disks_after → ReadGave ghosts numbers later at Told late old new disks disks_after
   gave_due numbers later at Due Told late old new disks disks_after tell gave = record {
     content = gave.content;
     gave = gave.gave;
@@ -269,31 +270,31 @@ module _ {D : Type 0} (tells : D → Bool) (files : D → Files) (count : D → 
   pub begun_cause : (site : Site) (numbers later : SlotNumbers) (at : Key) (mode : Mode) (pick : Pick) (plan : ReadPlan) (late : Option ChangeId) (turn : Turn ReadStart) (rows after : List PinRow)
       (old new disks disks_after : List D)
       → BeginsPlan site plan late turn rows after
-      → ReadGave tells files count numbers later at (λ state. PlansRead site.turns at mode pick state plan) late old new disks disks_after
-      → ReadCause tells files count numbers later at pick turn.answer (completed_by turn.stub) old new disks disks_after
+      → ReadGave ghosts numbers later at (λ state. PlansRead site.turns at mode pick state plan) late old new disks disks_after
+      → ReadCause ghosts numbers later at pick turn.answer (completed_by turn.stub) old new disks disks_after
   begun_cause site numbers later at mode pick (Gives start row entries) late turn rows after old new disks disks_after begins gave =
-      subst (λ (l : Option ChangeId). ReadCause tells files count numbers later at pick turn.answer l old new disks disks_after)
+      subst (λ (l : Option ChangeId). ReadCause ghosts numbers later at pick turn.answer l old new disks disks_after)
       (sym (ap late_in (told_entry site (has_late entries.audit late) None turn.stub begins.1)))
-      (subst (λ (a : Result ReadStart SlotFault). ReadCause tells files count numbers later at pick a late old new disks disks_after) (sym begins.0)
+      (subst (λ (a : Result ReadStart SlotFault). ReadCause ghosts numbers later at pick a late old new disks disks_after) (sym begins.0)
       (gave_due numbers later at (λ state. PlansRead site.turns at mode pick state (Gives start row entries)) (λ state. IsFound state pick start.version) late old new disks disks_after
       (λ state plans. plans.0) gave))
   begun_cause site numbers later at mode pick (Refuses why entries) late turn rows after old new disks disks_after begins gave =
-      subst (λ (l : Option ChangeId). ReadCause tells files count numbers later at pick turn.answer l old new disks disks_after)
+      subst (λ (l : Option ChangeId). ReadCause ghosts numbers later at pick turn.answer l old new disks disks_after)
       (sym (ap late_in (told_entry site (has_late entries.audit late) (Some (KeyFault why)) turn.stub begins.1)))
-      (subst (λ (a : Result ReadStart SlotFault). ReadCause tells files count numbers later at pick a late old new disks disks_after) (sym begins.0)
+      (subst (λ (a : Result ReadStart SlotFault). ReadCause ghosts numbers later at pick a late old new disks disks_after) (sym begins.0)
       (gave_due numbers later at (λ state. PlansRead site.turns at mode pick state (Refuses why entries)) (λ state. Reads state.versions pick (Err why)) late old new disks disks_after
       (λ state plans. plans.0) gave))
 
   -- the content that a read's look gave
   pub read_gave : (site : Site) (drawn later : Drawn) (name : List ℕ) (at : Key) (mode : Mode) (pick : Pick) (planned : Planned) (late : Option ChangeId)
       (old mid new disks disks_after : List D)
-      → name ≡ key_name at → LooksForRead tells files count site drawn name at mode pick (Ok planned) old mid disks disks_after → FilesStay tells files count old mid
-      → late ≡ late_of planned.ready.first → CallsForward tells files count site drawn later planned.ready.first (Ok late) mid new
-      → ReadGave tells files count (numbers_at site drawn) (numbers_at site later) at (λ state. PlansRead site.turns at mode pick state planned.plan) late old new disks disks_after
+      → name ≡ key_name at → LooksForRead ghosts site drawn name at mode pick (Ok planned) old mid disks disks_after → FilesStay ghosts old mid
+      → late ≡ late_of planned.ready.first → CallsForward ghosts site drawn later planned.ready.first (Ok late) mid new
+      → ReadGave ghosts (numbers_at site drawn) (numbers_at site later) at (λ state. PlansRead site.turns at mode pick state planned.plan) late old new disks disks_after
   read_gave site drawn later name at mode pick planned late old mid new disks disks_after named looks stay told calls =
       let ready = planned.ready in
-      let is = subst (λ (n : List ℕ). IsReady tells files count site drawn n (rule_for n) (longest_for n) ready old mid disks disks_after) named looks.0 in
-      let gives = gives_of tells files count site drawn later (key_name at) (rule_for (key_name at)) (longest_for (key_name at)) ready
+      let is = subst (λ (n : List ℕ). IsReady ghosts site drawn n (rule_for n) (longest_for n) ready old mid disks disks_after) named looks.0 in
+      let gives = gives_of ghosts site drawn later (key_name at) (rule_for (key_name at)) (longest_for (key_name at)) ready
       (content_of ready.looked.base ready.looked.pending) late old mid new disks disks_after is stay refl told calls in
       record {
         content = content_of ready.looked.base ready.looked.pending;

@@ -1,10 +1,10 @@
 -- What a section leaves of lanes that stood for a state, once it completed what its look found pending.
 use Rattle.std.proofs.Common.{◌≡◌, ◌<◌, ◌≤◌, ◌+◌, ◌*◌, ◌^◌, ◌∙◌, ℕ, List, [], Option, None, Some, Result, Ok, Err, length, map, ap, subst, sym, refl, inl, inr, arith}
-use Rattle.std.specs.Prelude.{Bool, string_bytes}
+use Rattle.std.specs.Prelude.{string_bytes}
 use Rattle.std.specs.Result.{IfOk}
 use Rattle.std.proofs.lemmas.Bool.Decides.{nat_tests}
 use Rattle.call_types.specs.Good.{is_good}
-use Rattle.drive_base.specs.Files.{Files}
+use Rattle.drive_base.specs.declared.drive.Drive.{Ghosts}
 use Rattle.drive_base.specs.Plan.{write_drives}
 use Rattle.drive_base.specs.declared.plan.SetPlan.{SetPlan}
 use Rattle.stamp_id.specs.Rank.{change_of, rank_of}
@@ -18,17 +18,16 @@ use Rattle.vote_core.specs.Row.{is_good as is_good_row}
 use Rattle.vote_core.specs.Sound.{HoldsValue}
 use Rattle.register_core.specs.Drafts.{IsDraftAfterLook, IsDraftOf}
 use Rattle.register_core.specs.Found.{content_of}
-use Rattle.register_core.specs.Keeping.{MarkMoves, MayPropose}
-use Rattle.register_core.specs.Loops.{KeepsDrives, TellsStay}
+use Rattle.register_core.specs.LaneMoves.{MarkMoves, MayPropose}
+use Rattle.register_core.specs.LaneWrites.{KeepsDrives}
 use Rattle.register_core.specs.OnLanes.{AllTell, AreLanes, AreUnused}
 use Rattle.register_core.specs.Records.{again_of, base_of, marked_base, next_of}
 use Rattle.register_core.specs.Seen.{FindsValueOr, LookedSeen}
 use Rattle.register_core.specs.declared.drafts.Draft.{Draft}
-use Rattle.register_core.specs.declared.looked.Looked.{Looked}
-use Rattle.register_caller.specs.Calling.{BothLeave, WroteBoth}
-use Rattle.register_caller.specs.Leaving.{written_of}
-use Rattle.register_caller.specs.Settling.{IsPending}
-use Rattle.register_caller.specs.Steps.{FilesStay}
+use Rattle.register_core.specs.declared.looks.Looked.{Looked}
+use Rattle.register_caller.specs.BothWrites.{BothLeave, WroteBoth}
+use Rattle.register_caller.specs.WrittenLanes.{written_of}
+use Rattle.register_caller.specs.Pending.{IsPending}
 use Rattle.register_caller.proofs.CallingLemmas.{own_content}
 use Rattle.register_caller.proofs.SettlingLemmas.{forward_seen}
 use Rattle.slot_history.specs.Standing.{Records}
@@ -51,6 +50,7 @@ use Rattle.slot_core.proofs.AgainLemmas.{Forwarded, WroteAgain, forwarded}
 use Rattle.slot_core.proofs.CalmingLemmas.{all_stays, wrote_stays}
 use Rattle.slot_core.proofs.LaneLemmas.{have_after_look, have_after_write, lanes_stay, with_lanes, with_lanes_writes}
 use Rattle.slot_core.proofs.OwnAgainLemmas.{IsPlain, Write}
+use Rattle.slot_core.specs.LanesStay.{FilesStay, TellsStay}
 
 -- the name of a bucket's or a key's register is held, and that of no part
 pub name_held : (registers : Registers) (name : List ℕ) → IsRegisterName name → IsHeld registers name
@@ -131,15 +131,15 @@ marked_known (Ok done) name draft again content w last c now value shows records
       is_last = ap (λ (r : Register). r.change) is ∙ sym change;
     }
 
-module _ {D : Type 0} (tells : D → Bool) (files : D → Files) (count : D → ℕ) where
+module _ {D : Type 0} (ghosts : Ghosts D) where
   -- lanes that were only looked at
   pub looked_settled : (numbers : SlotNumbers) (holding : Holding) (Known : Records → State → Type 0) (old new : List D) (records : Records) (state : State)
-      → length new ≡ length old → FilesStay tells files count old new → TellsStay tells files count old new → Known records state
-      → SlotStands tells files numbers holding.flights old records state → Settled tells files numbers numbers holding Known new records state
+      → length new ≡ length old → FilesStay ghosts old new → TellsStay ghosts old new → Known records state
+      → SlotStands ghosts.tells ghosts.files numbers holding.flights old records state → Settled ghosts.tells ghosts.files numbers numbers holding Known new records state
   looked_settled numbers holding Known old new records state long stay tells_stay known s = record {
     after = records;
     now = state;
-    stands = record { have = have_after_look tells files count numbers old new records long stay tells_stay s.have; stands = s.stands };
+    stands = record { have = have_after_look ghosts numbers old new records long stay tells_stay s.have; stands = s.stands };
     stay = λ name k is_out. refl;
     lates = [];
     late_steps = refl;
@@ -153,9 +153,9 @@ module _ {D : Type 0} (tells : D → Bool) (files : D → Files) (count : D → 
   -- nothing was pending
   pub settled_none : (site : Site) (drawn : Drawn) (name : List ℕ) (rule : List ℕ → Option ℕ) (longest : ℕ) (ready : Ready) (old mid disks disks_after : List D)
       (holding : Holding) (records : Records) (state : State)
-      → IsReady tells files count site drawn name rule longest ready old mid disks disks_after → length mid ≡ length old → FilesStay tells files count old mid
-      → TellsStay tells files count old mid → IsRegisterName name → SlotStands tells files (numbers_at site drawn) holding.flights old records state → ready.first ≡ None
-      → Settled tells files (numbers_at site drawn) (numbers_at site drawn) holding
+      → IsReady ghosts site drawn name rule longest ready old mid disks disks_after → length mid ≡ length old → FilesStay ghosts old mid
+      → TellsStay ghosts old mid → IsRegisterName name → SlotStands ghosts.tells ghosts.files (numbers_at site drawn) holding.flights old records state → ready.first ≡ None
+      → Settled ghosts.tells ghosts.files (numbers_at site drawn) (numbers_at site drawn) holding
       (SettledOn name (base_after ready.looked.base ready.first) (content_of ready.looked.base ready.looked.pending) None) mid records state
   settled_none site drawn name rule longest ready old mid disks disks_after holding records state is long stay tells_stay named s none =
       let looked : Looked = ready.looked in
@@ -180,15 +180,15 @@ module _ {D : Type 0} (tells : D → Bool) (files : D → Files) (count : D → 
   -- what was pending was written again
   pub settled_wrote : {T E : Type 0} → DrawingKeeps → FreshIsCalm → AboveLastIsFresh → (site : Site) (drawn later : Drawn) (name : List ℕ) (rule : List ℕ → Option ℕ)
       (longest : ℕ) (ready : Ready) (draft : Draft) (result : Result T E) (old mid new disks disks_after : List D) (holding : Holding) (records : Records) (state : State)
-      → IsReady tells files count site drawn name rule longest ready old mid disks disks_after → length mid ≡ length old → length new ≡ length mid
-      → FilesStay tells files count old mid → TellsStay tells files count old mid → IsRegisterName name
-      → SlotStands tells files (numbers_at site drawn) holding.flights old records state → ready.first ≡ Some draft → later.seq ≡ drawn.seq + 1
-      → ((base : Base) (next : Next) (recorded : List Lane) → IsDraftOf draft base next → AllTell tells site.set.out mid
-      → AreUnused files site.set.out site.term drawn.count mid → AreLanes files site.set.out (string_bytes draft.name) mid recorded
-      → WroteBoth tells files {T = T} {E = E} draft site.set.out site.term later.count base next result new recorded)
-      → (AllTell tells site.set.out mid → AreUnused files site.set.out site.term drawn.count mid
-      → KeepsDrives tells files count site.set.out (string_bytes draft.name) site.term drawn.count later.count mid new)
-      → Settled tells files (numbers_at site drawn) (numbers_at site later) holding
+      → IsReady ghosts site drawn name rule longest ready old mid disks disks_after → length mid ≡ length old → length new ≡ length mid
+      → FilesStay ghosts old mid → TellsStay ghosts old mid → IsRegisterName name
+      → SlotStands ghosts.tells ghosts.files (numbers_at site drawn) holding.flights old records state → ready.first ≡ Some draft → later.seq ≡ drawn.seq + 1
+      → ((base : Base) (next : Next) (recorded : List Lane) → IsDraftOf draft base next → AllTell ghosts.tells site.set.out mid
+      → AreUnused ghosts.files site.set.out site.term drawn.count mid → AreLanes ghosts.files site.set.out (string_bytes draft.name) mid recorded
+      → WroteBoth ghosts {T = T} {E = E} draft site.set.out site.term later.count base next result new recorded)
+      → (AllTell ghosts.tells site.set.out mid → AreUnused ghosts.files site.set.out site.term drawn.count mid
+      → KeepsDrives ghosts site.set.out (string_bytes draft.name) site.term drawn.count later.count mid new)
+      → Settled ghosts.tells ghosts.files (numbers_at site drawn) (numbers_at site later) holding
       (λ after now. IfOk result (λ done. SettledOn name (base_after ready.looked.base ready.first) (content_of ready.looked.base ready.looked.pending)
       (Some draft.value.change) after now)) new records state
   settled_wrote {T} {E} drawing fresh above site drawn later name rule longest ready draft result old mid new disks disks_after holding records state
@@ -207,7 +207,7 @@ module _ {D : Type 0} (tells : D → Bool) (files : D → Files) (count : D → 
       let lanes : List Lane = records name in
       let held : IsHeld state.registers name = name_held state.registers name named in
       let holds : HoldsValue w last lanes r.change r.content = (s.stands.under name held).holds in
-      let have : LanesHave tells files numbers mid records = have_after_look tells files count numbers old mid records long stay tells_stay s.have in
+      let have : LanesHave ghosts.tells ghosts.files numbers mid records = have_after_look ghosts numbers old mid records long stay tells_stay s.have in
       let plan : looked.set ≡ set = is.looks.plan in
       let name_is : string_bytes draft.name ≡ name = drafted.name ∙ is.looks.named in
       let low : last < rank_of is.ballot = (let t = is.term in let q = is.seq in
@@ -220,9 +220,9 @@ module _ {D : Type 0} (tells : D → Bool) (files : D → Files) (count : D → 
       let holds_looked : HoldsValue (write_drives looked.set.drives looked.set.parity) last lanes r.change r.content =
       subst (λ (p : SetPlan). HoldsValue (write_drives p.drives p.parity) last lanes r.change r.content) (sym plan) holds in
       let wrote = wrote_of looked.base again lanes drafted.«of» have.tell have.unused
-      (subst (λ (n : List ℕ). AreLanes files out n mid lanes) (sym name_is) (have.are name)) in
+      (subst (λ (n : List ℕ). AreLanes ghosts.files out n mid lanes) (sym name_is) (have.are name)) in
       let on : map is_good looked.whys ≡ map is_good_row looked.rows.items = is.looks.read.on ∙ ap (map is_good_row) (sym is.looks.rows) in
-      let known = forward_seen tells files {T = T} {E = E} above out site.term later.count looked pending is.ballot draft result new is.looks.found lanes last
+      let known = forward_seen ghosts {T = T} {E = E} above out site.term later.count looked pending is.ballot draft result new is.looks.found lanes last
       r.change r.content found.1 drafted on seen holds_looked low wrote in
       let both : BothLeave {T = T} {E = E} w draft.letters (base_of looked.base) (next_of again) result lanes wrote.after =
       subst (λ (p : SetPlan). BothLeave {T = T} {E = E} (write_drives p.drives p.parity) draft.letters (base_of looked.base) (next_of again) result lanes wrote.after) plan known.0 in
@@ -265,9 +265,9 @@ module _ {D : Type 0} (tells : D → Bool) (files : D → Files) (count : D → 
         after = with_lanes name wrote.after records;
         now = f.moved;
         stands = record {
-          have = have_after_write tells files count numbers later.seq later.count name mid new records wrote.after longer have wrote.tell wrote.unused
-              (subst (λ (n : List ℕ). AreLanes files out n new wrote.after) name_is wrote.are)
-              (subst (λ (n : List ℕ). KeepsDrives tells files count out n site.term drawn.count later.count mid new) name_is (keeps_of have.tell have.unused));
+          have = have_after_write ghosts numbers later.seq later.count name mid new records wrote.after longer have wrote.tell wrote.unused
+              (subst (λ (n : List ℕ). AreLanes ghosts.files out n new wrote.after) name_is wrote.are)
+              (subst (λ (n : List ℕ). KeepsDrives ghosts out n site.term drawn.count later.count mid new) name_is (keeps_of have.tell have.unused));
           stands = subst (λ (n : ℕ). LanesStand set n holding (with_lanes name wrote.after records) f.moved) rank f.stands;
         };
         stay = lanes_stay out name wrote.after records wrote.stay;

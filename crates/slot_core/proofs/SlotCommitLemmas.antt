@@ -1,9 +1,9 @@
 -- A commit of a slot, by that of its lanes.
 use Rattle.std.proofs.Common.{◌≡◌, ◌≢◌, ◌⊎◌, ◌<◌, ◌∙◌, ℕ, suc, List, [], ◌∷◌, ◌++◌, map, Option, None, Some, Result, Ok, Err, length, ap, subst, sym, refl, inl, inr, arith}
-use Rattle.std.specs.Prelude.{Bool, MatchOption, slice_index_or}
+use Rattle.std.specs.Prelude.{MatchOption, slice_index_or}
 use Rattle.std.specs.List.{AllByRecursion}
 use Rattle.std.proofs.lemmas.List.{append-nil}
-use Rattle.drive_base.specs.Files.{Files}
+use Rattle.drive_base.specs.declared.drive.Drive.{Ghosts}
 use Rattle.stamp_id.specs.declared.version.VersionId.{VersionId}
 use Rattle.audit_trail.specs.declared.entry.Deed.{Deed}
 use Rattle.call_types.specs.Refusals.{refusal_of}
@@ -191,10 +191,10 @@ checks_spent flight held answer spent = record {
 
 -- ---- causes don't go by how many sections were done
 
-module _ {D : Type 0} (tells : D → Bool) (files : D → Files) (count : D → ℕ) where
+module _ {D : Type 0} (ghosts : Ghosts D) where
   found_turned : (numbers later : SlotNumbers) (turns : ℕ) (deed : Commit) (put : Option VersionId) (now : ℕ) (reply : Reply) (entered : Deed) (old new disks disks_after : List D)
-      → FoundSo tells files count numbers later deed put now reply entered old new disks disks_after
-      → FoundSo tells files count numbers (with_turns later turns) deed put now reply entered old new disks disks_after
+      → FoundSo ghosts numbers later deed put now reply entered old new disks disks_after
+      → FoundSo ghosts numbers (with_turns later turns) deed put now reply entered old new disks disks_after
   found_turned numbers later turns deed put now reply entered old new disks disks_after f = record {
     rule = f.rule;
     longest = f.longest;
@@ -208,8 +208,8 @@ module _ {D : Type 0} (tells : D → Bool) (files : D → Files) (count : D → 
 
   written_turned : (numbers later : SlotNumbers) (turns : ℕ) (name : List ℕ) (rule : List ℕ → Option ℕ) (longest : ℕ) (content : List ℕ) (own : Next)
       (result : Result (List Why) QuorumFault) (old new disks disks_after : List D)
-      → OwnIsWritten tells files count numbers later name rule longest content own result old new disks disks_after
-      → OwnIsWritten tells files count numbers (with_turns later turns) name rule longest content own result old new disks disks_after
+      → OwnIsWritten ghosts numbers later name rule longest content own result old new disks disks_after
+      → OwnIsWritten ghosts numbers (with_turns later turns) name rule longest content own result old new disks disks_after
   written_turned numbers later turns name rule longest content own result old new disks disks_after (inl w) = inl (record {
     looked = w.looked;
     mid = w.mid;
@@ -244,8 +244,8 @@ module _ {D : Type 0} (tells : D → Bool) (files : D → Files) (count : D → 
   })
 
   wrote_turned : (numbers later : SlotNumbers) (turns : ℕ) (deed : Commit) (put : Option VersionId) (now : ℕ) (reply : Reply) (result : Result (List Why) QuorumFault)
-      (entered : Deed) (old new disks disks_after : List D) → WroteSo tells files count numbers later deed put now reply result entered old new disks disks_after
-      → WroteSo tells files count numbers (with_turns later turns) deed put now reply result entered old new disks disks_after
+      (entered : Deed) (old new disks disks_after : List D) → WroteSo ghosts numbers later deed put now reply result entered old new disks disks_after
+      → WroteSo ghosts numbers (with_turns later turns) deed put now reply result entered old new disks disks_after
   wrote_turned numbers later turns deed put now reply result entered old new disks disks_after w = record {
     rule = w.rule;
     longest = w.longest;
@@ -269,8 +269,8 @@ module _ {D : Type 0} (tells : D → Bool) (files : D → Files) (count : D → 
   }
 
   turned_commit : (numbers later : SlotNumbers) (turns : ℕ) (deed : Commit) (put : Option VersionId) (now : ℕ) (answer : Result Committed SlotFault) (entered : Deed)
-      (old new disks disks_after : List D) → CommitCause tells files count numbers later deed put now answer entered old new disks disks_after
-      → CommitCause tells files count numbers (with_turns later turns) deed put now answer entered old new disks disks_after
+      (old new disks disks_after : List D) → CommitCause ghosts numbers later deed put now answer entered old new disks disks_after
+      → CommitCause ghosts numbers (with_turns later turns) deed put now answer entered old new disks disks_after
   turned_commit numbers later turns deed put now (Ok made) entered old new disks disks_after (inl f) = inl (found_turned numbers later turns deed put now made.done entered old new disks disks_after f)
   turned_commit numbers later turns deed put now (Ok made) entered old new disks disks_after (inr w) =
       inr (w.0, wrote_turned numbers later turns deed put now made.done (Ok w.0) entered old new disks disks_after w.1)
@@ -290,10 +290,10 @@ module _ {D : Type 0} (tells : D → Bool) (files : D → Files) (count : D → 
 
   pub commit_turned : (numbers later : SlotNumbers) (turns : ℕ) (deed : Commit) (put put_is : Option VersionId) (now : ℕ) (answer : Result Committed SlotFault) (entered : Deed)
       (old old_is new new_is disks disks_after : List D) → put_is ≡ put → old_is ≡ old → new_is ≡ new
-      → CommitCause tells files count numbers later deed put_is now answer entered old_is new_is disks disks_after
-      → CommitCause tells files count numbers (with_turns later turns) deed put now answer entered old new disks disks_after
+      → CommitCause ghosts numbers later deed put_is now answer entered old_is new_is disks disks_after
+      → CommitCause ghosts numbers (with_turns later turns) deed put now answer entered old new disks disks_after
   commit_turned numbers later turns deed put put_is now answer entered old old_is new new_is disks disks_after same_put same_old same_new cause =
       turned_commit numbers later turns deed put now answer entered old new disks disks_after
-      (subst (λ (p : Option VersionId). CommitCause tells files count numbers later deed p now answer entered old new disks disks_after) same_put
-      (subst (λ (l : List D). CommitCause tells files count numbers later deed put_is now answer entered old l disks disks_after) same_new
-      (subst (λ (l : List D). CommitCause tells files count numbers later deed put_is now answer entered l new_is disks disks_after) same_old cause)))
+      (subst (λ (p : Option VersionId). CommitCause ghosts numbers later deed p now answer entered old new disks disks_after) same_put
+      (subst (λ (l : List D). CommitCause ghosts numbers later deed put_is now answer entered old l disks disks_after) same_new
+      (subst (λ (l : List D). CommitCause ghosts numbers later deed put_is now answer entered l new_is disks disks_after) same_old cause)))

@@ -1,6 +1,7 @@
 -- What a section leaves of the state, by its entry.
 use Rattle.std.proofs.Common.{◌≡◌, ◌≢◌, ◌≤◌, ◌∙◌, ℕ, List, Option, None, Some, Result, Ok, Err, length, ap, subst, sym, refl, inl}
 use Rattle.std.specs.Prelude.{Bool, MatchOption}
+use Rattle.drive_base.specs.declared.drive.Drive.{Ghosts}
 use Rattle.drive_base.specs.Files.{Files}
 use Rattle.stamp_id.specs.declared.stamp.ChangeId.{ChangeId}
 use Rattle.call_types.specs.declared.refusal.KeyRefusal.{KeyRefusal}
@@ -10,8 +11,6 @@ use Rattle.register_file.specs.declared.record.Base.{Base}
 use Rattle.register_core.specs.declared.drafts.Draft.{Draft}
 use Rattle.register_core.specs.declared.faults.QuorumFault.{QuorumFault}
 use Rattle.register_core.specs.declared.faults.QuorumFault.TheVariants.{ReadQuorum, WriteQuorum, Undecided, NoMemory}
-use Rattle.register_core.specs.Loops.{TellsStay}
-use Rattle.register_caller.specs.Steps.{FilesStay}
 use Rattle.slot_history.specs.Moving.{IsLast}
 use Rattle.slot_history.specs.Sections.{SectionMoves}
 use Rattle.slot_history.specs.Standing.{Records}
@@ -40,6 +39,7 @@ use Rattle.slot_core.specs.declared.stub.Stub.{Stub}
 use Rattle.slot_core.proofs.CalmingLemmas.{look_calms, none_calms}
 use Rattle.slot_core.proofs.CauseLemmas.{writes_have_memory}
 use Rattle.slot_core.proofs.LaneLemmas.{have_after_look}
+use Rattle.slot_core.specs.LanesStay.{FilesStay, TellsStay}
 
 -- what is known of a register that was settled, as of its content
 pub known_content : (name : List ℕ) (base : Base) (content copy : List ℕ) (late : Option ChangeId) (records : Records) (state : State) → copy ≡ content
@@ -133,35 +133,35 @@ module _ {D : Type 0} (tells : D → Bool) (files : D → Files) where
   refusal_leaves {T} numbers later holding Known NoMemory peeked lanes records state is s none =
       subst (λ (p : Peeked T). GivesOver tells files numbers later holding Known p lanes records state) (sym is) (none refl)
 
-module _ {D : Type 0} (tells : D → Bool) (files : D → Files) (count : D → ℕ) where
+module _ {D : Type 0} (ghosts : Ghosts D) where
   -- the calls of a refusal
   pub refusal_calls : {T : Type 0} (numbers later : SlotNumbers) (name : List ℕ) (Gave : T → Option ChangeId → Type 0) (fault : QuorumFault) (peeked : Peeked T)
       (old new disks disks_after : List D) → IsRefusal fault peeked
-      → (fault ≢ NoMemory → LookCause tells files count numbers later name (rule_for name) (longest_for name) fault old new disks disks_after)
-      → (fault ≡ NoMemory → FilesStay tells files count old new) → GivesBy tells files count numbers later name Gave peeked old new disks disks_after
+      → (fault ≢ NoMemory → LookCause ghosts numbers later name (rule_for name) (longest_for name) fault old new disks disks_after)
+      → (fault ≡ NoMemory → FilesStay ghosts old new) → GivesBy ghosts numbers later name Gave peeked old new disks disks_after
   refusal_calls {T} numbers later name Gave (ReadQuorum whys) peeked old new disks disks_after is cause none =
-      subst (λ (p : Peeked T). GivesBy tells files count numbers later name Gave p old new disks disks_after) (sym is) (λ same. absurd cc, cause (λ same. absurd cc))
+      subst (λ (p : Peeked T). GivesBy ghosts numbers later name Gave p old new disks disks_after) (sym is) (λ same. absurd cc, cause (λ same. absurd cc))
   refusal_calls {T} numbers later name Gave (WriteQuorum whys) peeked old new disks disks_after is cause none =
-      subst (λ (p : Peeked T). GivesBy tells files count numbers later name Gave p old new disks disks_after) (sym is) (λ same. absurd cc, cause (λ same. absurd cc))
+      subst (λ (p : Peeked T). GivesBy ghosts numbers later name Gave p old new disks disks_after) (sym is) (λ same. absurd cc, cause (λ same. absurd cc))
   refusal_calls {T} numbers later name Gave (Undecided k u whys) peeked old new disks disks_after is cause none =
-      subst (λ (p : Peeked T). GivesBy tells files count numbers later name Gave p old new disks disks_after) (sym is) (λ same. absurd cc, cause (λ same. absurd cc))
+      subst (λ (p : Peeked T). GivesBy ghosts numbers later name Gave p old new disks disks_after) (sym is) (λ same. absurd cc, cause (λ same. absurd cc))
   refusal_calls {T} numbers later name Gave NoMemory peeked old new disks disks_after is cause none =
-      subst (λ (p : Peeked T). GivesBy tells files count numbers later name Gave p old new disks disks_after) (sym is) (none refl)
+      subst (λ (p : Peeked T). GivesBy ghosts numbers later name Gave p old new disks disks_after) (sym is) (none refl)
 
   -- completing what is pending isn't refused for want of memory
   pub forward_has_memory : (site : Site) (drawn later : Drawn) (first : Option Draft) (fault : QuorumFault) (old new : List D)
-      → CallsForward tells files count site drawn later first (Err fault) old new → fault ≡ NoMemory → ⊥
+      → CallsForward ghosts site drawn later first (Err fault) old new → fault ≡ NoMemory → ⊥
   forward_has_memory site drawn later first fault old new calls same =
-      let writes : WritesFirst tells files count site drawn later first (Err NoMemory) old new =
-      subst (λ (f : QuorumFault). WritesFirst tells files count site drawn later first (Err f) old new) same calls in
-      writes_have_memory tells files count writes.draft site.set.out site.term drawn.count later.count old new writes.writes
+      let writes : WritesFirst ghosts site drawn later first (Err NoMemory) old new =
+      subst (λ (f : QuorumFault). WritesFirst ghosts site drawn later first (Err f) old new) same calls in
+      writes_have_memory ghosts writes.draft site.set.out site.term drawn.count later.count old new writes.writes
 
   -- lanes that were only looked at stand for the same
   pub stands_looked : (numbers : SlotNumbers) (holding : Holding) (old new : List D) (records : Records) (state : State) → length new ≡ length old
-      → FilesStay tells files count old new → TellsStay tells files count old new → SlotStands tells files numbers holding.flights old records state
-      → SlotStands tells files numbers holding.flights new records state
+      → FilesStay ghosts old new → TellsStay ghosts old new → SlotStands ghosts.tells ghosts.files numbers holding.flights old records state
+      → SlotStands ghosts.tells ghosts.files numbers holding.flights new records state
   stands_looked numbers holding old new records state long stay tells_stay s =
-      record { have = have_after_look tells files count numbers old new records long stay tells_stay s.have; stands = s.stands }
+      record { have = have_after_look ghosts numbers old new records long stay tells_stay s.have; stands = s.stands }
 
 -- a refusal shows nothing
 pub shows_refused : (name : List ℕ) (answer : Result (List ℕ) SlotFault) (fault : SlotFault) (before after : State) → answer ≡ Err fault → ShowsContent name answer before after

@@ -10,7 +10,7 @@ use Rattle.register_file.specs.declared.record.Base.{Base}
 use Rattle.register_file.specs.declared.record.Next.{Next}
 use Rattle.vote_core.specs.Lane.{Lane, lane_at}
 use Rattle.register_core.specs.Records.{base_of, next_of}
-use Rattle.register_caller.specs.Leaving.{written_of}
+use Rattle.register_caller.specs.WrittenLanes.{written_of}
 use Rattle.slot_history.specs.Contents.{number_of_id}
 use Rattle.slot_history.proofs.TakenLemmas.{taken_there}
 use Rattle.slot_history.specs.Laws.{with_waiting}

@@ -1,5 +1,5 @@
 -- From which calls the answer of a commit comes, whatever the drives tell.
-use Rattle.std.specs.Prelude.{◌≡◌, ◌≢◌, ◌⊎◌, ◌<◌, ◌+◌, ℕ, Bool, List, Option, Some, None, Result, Ok, Err, length}
+use Rattle.std.specs.Prelude.{◌≡◌, ◌≢◌, ◌⊎◌, ◌<◌, ◌+◌, ℕ, List, Option, Some, None, Result, Ok, Err, length}
 use Rattle.audit_trail.specs.declared.entry.Deed.{Deed}
 use Rattle.audit_trail.specs.declared.entry.Deed.TheVariants.{Done, Kept as KeptDeed, Refused as RefusedDeed}
 use Rattle.audit_trail.specs.declared.entry.Entry.{Entry}
@@ -9,20 +9,19 @@ use Rattle.call_types.specs.declared.reply.Reply.{Reply}
 use Rattle.call_types.specs.declared.reply.Reply.TheVariants.{Refused}
 use Rattle.call_types.specs.declared.why.Why.{Why}
 use Rattle.bucket_book.specs.Content.{content_fault}
-use Rattle.drive_base.specs.Files.{Files}
+use Rattle.drive_base.specs.declared.drive.Drive.{Ghosts}
 use Rattle.register_file.specs.declared.record.Next.{Next}
 use Rattle.stamp_id.specs.declared.stamp.Ballot.{Ballot}
 use Rattle.stamp_id.specs.declared.stamp.ChangeId.{ChangeId}
 use Rattle.stamp_id.specs.declared.version.VersionId.{VersionId}
 use Rattle.register_core.specs.Drafts.{IsDraftAfterDraft, IsDraftAfterLook}
 use Rattle.register_core.specs.Found.{content_of}
-use Rattle.register_core.specs.Loops.{TellsStay}
 use Rattle.register_core.specs.Records.{again_of}
 use Rattle.register_core.specs.declared.drafts.Draft.{Draft}
 use Rattle.register_core.specs.declared.faults.QuorumFault.{QuorumFault}
 use Rattle.register_core.specs.declared.faults.QuorumFault.TheVariants.{NoMemory as NoMemoryQuorum}
-use Rattle.register_core.specs.declared.looked.Looked.{Looked}
-use Rattle.register_caller.specs.Steps.{FilesStay, WritesBoth}
+use Rattle.register_core.specs.declared.looks.Looked.{Looked}
+use Rattle.register_caller.specs.Steps.{WritesBoth}
 use Rattle.slot_rules.specs.Deeds.{call_of, name_of}
 use Rattle.slot_rules.specs.Owning.{IsOwnId, SlotLife, own_seq}
 use Rattle.slot_rules.specs.Planning.{DoesOver, adds_of}
@@ -35,6 +34,7 @@ use Rattle.slot_core.specs.Causes.{Concluded, LookCause, LookGave}
 use Rattle.slot_core.specs.Views.{SlotNumbers}
 use Rattle.slot_core.specs.declared.slot.SlotFault.{SlotFault}
 use Rattle.slot_core.specs.declared.slot.SlotFault.TheVariants.{Quorum, Key as KeyFault, SeqSpent, AuditFailed, NoMemory, NotInFlight}
+use Rattle.slot_core.specs.LanesStay.{FilesStay, TellsStay}
 
 -- the life in which a slot has these numbers
 abbrev pub life_of : SlotNumbers → SlotLife
@@ -76,29 +76,29 @@ abbrev pub own_deed : Commit → ℕ → ChangeId → Reply → Result (List Why
 own_deed deed now change reply (Ok letters) = Done (call_of deed (Some change) now) (Answer reply)
 own_deed deed now change reply (Err fault) = RefusedDeed change (call_of deed (Some change) now)
 
-module _ {D : Type 0} (tells : D → Bool) (files : D → Files) (count : D → ℕ) where
+module _ {D : Type 0} (ghosts : Ghosts D) where
   -- a change of its own was drafted over what the look settled, and written with this answer
   pub record OwnAtOnce (numbers later : SlotNumbers) (name : List ℕ) (rule : List ℕ → Option ℕ) (longest : ℕ) (content : List ℕ) (own : Next)
       (result : Result (List Why) QuorumFault) (old new disks disks_after : List D) : Type 0 where
     pub looked : Looked
     pub mid : List D
-    pub concluded : Concluded tells files count numbers name rule longest looked old mid disks disks_after
+    pub concluded : Concluded ghosts numbers name rule longest looked old mid disks disks_after
     pub long : length mid ≡ length old
-    pub tell : TellsStay tells files count old mid
+    pub tell : TellsStay ghosts old mid
     pub settled : looked.pending ≡ None
     pub content_is : content ≡ content_of looked.base looked.pending
     pub draft : Draft
     pub drafted : IsDraftAfterLook looked own draft
-    pub writes : WritesBoth tells files count draft numbers.set.out numbers.term numbers.count later.count result mid new
+    pub writes : WritesBoth ghosts draft numbers.set.out numbers.term numbers.count later.count result mid new
 
   -- or over what was pending, which was completed first
   pub record OwnAfterAgain (numbers later : SlotNumbers) (name : List ℕ) (rule : List ℕ → Option ℕ) (longest : ℕ) (content : List ℕ) (own : Next)
       (result : Result (List Why) QuorumFault) (old new disks disks_after : List D) : Type 0 where
     pub looked : Looked
     pub mid : List D
-    pub concluded : Concluded tells files count numbers name rule longest looked old mid disks disks_after
+    pub concluded : Concluded ghosts numbers name rule longest looked old mid disks disks_after
     pub long : length mid ≡ length old
-    pub tell : TellsStay tells files count old mid
+    pub tell : TellsStay ghosts old mid
     pub found : Next
     pub pending : looked.pending ≡ Some found
     pub content_is : content ≡ content_of looked.base looked.pending
@@ -108,10 +108,10 @@ module _ {D : Type 0} (tells : D → Bool) (files : D → Files) (count : D → 
     pub letters : List Why
     pub middle : ℕ
     pub between : List D
-    pub forward : WritesBoth tells files count first numbers.set.out numbers.term numbers.count middle (Ok letters) mid between
+    pub forward : WritesBoth ghosts first numbers.set.out numbers.term numbers.count middle (Ok letters) mid between
     pub draft : Draft
     pub drafted : IsDraftAfterDraft first own draft
-    pub writes : WritesBoth tells files count draft numbers.set.out numbers.term middle later.count result between new
+    pub writes : WritesBoth ghosts draft numbers.set.out numbers.term middle later.count result between new
 
   abbrev pub OwnIsWritten : SlotNumbers → SlotNumbers → List ℕ → (List ℕ → Option ℕ) → ℕ → List ℕ → Next → Result (List Why) QuorumFault
       → List D → List D → List D → List D → Type 0
@@ -125,7 +125,7 @@ module _ {D : Type 0} (tells : D → Bool) (files : D → Files) (count : D → 
     pub longest : ℕ
     pub rule_is : IsRuleOf numbers deed put rule longest
     pub content : List ℕ
-    pub gave : LookGave tells files count numbers later.count (name_of deed) rule longest content old new disks disks_after
+    pub gave : LookGave ghosts numbers later.count (name_of deed) rule longest content old new disks disks_after
     pub id : VersionId
     pub does : DoesOver (name_of deed) content (call_of deed None now) id reply content
     pub deed_is : entered ≡ Done (call_of deed None now) (Answer reply)
@@ -147,7 +147,7 @@ module _ {D : Type 0} (tells : D → Bool) (files : D → Files) (count : D → 
     pub rule : List ℕ → Option ℕ
     pub longest : ℕ
     pub rule_is : IsRuleOf numbers deed put rule longest
-    pub cause : LookCause tells files count numbers later (name_of deed) rule longest fault old new disks disks_after
+    pub cause : LookCause ghosts numbers later (name_of deed) rule longest fault old new disks disks_after
     pub deed_is : entered ≡ KeptDeed
 
   -- what a commit that is told says, by its answer and by what its entry says that was done. Want of memory is told as that alone
@@ -162,5 +162,5 @@ module _ {D : Type 0} (tells : D → Bool) (files : D → Files) (count : D → 
       FoundSo numbers later deed put now (Refused (refusal_of why)) entered old new disks disks_after
   CommitCause numbers later deed put now (Err SeqSpent) entered old new disks disks_after = new ≡ old
   CommitCause numbers later deed put now (Err (AuditFailed _ _)) entered old new disks disks_after = new ≡ old
-  CommitCause numbers later deed put now (Err NoMemory) entered old new disks disks_after = FilesStay tells files count old new
+  CommitCause numbers later deed put now (Err NoMemory) entered old new disks disks_after = FilesStay ghosts old new
   CommitCause numbers later deed put now (Err (NotInFlight _)) entered old new disks disks_after = new ≡ old

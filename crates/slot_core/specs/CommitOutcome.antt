@@ -5,6 +5,7 @@ use Rattle.call_types.specs.Refusals.{refusal_of}
 use Rattle.call_types.specs.declared.refusal.KeyRefusal.{KeyRefusal}
 use Rattle.call_types.specs.declared.reply.Reply.TheVariants.{Refused}
 use Rattle.call_types.specs.declared.why.Why.{Why}
+use Rattle.drive_base.specs.declared.drive.Drive.{Ghosts}
 use Rattle.drive_base.specs.Files.{Files}
 use Rattle.stamp_id.specs.declared.stamp.ChangeId.{ChangeId}
 use Rattle.stamp_id.specs.declared.version.VersionId.{VersionId}
@@ -137,31 +138,31 @@ module _ {D : Type 0} (tells : D → Bool) (files : D → Files) where
         → DataStands numbers.set numbers.index (last_of numbers) records state held disks hands
         → DataStands numbers.set numbers.index (last_of later) after now kept disks less
 
-module _ {D : Type 0} (tells : D → Bool) (files : D → Files) (count : D → ℕ) where
+module _ {D : Type 0} (ghosts : Ghosts D) where
   -- the calls of a section's own writes, after the completion of what was pending
   pub record CallsOwn (site : Site) (drawn later : Drawn) (first : Option Draft) (late : Option ChangeId) (own : Own)
       (result : Result (List Why) QuorumFault) (old new : List D) : Type 0 where
     pub seq : later.seq ≡ own.seq
     pub between : List D
     pub middle : Drawn
-    pub forward : CallsForward tells files count site drawn middle first (Ok late) old between
-    pub writes : WritesBoth tells files count own.draft site.set.out site.term middle.count later.count result between new
+    pub forward : CallsForward ghosts site drawn middle first (Ok late) old between
+    pub writes : WritesBoth ghosts own.draft site.set.out site.term middle.count later.count result between new
 
   -- the calls of the own writes alone, by what came of them
   abbrev pub CallsOwnWrites : Site → Drawn → Drawn → Own → Option ChangeId → Tale → Outcome → List D → List D → Type 0
   CallsOwnWrites site drawn later own late tale (Done told first) old new = (told ≡ tale) × (first ≡ late)
-      × ((letters : List Why) × WritesBoth tells files count own.draft site.set.out site.term drawn.count later.count (Ok letters) old new)
+      × ((letters : List Why) × WritesBoth ghosts own.draft site.set.out site.term drawn.count later.count (Ok letters) old new)
   CallsOwnWrites site drawn later own late tale (Begun told change first fault) old new = (told ≡ tale) × (first ≡ late) × (change ≡ own.change)
-      × WritesBoth tells files count own.draft site.set.out site.term drawn.count later.count (Err fault) old new
+      × WritesBoth ghosts own.draft site.set.out site.term drawn.count later.count (Err fault) old new
   CallsOwnWrites site drawn later own late tale (Kept fault) old new = ⊥
   CallsOwnWrites site drawn later own late tale LacksMemory old new = ⊥
 
   -- the calls of a section after its plan, by its outcome
   abbrev pub CallsCarry : Site → Drawn → Drawn → Option Draft → Plan → Outcome → List D → List D → Type 0
   CallsCarry site drawn later first plan (Done tale late) old new = (tale ≡ plan.tale)
-      × (((plan.own ≡ None) × CallsForward tells files count site drawn later first (Ok late) old new)
+      × (((plan.own ≡ None) × CallsForward ghosts site drawn later first (Ok late) old new)
       ⊎ ((own : Own) × (plan.own ≡ Some own) × (letters : List Why) × CallsOwn site drawn later first late own (Ok letters) old new))
   CallsCarry site drawn later first plan (Begun tale change late fault) old new = (tale ≡ plan.tale)
       × ((own : Own) × (plan.own ≡ Some own) × (own.change ≡ change) × CallsOwn site drawn later first late own (Err fault) old new)
-  CallsCarry site drawn later first plan (Kept fault) old new = CallsForward tells files count site drawn later first (Err fault) old new
+  CallsCarry site drawn later first plan (Kept fault) old new = CallsForward ghosts site drawn later first (Err fault) old new
   CallsCarry site drawn later first plan LacksMemory old new = ⊥

@@ -1,13 +1,12 @@
 -- What a commit leaves of a register, apart from the slot that has it.
 use Rattle.std.specs.Prelude.{◌≡◌, ◌⊎◌, ◌≤◌, ℕ, ◌+◌, Bool, List, length, Option, string_bytes}
+use Rattle.drive_base.specs.declared.drive.Drive.{Ghosts}
 use Rattle.drive_base.specs.Files.{Files}
 use Rattle.stamp_id.specs.declared.version.VersionId.{VersionId}
 use Rattle.drive_base.specs.declared.plan.SetPlan.{SetPlan}
 use Rattle.register_core.specs.Found.{content_of}
-use Rattle.register_core.specs.Loops.{TellsStay}
 use Rattle.register_core.specs.declared.faults.QuorumFault.{QuorumFault}
 use Rattle.register_core.specs.declared.faults.QuorumFault.TheVariants.{ReadQuorum, WriteQuorum, Undecided, NoMemory}
-use Rattle.register_caller.specs.Steps.{FilesStay}
 use Rattle.slot_history.specs.Standing.{Flying, Records}
 use Rattle.slot_history.specs.State.{State}
 use Rattle.slot_data.specs.Holding.{Holding}
@@ -30,6 +29,7 @@ use Rattle.slot_core.specs.declared.commit_plan.Work.{Work}
 use Rattle.slot_core.specs.declared.commit_write.Outcome.{Outcome}
 use Rattle.slot_core.specs.declared.commit_write.Outcome.TheVariants.{Kept, LacksMemory}
 use Rattle.drive_base.specs.declared.drive.TheConstants.{LONGEST_NAME}
+use Rattle.slot_core.specs.LanesStay.{FilesStay, TellsStay}
 
 -- a refusal of the look, where want of memory is told as that alone
 abbrev pub IsKeptBy : QuorumFault → Outcome → Type 0
@@ -64,19 +64,19 @@ module _ {D : Type 0} (tells : D → Bool) (files : D → Files) where
       (entry_told site.turns (name_of deed) outcome) (λ before after. ShowsTrash deed (answer_told outcome) trash_old trash_new before after)
       (λ disks hands less. MayCommitData deed (kept_with holding rest trash_new) disks hands less) records state
 
-module _ {D : Type 0} (tells : D → Bool) (files : D → Files) (count : D → ℕ) where
+module _ {D : Type 0} (ghosts : Ghosts D) where
   -- the same after a look, over every state for which the lanes stood when they were looked at
   abbrev pub FinishLeaves : Site → Drawn → Drawn → Ready → Commit → Option VersionId → Outcome → List VersionId → List VersionId → List D → List D → Type 0
   FinishLeaves site drawn later ready deed put outcome trash_old trash_new mid new =
       (rule : List ℕ → Option ℕ) (longest : ℕ) (old disks disks_after : List D)
-      → IsReady tells files count site drawn (name_of deed) rule longest ready old mid disks disks_after → length mid ≡ length old → FilesStay tells files count old mid
-      → TellsStay tells files count old mid → CommitLeaves tells files site drawn later deed put outcome trash_old trash_new old new
+      → IsReady ghosts site drawn (name_of deed) rule longest ready old mid disks disks_after → length mid ≡ length old → FilesStay ghosts old mid
+      → TellsStay ghosts old mid → CommitLeaves ghosts.tells ghosts.files site drawn later deed put outcome trash_old trash_new old new
 
   -- the calls of a section after its look: none where memory lacked, else those of a plan of the deed
   pub record FinishPlan (site : Site) (drawn later : Drawn) (ready : Ready) (deed : Commit) (put : Option VersionId) (now : ℕ) (outcome : Outcome) (old new : List D) : Type 0 where
     pub plan : Plan
     pub is : IsPlan site (drawn.seq + again_takes ready.first) ready deed put now plan
-    pub calls : CallsCarry tells files count site drawn later ready.first plan outcome old new
+    pub calls : CallsCarry ghosts site drawn later ready.first plan outcome old new
 
   abbrev pub FinishCalls : Site → Drawn → Drawn → Ready → Commit → Option VersionId → ℕ → Outcome → List D → List D → Type 0
   FinishCalls site drawn later ready deed put now outcome old new = ((outcome ≡ LacksMemory) × (new ≡ old))

@@ -1,6 +1,7 @@
 -- What carrying out a plan leaves.
 use Rattle.std.specs.Prelude.{◌≡◌, ◌≢◌, ℕ, ◌+◌, ◌≤◌, Bool, List, [], length, Option, None, Some, MatchOption, string_bytes}
 use Rattle.call_types.specs.declared.reply.Reply.{Reply}
+use Rattle.drive_base.specs.declared.drive.Drive.{Ghosts}
 use Rattle.drive_base.specs.Files.{Files}
 use Rattle.drive_base.specs.declared.plan.SetPlan.{SetPlan}
 use Rattle.stamp_id.specs.declared.stamp.ChangeId.{ChangeId}
@@ -8,8 +9,6 @@ use Rattle.stamp_id.specs.declared.version.VersionId.{VersionId}
 use Rattle.register_file.specs.declared.record.Base.{Base}
 use Rattle.register_file.specs.declared.record.Next.{Next}
 use Rattle.register_core.specs.Drafts.{IsDraftOf}
-use Rattle.register_core.specs.Loops.{TellsStay}
-use Rattle.register_caller.specs.Steps.{FilesStay}
 use Rattle.slot_history.specs.Standing.{Flying, Records}
 use Rattle.slot_history.specs.State.{State}
 use Rattle.slot_data.specs.Holding.{Holding}
@@ -30,6 +29,7 @@ use Rattle.slot_core.specs.RegisterLook.{DraftFits}
 use Rattle.slot_core.specs.Settlement.{IsReady, SettledOn, numbers_at}
 use Rattle.slot_core.specs.Standing.{SlotStands}
 use Rattle.slot_core.specs.declared.commit_write.Outcome.{Outcome}
+use Rattle.slot_core.specs.LanesStay.{FilesStay, TellsStay}
 
 -- an own change can be written: its draft fits the set, and its ballot is one of the next three numbers
 pub record OwnFits (set : SetPlan) (seq : ℕ) (own : Own) : Type 0 where
@@ -79,17 +79,17 @@ module _ {D : Type 0} (tells : D → Bool) (files : D → Files) where
       (λ before after. ShowsTrash deed (answer_told outcome) trash_old trash_new before after)
       (λ disks hands less. MayCommitData deed (kept_with holding rest trash_new) disks hands less) records state
 
-module _ {D : Type 0} (tells : D → Bool) (files : D → Files) (count : D → ℕ) where
+module _ {D : Type 0} (ghosts : Ghosts D) where
   -- what a section leaves that carries out a plan, over every state for which the lanes stood when they were looked at
   abbrev pub CarriesAfter : Site → Drawn → Drawn → List ℕ → Ready → Plan → Outcome → List VersionId → List VersionId → List D → List D → Type 0
   CarriesAfter site drawn later name ready plan outcome trash_old trash_new mid new =
       (deed : Commit) (put : Option VersionId) (now : ℕ) (rule : List ℕ → Option ℕ) (longest : ℕ) (old disks disks_after : List D) (holding : Holding)
       (rest : List Flying) (records : Records) (state : State)
       → IsPlan site (drawn.seq + again_takes ready.first) ready deed put now plan → name_of deed ≡ name
-      → IsReady tells files count site drawn (name_of deed) rule longest ready old mid disks disks_after → length mid ≡ length old → FilesStay tells files count old mid
-      → TellsStay tells files count old mid
-      → SlotStands tells files (numbers_at site drawn) holding.flights old records state → Lands put holding.flights rest → FitsPut deed put
+      → IsReady ghosts site drawn (name_of deed) rule longest ready old mid disks disks_after → length mid ≡ length old → FilesStay ghosts old mid
+      → TellsStay ghosts old mid
+      → SlotStands ghosts.tells ghosts.files (numbers_at site drawn) holding.flights old records state → Lands put holding.flights rest → FitsPut deed put
       → holding.trash ≡ trash_old
-      → EntryLeaves tells files (numbers_at site drawn) (numbers_at site later) holding (kept_with holding rest trash_new) new
+      → EntryLeaves ghosts.tells ghosts.files (numbers_at site drawn) (numbers_at site later) holding (kept_with holding rest trash_new) new
       (entry_told site.turns (name_of deed) outcome) (λ before after. ShowsTrash deed (answer_told outcome) trash_old trash_new before after)
       (λ disks hands less. MayCommitData deed (kept_with holding rest trash_new) disks hands less) records state

@@ -11,6 +11,7 @@ pub mod Commits
 pub mod Deeds
 pub mod EmptyEntry
 pub mod Hands
+pub mod LanesStay
 pub mod Life
 pub mod NameList
 pub mod NamePages

@@ -7,12 +7,13 @@ use Rattle.call_types.specs.Good.{good_count}
 use Rattle.call_types.specs.declared.why.FileKind.TheVariants.{Format, Manifest, Register, Shard}
 use Rattle.call_types.specs.declared.why.Why.{Why}
 use Rattle.call_types.specs.declared.why.Why.TheVariants.{Behind, Damaged, Failed, Good, Lacks}
+use Rattle.drive_base.specs.declared.drive.Drive.{Ghosts}
 use Rattle.drive_base.specs.Files.{Files}
 use Rattle.drive_base.specs.Names.{IsBefore, IsPage, byte_order}
 use Rattle.drive_base.specs.Plan.{data_drives}
 use Rattle.drive_base.specs.declared.drive.TheConstants.{LONGEST_NAME}
 use Rattle.drive_base.specs.declared.plan.SetPlan.{SetPlan}
-use Rattle.register_core.specs.Loops.{letter_at}
+use Rattle.register_core.specs.LaneWrites.{letter_at}
 use Rattle.register_core.specs.declared.faults.QuorumFault.TheVariants.{NoMemory as NoMemoryQuorum, ReadQuorum, Undecided, WriteQuorum}
 use Rattle.audit_trail.specs.declared.entry.Entry.{Entry}
 use Rattle.slot_history.specs.State.{IsHeld, State}
@@ -67,18 +68,18 @@ module _ {D : Type 0} (tells : D → Bool) (files : D → Files) where
     pub complete : (k : ℕ) (d : D) (name : List ℕ) → k < length lanes → letter_at whys k ≡ Good → IsTrue (tells (slice_index_or lanes k d))
         → IsSome ((files (slice_index_or lanes k d)).shown name) → IsListable from name → IsGiven most names name
 
-module _ {D : Type 0} (tells : D → Bool) (files : D → Files) (count : D → ℕ) where
+module _ {D : Type 0} (ghosts : Ghosts D) where
   -- as many lanes answered as a read needs, and the names are theirs
   pub record NamesAreListed (set : SetPlan) (from : List ℕ) (most : ℕ) (names : List (List ℕ)) (old new : List D) : Type 0 where
     pub whys : List Why
-    pub asked : LanesAreAsked count set.out whys old new
+    pub asked : LanesAreAsked ghosts.count set.out whys old new
     pub enough : data_drives set.drives set.parity ≤ good_count whys
-    pub are : AreShownNames tells files from most whys old names
+    pub are : AreShownNames ghosts.tells ghosts.files from most whys old names
 
   -- what a listing answers, with its cause
   abbrev pub ListsNames : {Y : Type 0} → SetPlan → List ℕ → ℕ → Result (List (String Y)) SlotFault → List D → List D → Type 0
   ListsNames set from most (Ok names) old new = NamesAreListed set from most (map string_bytes names) old new
-  ListsNames set from most (Err (Quorum (ReadQuorum whys))) old new = TooFewAnswered count set whys old new
+  ListsNames set from most (Err (Quorum (ReadQuorum whys))) old new = TooFewAnswered ghosts.count set whys old new
   ListsNames set from most (Err (Quorum (WriteQuorum _))) old new = ⊥
   ListsNames set from most (Err (Quorum (Undecided _ _ _))) old new = ⊥
   ListsNames set from most (Err (Quorum NoMemoryQuorum)) old new = ⊥

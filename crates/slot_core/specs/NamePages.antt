@@ -3,9 +3,10 @@ use Rattle.std.specs.Prelude.{◌≡◌, ◌⊎◌, ℕ, ◌<◌, Bool, IsTrue, 
 use Rattle.call_types.specs.declared.why.Why.{Why}
 use Rattle.call_types.specs.declared.why.Why.TheVariants.{Good}
 use Rattle.drive_base.specs.Files.{Files}
+use Rattle.drive_base.specs.declared.drive.Drive.{Ghosts}
 use Rattle.drive_base.specs.Names.{IsPage, ListsShown}
 use Rattle.drive_base.specs.declared.drive.TheConstants.{LONGEST_NAME}
-use Rattle.register_core.specs.Loops.{letter_at}
+use Rattle.register_core.specs.LaneWrites.{letter_at}
 use Rattle.slot_core.specs.NameList.{IsShown, NamesLetter}
 
 module _ {D : Type 0} (tells : D → Bool) (files : D → Files) where
@@ -21,10 +22,11 @@ module _ {D : Type 0} (tells : D → Bool) (files : D → Files) where
     pub shows : (name : List ℕ) → Has name → (by : IsShown tells files whys lanes name) × (by.place < upto)
     pub pages : (k : ℕ) (d : D) → k < upto → letter_at whys k ≡ Good → HasPage from most Has (slice_index_or lanes k d)
 
+module _ {D : Type 0} (ghosts : Ghosts D) where
   -- one lane was asked: its letter, what was gathered stays, what is new is what it shows, and its page is gathered
-  pub record AsksLane (count : D → ℕ) (out : Type 0) (from : List ℕ) (most : ℕ) (why : Why) (Had Has : List ℕ → Type 0) (old new : D) : Type 0 where
-    pub letter : NamesLetter out why (count old) (count new)
+  pub record AsksLane (out : Type 0) (from : List ℕ) (most : ℕ) (why : Why) (Had Has : List ℕ → Type 0) (old new : D) : Type 0 where
+    pub letter : NamesLetter out why (ghosts.count old) (ghosts.count new)
     pub stay : out → new ≡ old
     pub keeps : (name : List ℕ) → Had name → Has name
-    pub from_lane : (name : List ℕ) → Has name → Had name ⊎ ((why ≡ Good) × (IsTrue (tells old) → IsSome ((files old).shown name)))
-    pub page : why ≡ Good → HasPage from most Has old
+    pub from_lane : (name : List ℕ) → Has name → Had name ⊎ ((why ≡ Good) × (IsTrue (ghosts.tells old) → IsSome ((ghosts.files old).shown name)))
+    pub page : why ≡ Good → HasPage ghosts.tells ghosts.files from most Has old

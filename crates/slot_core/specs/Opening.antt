@@ -1,5 +1,6 @@
 -- What opening a slot leaves, and what trouble does to a lane.
 use Rattle.std.specs.Prelude.{◌≡◌, ◌≢◌, ℕ, ◌≤◌, Bool, IsTrue, List, [], Option, None, length, replicate, slice_index_or, Result, Ok, Err}
+use Rattle.drive_base.specs.declared.drive.Drive.{Ghosts}
 use Rattle.drive_base.specs.Files.{Files}
 use Rattle.drive_base.specs.declared.plan.SetPlan.{SetPlan}
 use Rattle.vote_core.specs.Lane.{blank_lane}
@@ -59,15 +60,15 @@ module _ {D A : Type 0} (entries : A → Option (List Entry)) (count : A → ℕ
       → LanesHave tells files (opened_numbers set index term) parts.lanes.items (λ name. replicate set.drives blank_lane)
       → SlotStands tells files (numbers_of slot) (holding_of slot).flights (lanes_of slot) (λ name. replicate set.drives blank_lane) no_state
 
-module _ {D T : Type 0} (tells : D → Bool) (files : D → Files) (count : D → ℕ) (befalls : T → D → Bool → D → Type 0) where
+module _ {D T : Type 0} (ghosts : Ghosts D) (befalls : T → D → Bool → D → Type 0) where
   -- trouble befell one lane: what it keeps and what is being written stay, and every other lane is as it was
   pub record Strikes (index : ℕ) (trouble : T) (old : List D) (struck : Bool) (new : List D) : Type 0 where
     pub counted : length new ≡ length old
     pub befell : (d : D) → befalls trouble (slice_index_or old index d) struck (slice_index_or new index d)
-    pub kept : (d : D) → IsTrue (tells (slice_index_or old index d))
-        → (files (slice_index_or new index d)).kept ≡ (files (slice_index_or old index d)).kept
-    pub loose : (d : D) → IsTrue (tells (slice_index_or old index d))
-        → (files (slice_index_or new index d)).loose ≡ (files (slice_index_or old index d)).loose
-    pub told : (d : D) → tells (slice_index_or new index d) ≡ tells (slice_index_or old index d)
-    pub rises : (d : D) → count (slice_index_or old index d) ≤ count (slice_index_or new index d)
+    pub kept : (d : D) → IsTrue (ghosts.tells (slice_index_or old index d))
+        → (ghosts.files (slice_index_or new index d)).kept ≡ (ghosts.files (slice_index_or old index d)).kept
+    pub loose : (d : D) → IsTrue (ghosts.tells (slice_index_or old index d))
+        → (ghosts.files (slice_index_or new index d)).loose ≡ (ghosts.files (slice_index_or old index d)).loose
+    pub told : (d : D) → ghosts.tells (slice_index_or new index d) ≡ ghosts.tells (slice_index_or old index d)
+    pub rises : (d : D) → ghosts.count (slice_index_or old index d) ≤ ghosts.count (slice_index_or new index d)
     pub others : (k : ℕ) (d : D) → k ≢ index → slice_index_or new k d ≡ slice_index_or old k d

@@ -1,11 +1,11 @@
 -- What a look at a register leaves and tells, apart from the slot that has it.
 use Rattle.std.specs.Prelude.{◌≡◌, ◌≢◌, ℕ, Bool, List, Option, Result, Ok, Err}
+use Rattle.drive_base.specs.declared.drive.Drive.{Ghosts}
 use Rattle.drive_base.specs.Files.{Files}
 use Rattle.stamp_id.specs.declared.stamp.ChangeId.{ChangeId}
 use Rattle.audit_trail.specs.declared.entry.Entry.{Entry}
 use Rattle.register_core.specs.declared.faults.QuorumFault.{QuorumFault}
 use Rattle.register_core.specs.declared.faults.QuorumFault.TheVariants.{ReadQuorum, WriteQuorum, Undecided, NoMemory}
-use Rattle.register_caller.specs.Steps.{FilesStay}
 use Rattle.slot_history.specs.Moving.{IsLast}
 use Rattle.slot_history.specs.Standing.{Records}
 use Rattle.slot_history.specs.State.{State}
@@ -23,6 +23,7 @@ use Rattle.slot_core.specs.declared.slot.SlotFault.TheVariants.{SeqSpent}
 use Rattle.slot_core.specs.declared.peek_section.Peeked.{Peeked}
 use Rattle.slot_core.specs.declared.peek_section.Peeked.TheVariants.{Found, Refused, LacksMemory}
 use Rattle.slot_core.specs.declared.stub.Stub.{Stub}
+use Rattle.slot_core.specs.LanesStay.{FilesStay}
 
 -- what a section that wasn't refused for its numbers tells, whatever the drives tell
 pub record TurnsAt {T : Type 0} (numbers : SlotNumbers) (audit_old audit_new : Option (List Entry)) (faults_old faults_new : ℕ)
@@ -63,16 +64,16 @@ module _ {D : Type 0} (tells : D → Bool) (files : D → Files) where
       → SlotStands tells files (numbers_at site drawn) holding.flights old records state
       → PeekLeaves (numbers_at site drawn) (numbers_at site later) holding name peeked new records state
 
-module _ {D : Type 0} (tells : D → Bool) (files : D → Files) (count : D → ℕ) where
+module _ {D : Type 0} (ghosts : Ghosts D) where
   -- the calls of a look and of the completion after it, by what they gave
   abbrev pub GivesBy : {T : Type 0} → SlotNumbers → SlotNumbers → List ℕ → (T → Option ChangeId → Type 0) → Peeked T → List D → List D → List D → List D → Type 0
   GivesBy numbers later name Gave (Found given late) old new disks disks_after = Gave given late
   GivesBy numbers later name Gave (Refused fault) old new disks disks_after = (fault ≢ NoMemory)
-      × LookCause tells files count numbers later name (rule_for name) (longest_for name) fault old new disks disks_after
-  GivesBy numbers later name Gave LacksMemory old new disks disks_after = FilesStay tells files count old new
+      × LookCause ghosts numbers later name (rule_for name) (longest_for name) fault old new disks disks_after
+  GivesBy numbers later name Gave LacksMemory old new disks disks_after = FilesStay ghosts old new
 
   -- so it is where the content is given
   abbrev pub PeekCalls : SlotNumbers → SlotNumbers → List ℕ → Peeked (List ℕ) → List D → List D → List D → List D → Type 0
   PeekCalls numbers later name peeked old new disks disks_after =
-      GivesBy numbers later name (λ content late. PeekCause tells files count numbers later name (Ok content) late old new disks disks_after) peeked
+      GivesBy numbers later name (λ content late. PeekCause ghosts numbers later name (Ok content) late old new disks disks_after) peeked
       old new disks disks_after

@@ -1,5 +1,6 @@
 -- What a read leaves of lanes that stood for a state, and from which calls it gives what it gives.
-use Rattle.std.specs.Prelude.{ℕ, Bool, List}
+use Rattle.std.specs.Prelude.{Bool, List}
+use Rattle.drive_base.specs.declared.drive.Drive.{Ghosts}
 use Rattle.drive_base.specs.Files.{Files}
 use Rattle.call_types.specs.declared.names.Key.{Key}
 use Rattle.slot_data.specs.Holding.{Holding}
@@ -34,9 +35,9 @@ module _ {D : Type 0} (tells : D → Bool) (files : D → Files) where
       → IsNewTicket ask.site.turns holding.pins
       → Leaves tells files (numbers_at ask.site drawn) (numbers_at ask.site later) holding kept old new turn.stub ShowsNoMore HandsStay
 
-module _ {D : Type 0} (tells : D → Bool) (files : D → Files) (count : D → ℕ) where
+module _ {D : Type 0} (ghosts : Ghosts D) where
   -- the calls of a read before its pin begins
   abbrev pub ReadCalls : ReadAsk → Drawn → Drawn → Key → Peeked ReadPlan → List D → List D → List D → List D → Type 0
-  ReadCalls ask drawn later at peeked old new disks disks_after = GivesBy tells files count (numbers_at ask.site drawn) (numbers_at ask.site later) (key_name at)
-      (λ plan late. ReadGave tells files count (numbers_at ask.site drawn) (numbers_at ask.site later) at
+  ReadCalls ask drawn later at peeked old new disks disks_after = GivesBy ghosts (numbers_at ask.site drawn) (numbers_at ask.site later) (key_name at)
+      (λ plan late. ReadGave ghosts (numbers_at ask.site drawn) (numbers_at ask.site later) at
       (λ state. PlansRead ask.site.turns at ask.mode ask.pick state plan) late old new disks disks_after) peeked old new disks disks_after

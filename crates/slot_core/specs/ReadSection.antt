@@ -1,7 +1,7 @@
 -- What a read of a key finds, tells and begins.
-use Rattle.std.specs.Prelude.{◌≡◌, ◌≢◌, ℕ, Bool, List, [], ◌∷◌, ◌++◌, Option, Some, None, Result, Ok, Err, Contains, slice_get}
+use Rattle.std.specs.Prelude.{◌≡◌, ◌≢◌, ℕ, List, [], ◌∷◌, ◌++◌, Option, Some, None, Result, Ok, Err, Contains, slice_get}
 use Rattle.stamp_id.specs.declared.stamp.ChangeId.{ChangeId}
-use Rattle.drive_base.specs.Files.{Files}
+use Rattle.drive_base.specs.declared.drive.Drive.{Ghosts}
 use Rattle.call_types.specs.Refusals.{refusal_of}
 use Rattle.call_types.specs.declared.act.Brief.TheVariants.{Answer, Read}
 use Rattle.call_types.specs.declared.names.Key.{Key}
@@ -15,7 +15,6 @@ use Rattle.audit_trail.specs.declared.entry.Entry.{Entry}
 use Rattle.register_core.specs.Found.{content_of}
 use Rattle.register_core.specs.declared.faults.QuorumFault.{QuorumFault}
 use Rattle.register_core.specs.declared.faults.QuorumFault.TheVariants.{NoMemory as NoMemoryQuorum}
-use Rattle.register_caller.specs.Steps.{FilesStay}
 use Rattle.version_list.specs.Reads.{Reads}
 use Rattle.version_list.specs.Step.{told}
 use Rattle.version_list.specs.declared.state.KeyState.{KeyState}
@@ -47,6 +46,7 @@ use Rattle.slot_core.specs.declared.read_plan.ReadPlan.TheVariants.{Gives, Refus
 use Rattle.slot_core.specs.declared.read_plan.ReadStart.{ReadStart}
 use Rattle.slot_core.specs.declared.stub.Stub.{Stub}
 use Rattle.slot_core.specs.declared.stub.Turn.{Turn}
+use Rattle.slot_core.specs.LanesStay.{FilesStay}
 
 -- a read of a key in this state gives this version
 pub record IsFound (state : KeyState) (pick : Pick) (version : Version) : Type 0 where
@@ -116,28 +116,28 @@ pub record PlansOver (ticket : ℕ) (at : Key) (mode : Mode) (pick : Pick) (plan
   pub spells : SpellsKey (content_of planned.ready.looked.base planned.ready.looked.pending) state
   pub plans : PlansRead ticket at mode pick state planned.plan
 
-module _ {D : Type 0} (tells : D → Bool) (files : D → Files) (count : D → ℕ) where
+module _ {D : Type 0} (ghosts : Ghosts D) where
   -- a read's look: it could conclude, and what it found was planned; or it was refused, or there was not enough memory
   abbrev pub LooksForRead : Site → Drawn → List ℕ → Key → Mode → Pick → Result Planned QuorumFault → List D → List D → List D → List D → Type 0
   LooksForRead site drawn name at mode pick (Ok planned) old new disks disks_after =
-      IsReady tells files count site drawn name (rule_for name) (longest_for name) planned.ready old new disks disks_after × PlansOver site.turns at mode pick planned
+      IsReady ghosts site drawn name (rule_for name) (longest_for name) planned.ready old new disks disks_after × PlansOver site.turns at mode pick planned
   LooksForRead site drawn name at mode pick (Err fault) old new disks disks_after = fault ≢ NoMemoryQuorum
-      → LookCause tells files count (numbers_at site drawn) (numbers_at site drawn) name (rule_for name) (longest_for name) fault old new disks disks_after
+      → LookCause ghosts (numbers_at site drawn) (numbers_at site drawn) name (rule_for name) (longest_for name) fault old new disks disks_after
 
   -- what completing what was pending gives: the plan, and the change that was completed, or a refusal, by its calls and by what it leaves
   abbrev pub FinishesPlan : Site → Drawn → Drawn → List ℕ → Planned → Peeked ReadPlan → List D → List D → Type 0
   FinishesPlan site drawn later name planned (Found plan late) mid new = (plan ≡ planned.plan) × (late ≡ late_of planned.ready.first)
-      × SettlesAfter tells files count {E = QuorumFault} site drawn later name planned.ready (Ok late) mid new
-      × CallsForward tells files count site drawn later planned.ready.first (Ok late) mid new
+      × SettlesAfter ghosts {E = QuorumFault} site drawn later name planned.ready (Ok late) mid new
+      × CallsForward ghosts site drawn later planned.ready.first (Ok late) mid new
   FinishesPlan site drawn later name planned (Refused fault) mid new = (fault ≢ NoMemoryQuorum)
-      × SettlesAfter tells files count {E = QuorumFault} site drawn later name planned.ready (Err fault) mid new
-      × CallsForward tells files count site drawn later planned.ready.first (Err fault) mid new
+      × SettlesAfter ghosts {E = QuorumFault} site drawn later name planned.ready (Err fault) mid new
+      × CallsForward ghosts site drawn later planned.ready.first (Err fault) mid new
   FinishesPlan site drawn later name planned LacksMemory mid new = ⊥
 
   -- a look gave a content that spells a state of the key for which this is due
   pub record ReadGave (numbers later : SlotNumbers) (at : Key) (Due : KeyState → Type 0) (late : Option ChangeId) (old new disks disks_after : List D) : Type 0 where
     pub content : List ℕ
-    pub gave : LookGave tells files count numbers later.count (key_name at) (rule_for (key_name at)) (longest_for (key_name at)) content old new disks disks_after
+    pub gave : LookGave ghosts numbers later.count (key_name at) (rule_for (key_name at)) (longest_for (key_name at)) content old new disks disks_after
     pub completes : Completes numbers later gave.looked.pending late
     pub state : KeyState
     pub spells : SpellsKey content state
@@ -151,8 +151,8 @@ module _ {D : Type 0} (tells : D → Bool) (files : D → Files) (count : D → 
   ReadCause numbers later at pick (Err (KeyFault why)) late old new disks disks_after =
       ReadGave numbers later at (λ state. Reads state.versions pick (Err why)) late old new disks disks_after
   ReadCause numbers later at pick (Err (Quorum fault)) late old new disks disks_after = (fault ≢ NoMemoryQuorum) × (late ≡ None)
-      × LookCause tells files count numbers later (key_name at) (rule_for (key_name at)) (longest_for (key_name at)) fault old new disks disks_after
+      × LookCause ghosts numbers later (key_name at) (rule_for (key_name at)) (longest_for (key_name at)) fault old new disks disks_after
   ReadCause numbers later at pick (Err SeqSpent) late old new disks disks_after = new ≡ old
   ReadCause numbers later at pick (Err (AuditFailed _ _)) late old new disks disks_after = new ≡ old
-  ReadCause numbers later at pick (Err NoMemory) late old new disks disks_after = FilesStay tells files count old new
+  ReadCause numbers later at pick (Err NoMemory) late old new disks disks_after = FilesStay ghosts old new
   ReadCause numbers later at pick (Err (NotInFlight _)) late old new disks disks_after = ⊥

@@ -1,7 +1,7 @@
 -- The calls of a look, and of the completion of what it found.
-use Rattle.std.specs.Prelude.{◌≡◌, ◌⊎◌, ◌+◌, ◌≤◌, ℕ, Bool, List, length, Option, Some, None, Result, Ok, Err, string_bytes}
+use Rattle.std.specs.Prelude.{◌≡◌, ◌⊎◌, ◌+◌, ◌≤◌, ℕ, List, length, Option, Some, None, Result, Ok, Err, string_bytes}
 use Rattle.call_types.specs.declared.why.Why.{Why}
-use Rattle.drive_base.specs.Files.{Files}
+use Rattle.drive_base.specs.declared.drive.Drive.{Ghosts}
 use Rattle.drive_base.specs.declared.plan.SetPlan.{SetPlan}
 use Rattle.stamp_id.specs.declared.stamp.ChangeId.{ChangeId}
 use Rattle.register_core.specs.Found.{content_of}
@@ -35,20 +35,20 @@ abbrev pub GoesOnReading : {E : Type 0} → (List ℕ → Type 0) → Result Rea
 GoesOnReading read (Ok ready) = read (content_of ready.looked.base ready.looked.pending)
 GoesOnReading read (Err _) = Unit {0}
 
-module _ {D : Type 0} (tells : D → Bool) (files : D → Files) (count : D → ℕ) where
+module _ {D : Type 0} (ghosts : Ghosts D) where
   -- what a section's look answers: it could conclude, or it was refused, or what was pending could not be begun
   abbrev pub LooksAt : Site → Drawn → List ℕ → (List ℕ → Option ℕ) → ℕ → Result Ready QuorumFault → List D → List D → List D → List D → Type 0
-  LooksAt site drawn name rule longest (Ok ready) old new disks disks_after = IsReady tells files count site drawn name rule longest ready old new disks disks_after
+  LooksAt site drawn name rule longest (Ok ready) old new disks disks_after = IsReady ghosts site drawn name rule longest ready old new disks disks_after
   LooksAt site drawn name rule longest (Err fault) old new disks disks_after =
-      LookIsRefused tells files count site.set site.set.out name rule longest drawn.count drawn.count fault old new disks disks_after
-      ⊎ NotForwarded tells files count (numbers_at site drawn) name rule longest fault old new disks disks_after
+      LookIsRefused ghosts site.set site.set.out name rule longest drawn.count drawn.count fault old new disks disks_after
+      ⊎ NotForwarded ghosts (numbers_at site drawn) name rule longest fault old new disks disks_after
 
   -- a draft was written under one number more, with this answer
   pub record WritesFirst (site : Site) (drawn later : Drawn) (first : Option Draft) (result : Result (List Why) QuorumFault) (old new : List D) : Type 0 where
     pub draft : Draft
     pub is : first ≡ Some draft
     pub seq : later.seq ≡ drawn.seq + 1
-    pub writes : WritesBoth tells files count draft site.set.out site.term drawn.count later.count result old new
+    pub writes : WritesBoth ghosts draft site.set.out site.term drawn.count later.count result old new
 
   -- the calls of completing what was pending: none where nothing was, and else both writes of its draft
   abbrev pub CallsForward : Site → Drawn → Drawn → Option Draft → Result (Option ChangeId) QuorumFault → List D → List D → Type 0

@@ -2,6 +2,7 @@
 use Rattle.std.specs.Prelude.{◌≡◌, ◌+◌, ℕ, Bool, List, Contains, length, Option, Some, None, Result}
 use Rattle.std.specs.Int.{IsBitSet}
 use Rattle.std.specs.Result.{IfOk}
+use Rattle.drive_base.specs.declared.drive.Drive.{Ghosts}
 use Rattle.drive_base.specs.Files.{Files}
 use Rattle.stamp_id.specs.Rank.{change_of}
 use Rattle.stamp_id.specs.declared.stamp.Ballot.{Ballot}
@@ -12,12 +13,10 @@ use Rattle.vote_core.specs.Lane.{lane_at}
 use Rattle.vote_core.specs.Loops.{Stands as StandsOn}
 use Rattle.register_core.specs.Drafts.{IsDraftAfterLook}
 use Rattle.register_core.specs.Found.{content_of}
-use Rattle.register_core.specs.Looking.{IsLooked}
-use Rattle.register_core.specs.Loops.{TellsStay}
+use Rattle.register_core.specs.Looks.{IsLooked}
 use Rattle.register_core.specs.Records.{again_of, base_of}
 use Rattle.register_core.specs.declared.drafts.Draft.{Draft}
-use Rattle.register_core.specs.declared.looked.Looked.{Looked}
-use Rattle.register_caller.specs.Steps.{FilesStay}
+use Rattle.register_core.specs.declared.looks.Looked.{Looked}
 use Rattle.slot_history.specs.Laws.{OnlyTheOld}
 use Rattle.slot_history.specs.Moving.{IsLast}
 use Rattle.slot_history.specs.Sections.{IsOnItsWay}
@@ -35,6 +34,7 @@ use Rattle.slot_rules.specs.declared.site.Site.{Site}
 use Rattle.slot_core.specs.Calm.{IsCalmUnder, StaysUnder}
 use Rattle.slot_core.specs.Standing.{SlotStands}
 use Rattle.slot_core.specs.Views.{SlotNumbers, last_of, quorum_of}
+use Rattle.slot_core.specs.LanesStay.{FilesStay, TellsStay}
 
 -- the numbers of a slot where a section is done, when so many were drawn
 abbrev pub numbers_at : Site → Drawn → SlotNumbers
@@ -69,10 +69,10 @@ module _ {D : Type 0} (tells : D → Bool) (files : D → Files) where
     pub goes_on : (disks : Disks) (hands : Hands) → DataStands numbers.set numbers.index (last_of numbers) records state holding disks hands
         → DataStands numbers.set numbers.index (last_of later) after now holding disks hands
 
-module _ {D : Type 0} (tells : D → Bool) (files : D → Files) (count : D → ℕ) where
+module _ {D : Type 0} (ghosts : Ghosts D) where
   -- a look could conclude, and what is pending is drafted under the next number of the slot
   pub record IsReady (site : Site) (drawn : Drawn) (name : List ℕ) (rule : List ℕ → Option ℕ) (longest : ℕ) (ready : Ready) (old new disks disks_after : List D) : Type 0 where
-    pub looks : IsLooked tells files count site.set site.set.out name rule longest ready.looked old new disks disks_after
+    pub looks : IsLooked ghosts site.set site.set.out name rule longest ready.looked old new disks disks_after
     pub ballot : Ballot
     pub term : ballot.term ≡ site.term
     pub seq : ballot.seq ≡ drawn.seq + 1
@@ -82,8 +82,8 @@ module _ {D : Type 0} (tells : D → Bool) (files : D → Files) (count : D → 
   abbrev pub SettlesAfter : {E : Type 0} → Site → Drawn → Drawn → List ℕ → Ready → Result (Option ChangeId) E → List D → List D → Type 0
   SettlesAfter site drawn later name ready result mid new = (rule : List ℕ → Option ℕ) (longest : ℕ) (old disks disks_after : List D) (holding : Holding)
       (records : Records) (state : State)
-      → IsReady site drawn name rule longest ready old mid disks disks_after → length mid ≡ length old → FilesStay tells files count old mid
-      → TellsStay tells files count old mid → IsRegisterName name → SlotStands tells files (numbers_at site drawn) holding.flights old records state
-      → Settled tells files (numbers_at site drawn) (numbers_at site later) holding
+      → IsReady site drawn name rule longest ready old mid disks disks_after → length mid ≡ length old → FilesStay ghosts old mid
+      → TellsStay ghosts old mid → IsRegisterName name → SlotStands ghosts.tells ghosts.files (numbers_at site drawn) holding.flights old records state
+      → Settled ghosts.tells ghosts.files (numbers_at site drawn) (numbers_at site later) holding
       (λ after now. IfOk result (λ late. SettledOn name (base_after ready.looked.base ready.first) (content_of ready.looked.base ready.looked.pending) late after now))
       new records state

@@ -1,8 +1,7 @@
 //! How a commit is planned over what the look at its register gave.
 
 ghost use Rattle.std.specs.Prelude.{◌≡◌, ◌+◌, ◌<◌, ◌≤◌, ◌^◌, OnOk, length, vec_capacity, vec_len};
-ghost use Rattle.drive_base.specs.View.{AllOnlyRead, views};
-ghost use Rattle.register_core.specs.Loops.{CountsRise, TellsStay};
+ghost use Rattle.drive_base.specs.View.{AllGoOn, AllOnlyRead, views};
 ghost use Rattle.slot_rules.specs.Deeds.{name_of};
 ghost use Rattle.slot_core.specs.CommitCauses.{CommitCause};
 ghost use Rattle.slot_core.specs.CommitOutcome.{IsTold, answer_told, deed_told};
@@ -69,16 +68,15 @@ fn finish<D: Drive>(
     requires seq { drawn.old.seq ≤ LAST_SEQ }
     requires count { drawn.old.count ≤ LAST_COUNT }
     requires room { vec_len trash.old + ask.now.spare ≤ vec_capacity trash.old }
-    ensures leaves { FinishLeaves D.tells D.files D.count ask.now.site drawn.old drawn.new work.ready deed.now ask.now.put result
+    ensures leaves { FinishLeaves D.Drive ask.now.site drawn.old drawn.new work.ready deed.now ask.now.put result
         trash.old.items trash.new.items lanes.old lanes.new }
     ensures told { IsTold deed.now ask.now.moment result }
-    ensures calls { FinishCalls D.tells D.files D.count ask.now.site drawn.old drawn.new work.ready deed.now ask.now.put ask.now.moment result
+    ensures calls { FinishCalls D.Drive ask.now.site drawn.old drawn.new work.ready deed.now ask.now.put ask.now.moment result
         lanes.old lanes.new }
     ensures gone { TrashGrows (answer_told result) trash.old.items trash.new.items }
     ensures room_stays { vec_len trash.new + ask.now.spare ≤ vec_capacity trash.new }
     ensures draws { Draws 3 64 drawn.old drawn.new }
-    ensures tells { TellsStay D.tells D.files D.count lanes.old lanes.new }
-    ensures counts { CountsRise D.tells D.files D.count lanes.old lanes.new }
+    ensures lanes { AllGoOn (views D.Drive lanes.old) (views D.Drive lanes.new) }
 {
     // The laws for the proof, that lanes and data go on to stand where a put ends. The calls do nothing.
     resting_laws();
@@ -134,13 +132,12 @@ pub(crate) fn commit_register<D: Drive>(
     ensures leaves { CommitLeaves D.tells D.files ask.now.site drawn.old drawn.new deed.now ask.now.put result trash.old.items trash.new.items
         lanes.old lanes.new }
     ensures told { IsTold deed.now ask.now.moment result }
-    ensures cause { CommitCause D.tells D.files D.count (numbers_at ask.now.site drawn.old) (numbers_at ask.now.site drawn.new) deed.now ask.now.put
+    ensures cause { CommitCause D.Drive (numbers_at ask.now.site drawn.old) (numbers_at ask.now.site drawn.new) deed.now ask.now.put
         ask.now.moment (answer_told result) (deed_told result) lanes.old lanes.new disks.old disks.new }
     ensures gone { TrashGrows (answer_told result) trash.old.items trash.new.items }
     ensures room_stays { vec_len trash.new + ask.now.spare ≤ vec_capacity trash.new }
     ensures draws { Draws 3 64 drawn.old drawn.new }
-    ensures tells { TellsStay D.tells D.files D.count lanes.old lanes.new }
-    ensures counts_rise { CountsRise D.tells D.files D.count lanes.old lanes.new }
+    ensures lanes { AllGoOn (views D.Drive lanes.old) (views D.Drive lanes.new) }
     ensures disks_read { AllOnlyRead (views D.Drive disks.old) (views D.Drive disks.new) }
 {
     // The laws for the proof, that lanes and data go on to stand where a put ends. The calls do nothing.

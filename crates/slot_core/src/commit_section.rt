@@ -2,9 +2,8 @@
 
 ghost use Rattle.std.specs.Prelude.{◌≡◌, ◌+◌, ◌<◌, ◌≤◌, ◌^◌, Err, length, vec_capacity, vec_len};
 ghost use Rattle.stamp_id.specs.declared.version.VersionId.{VersionId};
-ghost use Rattle.drive_base.specs.View.{AllOnlyRead, views};
+ghost use Rattle.drive_base.specs.View.{AllGoOn, AllOnlyRead, views};
 ghost use Rattle.drive_base.specs.declared.drive.TheConstants.{LONGEST_NAME};
-ghost use Rattle.register_core.specs.Loops.{CountsRise, TellsStay};
 ghost use Rattle.version_list.specs.State.{IsMoment};
 ghost use Rattle.slot_rules.specs.Deeds.{IsLawfulDeed, IsNamedDeed, name_of};
 ghost use Rattle.slot_rules.specs.declared.site.Drawn.{Drawn};
@@ -65,10 +64,9 @@ impl<D: Drive, A: Audit> Slot<D, A> {
         ensures leaves { FitsFlight deed.now flight → Leaves D.tells D.files (numbers_of self.old) (numbers_of self.new) (holding_of self.old) (holding_of self.new)
             (lanes_of self.old) (lanes_of self.new) result.stub (ShowsTrash deed.now result.answer (holding_of self.old).trash (holding_of self.new).trash)
             (MayCommitData deed.now (holding_of self.new)) }
-        ensures cause { CommitCause D.tells D.files D.count (numbers_of self.old) (numbers_of self.new) deed.now (flight_put flight) now result.answer
+        ensures cause { CommitCause D.Drive (numbers_of self.old) (numbers_of self.new) deed.now (flight_put flight) now result.answer
             (deed_in (entry_of result.stub)) (lanes_of self.old) (lanes_of self.new) disks.old disks.new }
-        ensures tells { TellsStay D.tells D.files D.count (lanes_of self.old) (lanes_of self.new) }
-        ensures counts { CountsRise D.tells D.files D.count (lanes_of self.old) (lanes_of self.new) }
+        ensures lanes { AllGoOn (views D.Drive (lanes_of self.old)) (views D.Drive (lanes_of self.new)) }
         ensures disks_read { AllOnlyRead (views D.Drive disks.old) (views D.Drive disks.new) }
     {
         // The laws for the proof, that lanes and data go on to stand where a put ends. The calls do nothing.
@@ -127,13 +125,12 @@ fn commit_landed<D: Drive, A: Audit>(
     ensures says { Says result.stub (SaysCommit deed.now ask.now.moment result.answer) }
     ensures checks { (id : VersionId) → result.answer ≡ Err (NotInFlight id) → ⊥ }
     ensures leaves { LandedLeaves D.tells D.files ask.now drawn.old drawn.new deed.now result trash.old.items trash.new.items lanes.old lanes.new }
-    ensures cause { CommitCause D.tells D.files D.count (numbers_at ask.now.site drawn.old) (numbers_at ask.now.site drawn.new) deed.now ask.now.put
+    ensures cause { CommitCause D.Drive (numbers_at ask.now.site drawn.old) (numbers_at ask.now.site drawn.new) deed.now ask.now.put
         ask.now.moment result.answer (deed_in (entry_of result.stub)) lanes.old lanes.new disks.old disks.new }
     ensures gone { TrashGrows result.answer trash.old.items trash.new.items }
     ensures room_stays { vec_len trash.new + ask.now.spare ≤ vec_capacity trash.new }
     ensures draws { Draws 3 64 drawn.old drawn.new }
-    ensures tells { TellsStay D.tells D.files D.count lanes.old lanes.new }
-    ensures counts { CountsRise D.tells D.files D.count lanes.old lanes.new }
+    ensures lanes { AllGoOn (views D.Drive lanes.old) (views D.Drive lanes.new) }
     ensures disks_read { AllOnlyRead (views D.Drive disks.old) (views D.Drive disks.new) }
 {
     // The laws for the proof, that lanes and data go on to stand where a put ends. The calls do nothing.

@@ -1,8 +1,8 @@
 //! A plan that is carried out: what is pending is completed, and then the own change is written.
 
+ghost use Rattle.drive_base.specs.View.{AllGoOn, views};
 ghost use Rattle.std.specs.Prelude.{◌≡◌, ◌+◌, ◌*◌, ◌<◌, ◌≤◌, ◌^◌, ◌++◌, List, None, length, vec_capacity, vec_len};
 ghost use Rattle.stamp_id.specs.declared.version.VersionId.{VersionId};
-ghost use Rattle.register_core.specs.Loops.{CountsRise, TellsStay};
 ghost use Rattle.slot_core.specs.Numbers.{Draws};
 ghost use Rattle.slot_core.specs.CommitOutcome.{CallsCarry, CallsOwnWrites, answer_told};
 ghost use Rattle.slot_core.specs.CommitWrite.{CarriesAfter, PlanFits, TellsAfter, WritesOwnOver};
@@ -48,14 +48,13 @@ pub(crate) fn carry_out<D: Drive>(
     requires seq { drawn.old.seq + 3 < 2 ^ 62 }
     requires count { drawn.old.count + 4 * site.now.set.drives < 2 ^ 64 }
     requires room { vec_len trash.old + length plan.gone.items ≤ vec_capacity trash.old }
-    ensures leaves { CarriesAfter D.tells D.files D.count site.now drawn.old drawn.new name.now ready plan result trash.old.items trash.new.items lanes.old lanes.new }
+    ensures leaves { CarriesAfter D.Drive site.now drawn.old drawn.new name.now ready plan result trash.old.items trash.new.items lanes.old lanes.new }
     ensures told { TellsAfter site.now drawn.old ready plan result }
-    ensures calls { CallsCarry D.tells D.files D.count site.now drawn.old drawn.new ready.first plan result lanes.old lanes.new }
+    ensures calls { CallsCarry D.Drive site.now drawn.old drawn.new ready.first plan result lanes.old lanes.new }
     ensures gone { TrashGrows (answer_told result) trash.old.items trash.new.items }
     ensures capacity { vec_capacity trash.new ≡ vec_capacity trash.old }
     ensures len { vec_len trash.new ≤ vec_len trash.old + length plan.gone.items }
-    ensures tells { TellsStay D.tells D.files D.count lanes.old lanes.new }
-    ensures counts { CountsRise D.tells D.files D.count lanes.old lanes.new }
+    ensures lanes { AllGoOn (views D.Drive lanes.old) (views D.Drive lanes.new) }
     ensures draws { Draws 3 (4 * site.now.set.drives) drawn.old drawn.new }
 {
     // The laws for the proof, that lanes and data go on to stand where a put ends. The calls do nothing.
@@ -96,12 +95,11 @@ fn write_own<D: Drive>(
     requires count { drawn.old.count + 2 * site.now.set.drives < 2 ^ 64 }
     requires room { vec_len trash.old + length gone.now ≤ vec_capacity trash.old }
     ensures leaves { WritesOwnOver D.tells D.files site.now drawn.old drawn.new own tale late gone.now result trash.old.items trash.new.items lanes.old lanes.new }
-    ensures calls { CallsOwnWrites D.tells D.files D.count site.now drawn.old drawn.new own late tale result lanes.old lanes.new }
+    ensures calls { CallsOwnWrites D.Drive site.now drawn.old drawn.new own late tale result lanes.old lanes.new }
     ensures gone { TrashGrows (answer_told result) trash.old.items trash.new.items }
     ensures capacity { vec_capacity trash.new ≡ vec_capacity trash.old }
     ensures len { vec_len trash.new ≤ vec_len trash.old + length gone.now }
-    ensures tells { TellsStay D.tells D.files D.count lanes.old lanes.new }
-    ensures counts { CountsRise D.tells D.files D.count lanes.old lanes.new }
+    ensures lanes { AllGoOn (views D.Drive lanes.old) (views D.Drive lanes.new) }
     ensures rises { drawn.old.count ≤ drawn.new.count }
     ensures few { drawn.new.count ≤ drawn.old.count + 2 * site.now.set.drives }
     ensures seq { drawn.new.seq ≡ own.seq }

@@ -70,7 +70,7 @@ impl<D: Drive, A: Audit> Slot<D, A> {
     /// Has trouble befall the lane of this index, and answers what it answered. It is no section: all but what that lane shows stays.
     pub fn trouble<T: Trouble<D>>(&mut self, index: u8, trouble: &mut T) -> bool
         requires { index < (numbers_of self.old).set.drives }
-        ensures strikes { Strikes D.tells D.files D.count T.befalls index trouble.old (lanes_of self.old) result (lanes_of self.new) }
+        ensures strikes { Strikes D.Drive T.befalls index trouble.old (lanes_of self.old) result (lanes_of self.new) }
         ensures numbers { numbers_of self.new ≡ numbers_of self.old }
         ensures holding { holding_of self.new ≡ holding_of self.old }
         ensures audit { audit_of self.new ≡ audit_of self.old }

@@ -1,9 +1,8 @@
 //! The names of a slot's registers.
 
+ghost use Rattle.drive_base.specs.View.{AllGoOn, GoesOn, view, views};
 ghost use Rattle.std.specs.Prelude.{◌≡◌, ◌+◌, ◌<◌, ◌^◌, ℕ, IfOk, length, map, slice_index_or, string_bytes, ◌↔◌, ◌⊎◌, ◌≤◌, List, Contains, IsSome, IsTrue, OnOk};
 ghost use Rattle.std.specs.Int.{IsBitSet};
-ghost use Rattle.register_core.specs.Loops.{CountsRise, TellsStay};
-ghost use Rattle.register_caller.specs.Steps.{FilesStay};
 ghost use Rattle.slot_core.specs.Hands.{HandsStay};
 ghost use Rattle.slot_core.specs.NameList.{AreShownNames, LanesAreAsked, ListsNames, SaysNothing, ShowsNames};
 ghost use Rattle.slot_core.specs.Stubs.{Says};
@@ -11,6 +10,7 @@ ghost use Rattle.slot_core.specs.Turns.{Leaves, TurnsUnspent};
 ghost use Rattle.slot_core.specs.Views.{audit_of, holding_of, lanes_of, numbers_of};
 ghost use Rattle.std.specs.BTreeMap.{get_by_text};
 ghost use Rattle.slot_core.specs.NamePages.{AsksLane};
+ghost use Rattle.slot_core.specs.LanesStay.{FilesStay};
 
 use crate::slot::{Slot, SlotFault};
 use crate::stub::{Stub, Turn};
@@ -34,10 +34,9 @@ impl<D: Drive, A: Audit> Slot<D, A> {
         ensures holds { holding_of self.new ≡ holding_of self.old }
         ensures leaves { Leaves D.tells D.files (numbers_of self.old) (numbers_of self.new) (holding_of self.old) (holding_of self.new)
             (lanes_of self.old) (lanes_of self.new) result.stub (ShowsNames from.now most result.answer) HandsStay }
-        ensures lists { ListsNames D.tells D.files D.count (numbers_of self.old).set from.now most result.answer (lanes_of self.old) (lanes_of self.new) }
-        ensures files { FilesStay D.tells D.files D.count (lanes_of self.old) (lanes_of self.new) }
-        ensures tells { TellsStay D.tells D.files D.count (lanes_of self.old) (lanes_of self.new) }
-        ensures counts { CountsRise D.tells D.files D.count (lanes_of self.old) (lanes_of self.new) }
+        ensures lists { ListsNames D.Drive (numbers_of self.old).set from.now most result.answer (lanes_of self.old) (lanes_of self.new) }
+        ensures files { FilesStay D.Drive (lanes_of self.old) (lanes_of self.new) }
+        ensures lanes { AllGoOn (views D.Drive (lanes_of self.old)) (views D.Drive (lanes_of self.new)) }
         ensures out { (k : ℕ) (d : D) → IsBitSet (numbers_of self.old).set.out k → slice_index_or (lanes_of self.new) k d ≡ slice_index_or (lanes_of self.old) k d }
     {
         let ticket = self.site.turns;
@@ -84,9 +83,8 @@ impl<D: Drive, A: Audit> Slot<D, A> {
         ensures asked { IfOk result (λ shown. LanesAreAsked D.count (numbers_of self.old).set.out shown.whys (lanes_of self.old) (lanes_of self.new)) }
         ensures names { IfOk result (λ shown. AreShownNames D.tells D.files from.now most shown.whys (lanes_of self.old) (map string_bytes shown.names.items)) }
         ensures long { length (lanes_of self.new) ≡ length (lanes_of self.old) }
-        ensures files { FilesStay D.tells D.files D.count (lanes_of self.old) (lanes_of self.new) }
-        ensures tells { TellsStay D.tells D.files D.count (lanes_of self.old) (lanes_of self.new) }
-        ensures counts { CountsRise D.tells D.files D.count (lanes_of self.old) (lanes_of self.new) }
+        ensures files { FilesStay D.Drive (lanes_of self.old) (lanes_of self.new) }
+        ensures lanes { AllGoOn (views D.Drive (lanes_of self.old)) (views D.Drive (lanes_of self.new)) }
         ensures out { (k : ℕ) (d : D) → IsBitSet (numbers_of self.old).set.out k → slice_index_or (lanes_of self.new) k d ≡ slice_index_or (lanes_of self.old) k d }
         ensures numbers { numbers_of self.new ≡ numbers_of self.old }
         ensures holding { holding_of self.new ≡ holding_of self.old }
@@ -120,9 +118,8 @@ pub(crate) fn shown_names<D: Drive>(
     requires few { length lanes.old ≤ 16 }
     ensures asked { IfOk result (λ shown. LanesAreAsked D.count out shown.whys lanes.old lanes.new) }
     ensures names { IfOk result (λ shown. AreShownNames D.tells D.files from.now most shown.whys lanes.old (map string_bytes shown.names.items)) }
-    ensures files { (k : ℕ) (d : D) → k < length lanes.old → IsTrue (D.tells (slice_index_or lanes.old k d)) → D.files (slice_index_or lanes.new k d) ≡ D.files (slice_index_or lanes.old k d) }
-    ensures tells { (k : ℕ) (d : D) → k < length lanes.old → D.tells (slice_index_or lanes.new k d) ≡ D.tells (slice_index_or lanes.old k d) }
-    ensures counts { (k : ℕ) (d : D) → k < length lanes.old → D.count (slice_index_or lanes.old k d) ≤ D.count (slice_index_or lanes.new k d) }
+    ensures files { FilesStay D.Drive lanes.old lanes.new }
+    ensures lanes { AllGoOn (views D.Drive lanes.old) (views D.Drive lanes.new) }
     ensures out { (k : ℕ) (d : D) → IsBitSet out k → slice_index_or lanes.new k d ≡ slice_index_or lanes.old k d }
 {
     let mut gathered = BTreeMap::new(alloc);
@@ -145,11 +142,10 @@ fn ask_lane<D: Drive>(
     most: u32,
     gathered: &mut BTreeMap<String, ()>,
 ) -> Result<Why, NoMemory>
-    ensures asks { IfOk result (λ why. AsksLane D.tells D.files D.count (IsTrue is_out) from.now most why
+    ensures asks { IfOk result (λ why. AsksLane D.Drive (IsTrue is_out) from.now most why
         (λ name. IsSome (get_by_text gathered.old name)) (λ name. IsSome (get_by_text gathered.new name)) lane.old lane.new) }
     ensures files { IsTrue (D.tells lane.old) → D.files lane.new ≡ D.files lane.old }
-    ensures tells { D.tells lane.new ≡ D.tells lane.old }
-    ensures count { D.count lane.old ≤ D.count lane.new }
+    ensures goes_on { GoesOn (view D.Drive lane.old) (view D.Drive lane.new) }
     ensures alone { IsTrue is_out → lane.new ≡ lane.old }
 {
     if is_out {

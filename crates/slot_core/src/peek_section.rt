@@ -1,7 +1,6 @@
 //! The section that looks at a register.
 
 ghost use Rattle.std.specs.Prelude.{◌≡◌, ◌+◌, ◌<◌, ◌≤◌, ◌^◌, length, ◌*◌, IfOk};
-ghost use Rattle.register_core.specs.Loops.{CountsRise, TellsStay};
 ghost use Rattle.slot_rules.specs.Rules.{IsRegisterName, is_bucket_name};
 ghost use Rattle.slot_core.specs.Causes.{PeekCause};
 ghost use Rattle.slot_core.specs.Numbers.{Draws};
@@ -11,7 +10,7 @@ ghost use Rattle.slot_core.specs.Sections.{SaysKept, ShowsContent};
 ghost use Rattle.slot_core.specs.Stubs.{Says, completed_by};
 ghost use Rattle.slot_core.specs.Turns.{Leaves, Turns};
 ghost use Rattle.slot_core.specs.Views.{audit_of, holding_of, lanes_of, numbers_of};
-ghost use Rattle.drive_base.specs.View.{AllOnlyRead, views};
+ghost use Rattle.drive_base.specs.View.{AllGoOn, AllOnlyRead, views};
 ghost use Rattle.drive_base.specs.declared.drive.TheConstants.{LONGEST_NAME};
 ghost use Rattle.register_core.specs.Found.{content_of};
 ghost use Rattle.slot_data.specs.Holding.{Holding};
@@ -46,10 +45,9 @@ impl<D: Drive, A: Audit> Slot<D, A> {
         ensures holds { holding_of self.new ≡ holding_of self.old }
         ensures leaves { Leaves D.tells D.files (numbers_of self.old) (numbers_of self.new) (holding_of self.old) (holding_of self.new)
             (lanes_of self.old) (lanes_of self.new) result.stub (ShowsContent name.now result.answer) HandsStay }
-        ensures cause { PeekCause D.tells D.files D.count (numbers_of self.old) (numbers_of self.new) name.now result.answer (completed_by result.stub)
+        ensures cause { PeekCause D.Drive (numbers_of self.old) (numbers_of self.new) name.now result.answer (completed_by result.stub)
             (lanes_of self.old) (lanes_of self.new) disks.old disks.new }
-        ensures tells { TellsStay D.tells D.files D.count (lanes_of self.old) (lanes_of self.new) }
-        ensures counts { CountsRise D.tells D.files D.count (lanes_of self.old) (lanes_of self.new) }
+        ensures lanes { AllGoOn (views D.Drive (lanes_of self.old)) (views D.Drive (lanes_of self.new)) }
         ensures disks_read { AllOnlyRead (views D.Drive disks.old) (views D.Drive disks.new) }
     {
         let site = self.site;
@@ -131,10 +129,9 @@ fn peek_register<D: Drive>(
     requires named { IsRegisterName name.now }
     requires short { length name.now ≤ LONGEST_NAME }
     ensures leaves { LookLeaves D.tells D.files site.now drawn.old drawn.new name.now result lanes.old lanes.new }
-    ensures calls { PeekCalls D.tells D.files D.count (numbers_at site.now drawn.old) (numbers_at site.now drawn.new) name.now result
+    ensures calls { PeekCalls D.Drive (numbers_at site.now drawn.old) (numbers_at site.now drawn.new) name.now result
         lanes.old lanes.new disks.old disks.new }
-    ensures tells { TellsStay D.tells D.files D.count lanes.old lanes.new }
-    ensures counts { CountsRise D.tells D.files D.count lanes.old lanes.new }
+    ensures lanes { AllGoOn (views D.Drive lanes.old) (views D.Drive lanes.new) }
     ensures disks_read { AllOnlyRead (views D.Drive disks.old) (views D.Drive disks.new) }
     ensures draws { Draws 1 32 drawn.old drawn.new }
 {
@@ -179,10 +176,9 @@ pub(crate) fn peek_at<D: Drive, A: Audit>(
     ensures says { Says result.stub (SaysKept name.now) }
     ensures leaves { (holding : Holding) → Leaves D.tells D.files (numbers_at site.now drawn.old) (numbers_at site.now drawn.new) holding holding
         lanes.old lanes.new result.stub (ShowsContent name.now result.answer) HandsStay }
-    ensures cause { PeekCause D.tells D.files D.count (numbers_at site.now drawn.old) (numbers_at site.now drawn.new) name.now result.answer (completed_by result.stub)
+    ensures cause { PeekCause D.Drive (numbers_at site.now drawn.old) (numbers_at site.now drawn.new) name.now result.answer (completed_by result.stub)
         lanes.old lanes.new disks.old disks.new }
-    ensures tells { TellsStay D.tells D.files D.count lanes.old lanes.new }
-    ensures counts { CountsRise D.tells D.files D.count lanes.old lanes.new }
+    ensures lanes { AllGoOn (views D.Drive lanes.old) (views D.Drive lanes.new) }
     ensures disks_read { AllOnlyRead (views D.Drive disks.old) (views D.Drive disks.new) }
     ensures draws { Draws 1 32 drawn.old drawn.new }
 {

@@ -1,7 +1,6 @@
 //! The section that begins a read of a key.
 
 ghost use Rattle.std.specs.Prelude.{◌≡◌, ◌+◌, ◌<◌, ◌≤◌, ◌^◌, IsUtf8, length, ◌*◌, IfOk, OnOk, string_bytes, vec_capacity, vec_len};
-ghost use Rattle.register_core.specs.Loops.{CountsRise, TellsStay};
 ghost use Rattle.slot_history.specs.Names.{key_name};
 ghost use Rattle.slot_core.specs.Numbers.{Draws};
 ghost use Rattle.slot_core.specs.Deeds.{MayLook};
@@ -12,9 +11,8 @@ ghost use Rattle.slot_core.specs.Sections.{ReadHolds, SaysRead, ShowsNoMore};
 ghost use Rattle.slot_core.specs.Stubs.{Says, completed_by};
 ghost use Rattle.slot_core.specs.Turns.{Leaves, Turns};
 ghost use Rattle.slot_core.specs.Views.{audit_of, holding_of, lanes_of, numbers_of};
-ghost use Rattle.drive_base.specs.View.{AllOnlyRead, views};
+ghost use Rattle.drive_base.specs.View.{AllGoOn, AllOnlyRead, views};
 ghost use Rattle.drive_base.specs.declared.drive.TheConstants.{LONGEST_NAME};
-ghost use Rattle.register_caller.specs.Steps.{FilesStay};
 ghost use Rattle.audit_trail.specs.Entries.{with_entry};
 ghost use Rattle.slot_core.specs.RegisterLook.{FirstFits};
 ghost use Rattle.slot_core.specs.PeekSection.{TurnsAt};
@@ -63,10 +61,9 @@ impl<D: Drive, A: Audit> Slot<D, A> {
         ensures holds { ReadHolds (numbers_of self.old) at.now result.answer (holding_of self.old) (holding_of self.new) }
         ensures leaves { Leaves D.tells D.files (numbers_of self.old) (numbers_of self.new) (holding_of self.old) (holding_of self.new)
             (lanes_of self.old) (lanes_of self.new) result.stub ShowsNoMore HandsStay }
-        ensures cause { ReadCause D.tells D.files D.count (numbers_of self.old) (numbers_of self.new) at.now pick.now result.answer (completed_by result.stub)
+        ensures cause { ReadCause D.Drive (numbers_of self.old) (numbers_of self.new) at.now pick.now result.answer (completed_by result.stub)
             (lanes_of self.old) (lanes_of self.new) disks.old disks.new }
-        ensures tells { TellsStay D.tells D.files D.count (lanes_of self.old) (lanes_of self.new) }
-        ensures counts { CountsRise D.tells D.files D.count (lanes_of self.old) (lanes_of self.new) }
+        ensures lanes { AllGoOn (views D.Drive (lanes_of self.old)) (views D.Drive (lanes_of self.new)) }
         ensures disks_read { AllOnlyRead (views D.Drive disks.old) (views D.Drive disks.new) }
     {
         let site = self.site;
@@ -119,11 +116,9 @@ fn look_and_plan<D: Drive>(
     requires named { name.now ≡ key_name at.now }
     requires short { length name.now ≤ LONGEST_NAME }
     requires seq { drawn.now.seq + 1 < 2 ^ 62 }
-    ensures looks { LooksForRead D.tells D.files D.count ask.now.site drawn.now name.now at.now ask.now.mode ask.now.pick result lanes.old lanes.new disks.old disks.new }
+    ensures looks { LooksForRead D.Drive ask.now.site drawn.now name.now at.now ask.now.mode ask.now.pick result lanes.old lanes.new disks.old disks.new }
     ensures fits { IfOk result (λ planned. FirstFits ask.now.site.set planned.ready.first) }
-    ensures files { FilesStay D.tells D.files D.count lanes.old lanes.new }
-    ensures tells { TellsStay D.tells D.files D.count lanes.old lanes.new }
-    ensures counts { CountsRise D.tells D.files D.count lanes.old lanes.new }
+    ensures lanes_read { AllOnlyRead (views D.Drive lanes.old) (views D.Drive lanes.new) }
     ensures disks_read { AllOnlyRead (views D.Drive disks.old) (views D.Drive disks.new) }
 {
     let mut rule = KeyRule {
@@ -168,9 +163,8 @@ fn read_register<D: Drive>(
     requires named { name.now ≡ key_name at.now }
     requires short { length name.now ≤ LONGEST_NAME }
     ensures leaves { ReadLeaves D.tells D.files ask.now drawn.old drawn.new at.now result lanes.old lanes.new }
-    ensures calls { ReadCalls D.tells D.files D.count ask.now drawn.old drawn.new at.now result lanes.old lanes.new disks.old disks.new }
-    ensures tells { TellsStay D.tells D.files D.count lanes.old lanes.new }
-    ensures counts { CountsRise D.tells D.files D.count lanes.old lanes.new }
+    ensures calls { ReadCalls D.Drive ask.now drawn.old drawn.new at.now result lanes.old lanes.new disks.old disks.new }
+    ensures lanes { AllGoOn (views D.Drive lanes.old) (views D.Drive lanes.new) }
     ensures disks_read { AllOnlyRead (views D.Drive disks.old) (views D.Drive disks.new) }
     ensures draws { Draws 1 32 drawn.old drawn.new }
 {
@@ -196,9 +190,8 @@ fn finish_planned<D: Drive>(
     requires fits { FirstFits site.now.set ready.old.first }
     requires seq { drawn.old.seq + 1 < 2 ^ 64 }
     requires room { drawn.old.count + 2 * site.now.set.drives < 2 ^ 64 }
-    ensures finishes { FinishesPlan D.tells D.files D.count site.now drawn.old drawn.new name.now (record { ready = ready.old; plan = plan }) result lanes.old lanes.new }
-    ensures tells { TellsStay D.tells D.files D.count lanes.old lanes.new }
-    ensures counts { CountsRise D.tells D.files D.count lanes.old lanes.new }
+    ensures finishes { FinishesPlan D.Drive site.now drawn.old drawn.new name.now (record { ready = ready.old; plan = plan }) result lanes.old lanes.new }
+    ensures lanes { AllGoOn (views D.Drive lanes.old) (views D.Drive lanes.new) }
     ensures draws { Draws 1 (2 * site.now.set.drives) drawn.old drawn.new }
 {
     match forward(lanes, site, name, ready, drawn) {
@@ -285,10 +278,9 @@ pub(crate) fn read_at<D: Drive, A: Audit>(
     ensures says { Says result.stub (SaysRead at.now ask.now.mode ask.now.pick result.answer) }
     ensures pins { PinIsListed ask.now.site.turns at.now result.answer pins.old.items pins.new.items }
     ensures leaves { BegunLeaves D.tells D.files ask.now drawn.old drawn.new at.now result lanes.old lanes.new }
-    ensures cause { ReadCause D.tells D.files D.count (numbers_at ask.now.site drawn.old) (numbers_at ask.now.site drawn.new) at.now ask.now.pick result.answer (completed_by result.stub)
+    ensures cause { ReadCause D.Drive (numbers_at ask.now.site drawn.old) (numbers_at ask.now.site drawn.new) at.now ask.now.pick result.answer (completed_by result.stub)
         lanes.old lanes.new disks.old disks.new }
-    ensures tells { TellsStay D.tells D.files D.count lanes.old lanes.new }
-    ensures counts { CountsRise D.tells D.files D.count lanes.old lanes.new }
+    ensures lanes { AllGoOn (views D.Drive lanes.old) (views D.Drive lanes.new) }
     ensures disks_read { AllOnlyRead (views D.Drive disks.old) (views D.Drive disks.new) }
     ensures draws { Draws 1 32 drawn.old drawn.new }
 {

@@ -1,12 +1,10 @@
 //! A look at a register, and the completion of what it finds pending.
 
 ghost use Rattle.std.specs.Prelude.{◌≡◌, ◌+◌, ◌*◌, ◌<◌, ◌≤◌, ◌^◌, IfOk, Option, None, Some, length};
-ghost use Rattle.register_core.specs.Loops.{CountsRise, TellsStay};
-ghost use Rattle.register_caller.specs.Steps.{FilesStay};
 ghost use Rattle.slot_core.specs.Numbers.{Draws};
 ghost use Rattle.slot_core.specs.RegisterLook.{CallsForward, FirstFits, GoesOnReading, LooksAt, late_of};
 ghost use Rattle.slot_core.specs.Settlement.{SettlesAfter};
-ghost use Rattle.drive_base.specs.View.{AllOnlyRead, views};
+ghost use Rattle.drive_base.specs.View.{AllGoOn, AllOnlyRead, views};
 ghost use Rattle.drive_base.specs.declared.drive.TheConstants.{LONGEST_NAME};
 
 use drive_base::Drive;
@@ -32,14 +30,12 @@ pub(crate) fn look_at<D: Drive, R: ContentRule>(
     requires disks { length disks.old ≡ site.now.set.drives }
     requires named { length name.now ≤ LONGEST_NAME }
     requires seq { drawn.now.seq + 1 < 2 ^ 62 }
-    ensures looks { LooksAt D.tells D.files D.count site.now drawn.now name.now (R.fault_in rule.old) (R.most_bytes rule.old) result lanes.old lanes.new disks.old disks.new }
+    ensures looks { LooksAt D.Drive site.now drawn.now name.now (R.fault_in rule.old) (R.most_bytes rule.old) result lanes.old lanes.new disks.old disks.new }
     ensures fits { IfOk result (λ ready. FirstFits site.now.set ready.first) }
     ensures read { GoesOnReading (R.has_read rule.new) result }
     ensures rule { R.fault_in rule.new ≡ R.fault_in rule.old }
     ensures most { R.most_bytes rule.new ≡ R.most_bytes rule.old }
-    ensures files { FilesStay D.tells D.files D.count lanes.old lanes.new }
-    ensures tells { TellsStay D.tells D.files D.count lanes.old lanes.new }
-    ensures counts { CountsRise D.tells D.files D.count lanes.old lanes.new }
+    ensures lanes_read { AllOnlyRead (views D.Drive lanes.old) (views D.Drive lanes.new) }
     ensures disks_read { AllOnlyRead (views D.Drive disks.old) (views D.Drive disks.new) }
 {
     let looked = match look(alloc, lanes, disks, site.set.out, site.set, name, rule) {
@@ -83,11 +79,10 @@ pub(crate) fn forward<D: Drive>(
     requires fits { FirstFits site.now.set ready.old.first }
     requires seq { drawn.old.seq + 1 < 2 ^ 64 }
     requires room { drawn.old.count + 2 * site.now.set.drives < 2 ^ 64 }
-    ensures settles { SettlesAfter D.tells D.files D.count site.now drawn.old drawn.new name.now ready.old result lanes.old lanes.new }
+    ensures settles { SettlesAfter D.Drive site.now drawn.old drawn.new name.now ready.old result lanes.old lanes.new }
     ensures late { IfOk result (λ late. late ≡ late_of ready.old.first) }
-    ensures calls { CallsForward D.tells D.files D.count site.now drawn.old drawn.new ready.old.first result lanes.old lanes.new }
-    ensures tells { TellsStay D.tells D.files D.count lanes.old lanes.new }
-    ensures counts { CountsRise D.tells D.files D.count lanes.old lanes.new }
+    ensures calls { CallsForward D.Drive site.now drawn.old drawn.new ready.old.first result lanes.old lanes.new }
+    ensures lanes { AllGoOn (views D.Drive lanes.old) (views D.Drive lanes.new) }
     ensures looked { ready.new.looked ≡ ready.old.looked }
     ensures draws { Draws 1 (2 * site.now.set.drives) drawn.old drawn.new }
 {

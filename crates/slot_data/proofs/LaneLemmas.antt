@@ -14,7 +14,7 @@ use Rattle.slot_history.specs.Sections.{IsOnItsWay}
 use Rattle.slot_history.specs.Standing.{Flying, IsAdded, Records}
 use Rattle.slot_history.specs.State.{Changes, IsNew, Register, State, Waiting}
 use Rattle.slot_history.specs.Waiting.{IsLate}
-use Rattle.register_caller.specs.Leaving.{LeavesLanes, Written}
+use Rattle.register_caller.specs.WrittenLanes.{LeavesLanes, Written}
 use Rattle.slot_history.specs.Writing.{WritesUnder}
 use Rattle.slot_history.proofs.TakenLemmas.{left_distinct, left_there, none_there}
 use Rattle.slot_data.specs.Bringing.{BringsData, GoOn, IsBrought, IsGone, MayEndOne, with_gone}

@@ -8,7 +8,7 @@ use Rattle.vote_core.specs.Sound.{HoldsValue, IsLive}
 use Rattle.slot_history.specs.Contents.{HasOpen, NamedData, NamesData, NamesId}
 use Rattle.slot_history.specs.Standing.{Records}
 use Rattle.slot_history.specs.State.{IsHeld, State}
-use Rattle.register_caller.specs.Leaving.{IsWritten, LeavesLanes, Written}
+use Rattle.register_caller.specs.WrittenLanes.{IsWritten, LeavesLanes, Written}
 use Rattle.slot_history.specs.Writing.{WritesUnder}
 use Rattle.slot_history.proofs.TakenLemmas.{none_there}
 use Rattle.slot_data.specs.Disks.{Disks}

@@ -13,7 +13,7 @@ use Rattle.slot_history.specs.Laws.{with_waiting}
 use Rattle.slot_history.specs.Names.{key_name, part_name}
 use Rattle.slot_history.specs.Standing.{Flying, IsAdded, Records}
 use Rattle.slot_history.specs.State.{Changes, IsHeld, Register, State, blank}
-use Rattle.register_caller.specs.Leaving.{IsWritten, LeavesLanes, WasLive, Written}
+use Rattle.register_caller.specs.WrittenLanes.{IsWritten, LeavesLanes, WasLive, Written}
 use Rattle.slot_history.specs.Writing.{WritesUnder}
 use Rattle.slot_data.specs.Disks.{Disks}
 use Rattle.slot_data.specs.Holding.{Hands, Holding}

@@ -7,7 +7,7 @@ use Rattle.slot_history.specs.Contents.{NamedData, NamesData, NamesId}
 use Rattle.slot_history.specs.Names.{key_name}
 use Rattle.slot_history.specs.Standing.{Flying, IsAdded}
 use Rattle.slot_history.specs.State.{TakesOut}
-use Rattle.register_caller.specs.Leaving.{Written}
+use Rattle.register_caller.specs.WrittenLanes.{Written}
 use Rattle.slot_data.specs.Holding.{Hands, Holding, IsInFlight, Known}
 use Rattle.slot_data.specs.Standing.{AddsAreNamed, IsListed}
 

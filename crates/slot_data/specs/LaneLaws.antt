@@ -15,7 +15,7 @@ use Rattle.slot_history.specs.Sections.{IsOnItsWay}
 use Rattle.slot_history.specs.Standing.{Flying, Records}
 use Rattle.slot_history.specs.State.{IsHeld, IsNew, State, Waiting}
 use Rattle.slot_history.specs.Waiting.{IsLate}
-use Rattle.register_caller.specs.Leaving.{LeavesLanes, Written}
+use Rattle.register_caller.specs.WrittenLanes.{LeavesLanes, Written}
 use Rattle.slot_history.specs.Writing.{WritesUnder}
 use Rattle.slot_data.specs.Bringing.{BringsData, GoOn, IsGone, MayEndOne, with_gone}
 use Rattle.slot_data.specs.Disks.{Disks}

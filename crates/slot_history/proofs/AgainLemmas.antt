@@ -12,7 +12,7 @@ use Rattle.slot_history.specs.Sections.{IsOnItsWay}
 use Rattle.slot_history.specs.Standing.{IsAdded, IsLawfulUnder, IsSpent, Stands}
 use Rattle.slot_history.specs.State.{Changes, IsHeld, Register, State, Waiting}
 use Rattle.slot_history.specs.Waiting.{IsLate, register_of}
-use Rattle.register_caller.specs.Leaving.{IsWritten, LeavesLanes, WasLive}
+use Rattle.register_caller.specs.WrittenLanes.{IsWritten, LeavesLanes, WasLive}
 use Rattle.slot_history.specs.Writing.{WritesUnder}
 use Rattle.slot_history.proofs.LawfulLemmas.{late_lawful}
 use Rattle.slot_history.proofs.MemberLemmas.{taken_after, taken_before, takes_out}

@@ -8,7 +8,7 @@ use Rattle.slot_history.specs.Laws.{IsMade, MadeIsLate, OnlyTheOld, OnlyTheOldOr
 use Rattle.slot_history.specs.Standing.{Flying, IsSpent, Stands}
 use Rattle.slot_history.specs.State.{IsNew, State, Waiting}
 use Rattle.slot_history.specs.Waiting.{IsLawful, OpensItsOwn}
-use Rattle.register_caller.specs.Leaving.{IsWritten, LeavesLanes, WasLive, Written}
+use Rattle.register_caller.specs.WrittenLanes.{IsWritten, LeavesLanes, WasLive, Written}
 use Rattle.slot_history.specs.Writing.{WritesUnder}
 use Rattle.slot_history.proofs.LawfulLemmas.{late_lawful}
 use Rattle.slot_history.proofs.MemberLemmas.{all_images, cons_cases, head_there, tail_there}

@@ -9,7 +9,7 @@ use Rattle.slot_history.specs.Sections.{IsOnItsWay}
 use Rattle.slot_history.specs.Standing.{IsAdded, IsSpent, Stands, StandsUnder, WaitsAs}
 use Rattle.slot_history.specs.State.{State, Waiting}
 use Rattle.slot_history.specs.Waiting.{IsLawful}
-use Rattle.register_caller.specs.Leaving.{IsWritten, WasLive}
+use Rattle.register_caller.specs.WrittenLanes.{IsWritten, WasLive}
 use Rattle.slot_history.proofs.StandLemmas.{under_still}
 use Rattle.slot_history.proofs.WroteLemmas.{Setting, Wrote, stood, lanes_after, lawful_after, uploads_after, way_elsewhere}
 

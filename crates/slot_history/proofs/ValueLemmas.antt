@@ -10,7 +10,7 @@ use Rattle.slot_history.specs.Laws.{OnlyTheOld, ValueStands}
 use Rattle.slot_history.specs.Names.{part_name}
 use Rattle.slot_history.specs.Standing.{IsLawfulUnder, IsSpent, Stands}
 use Rattle.slot_history.specs.State.{IsHeld, Waiting}
-use Rattle.register_caller.specs.Leaving.{IsWritten, LeavesLanes, WasLive}
+use Rattle.register_caller.specs.WrittenLanes.{IsWritten, LeavesLanes, WasLive}
 use Rattle.slot_history.specs.Writing.{WritesUnder}
 use Rattle.slot_history.proofs.NameLemmas.{bucket_not_part, key_not_part, part_names_tell}
 use Rattle.slot_history.proofs.StandLemmas.{spent_later}

@@ -9,7 +9,7 @@ use Rattle.slot_history.specs.Names.{key_name, part_name}
 use Rattle.slot_history.specs.Sections.{IsOnItsWay}
 use Rattle.slot_history.specs.Standing.{AreBlank, Flying, IsAdded, IsLawfulUnder, IsSpent, Records, Stands}
 use Rattle.slot_history.specs.State.{IsHeld, Register, State, Waiting}
-use Rattle.register_caller.specs.Leaving.{LeavesLanes, Written}
+use Rattle.register_caller.specs.WrittenLanes.{LeavesLanes, Written}
 use Rattle.slot_history.specs.Writing.{WritesUnder}
 use Rattle.slot_history.proofs.MemberLemmas.{same_or_other}
 use Rattle.slot_history.proofs.StandLemmas.{lawful_still}

@@ -6,7 +6,7 @@ use Rattle.slot_history.specs.Contents.{HasOpen, IsContentOf, NamedData, NamesDa
 use Rattle.slot_history.specs.Names.{key_name, part_name}
 use Rattle.slot_history.specs.Standing.{Flying, IsAdded, IsSpent}
 use Rattle.slot_history.specs.State.{IsHeld, State}
-use Rattle.register_caller.specs.Leaving.{Written}
+use Rattle.register_caller.specs.WrittenLanes.{Written}
 
 -- one flight ends: it was listed, and no other flight has its number. The others go on
 pub record Ends (flights rest : List Flying) (number : ℕ) : Type 0 where

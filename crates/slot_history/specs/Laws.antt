@@ -15,7 +15,7 @@ use Rattle.slot_history.specs.Sections.{IsOnItsWay, SectionMoves}
 use Rattle.slot_history.specs.Standing.{Flying, Records, Stands}
 use Rattle.slot_history.specs.State.{Changes, IsHeld, IsNew, State, Waiting, no_state}
 use Rattle.slot_history.specs.Waiting.{IsLate, IsLawful}
-use Rattle.register_caller.specs.Leaving.{LeavesLanes, Written}
+use Rattle.register_caller.specs.WrittenLanes.{LeavesLanes, Written}
 use Rattle.slot_history.specs.Writing.{WritesUnder}
 
 -- names are of one kind

@@ -9,7 +9,7 @@ use Rattle.register_file.specs.declared.record.Next.{Next}
 use Rattle.register_core.specs.Drafts.{IsDraftAfterDraft, IsDraftAfterLook}
 use Rattle.register_core.specs.Found.{content_of}
 use Rattle.register_core.specs.declared.drafts.Draft.{Draft}
-use Rattle.register_core.specs.declared.looked.Looked.{Looked}
+use Rattle.register_core.specs.declared.looks.Looked.{Looked}
 use Rattle.slot_rules.specs.Deeds.{call_of, name_of}
 use Rattle.slot_rules.specs.Planning.{DoesOver, adds_of}
 use Rattle.slot_rules.specs.declared.commit.Commit.{Commit}

@@ -16,7 +16,7 @@ use crate::ready::Ready;
 use crate::site::{Drawn, Site};
 use call_types::Act;
 use fault_base::NoMemory;
-use register_core::{Draft, draft, draft_after};
+use register_core::{Draft, draft_after, draft_change};
 use register_file::{Adds, Next};
 use seal_file::Bytes;
 use stamp_id::{Ballot, ChangeId, VersionId};
@@ -149,7 +149,7 @@ fn draft_own(alloc: Global, ready: &Ready, own: &Next) -> Result<Draft, NoMemory
     ensures { IfOk result (λ draft. IsOwnDraft ready.now.looked ready.now.first own.now draft) }
 {
     match &ready.first {
-        None => draft(alloc, &ready.looked, own),
+        None => draft_change(alloc, &ready.looked, own),
         Some(first) => draft_after(alloc, first, own),
     }
 }

@@ -18,7 +18,7 @@ use Rattle.store_shared.specs.Striking.{StruckIsTroubled}
 use Rattle.store_shared.proofs.OrderLemmas.{seen_at, some_of}
 
 module _ {D T : Type 0} (ghosts : Ghosts D) (befalls : T → D → Bool → D → Type 0) (index : ℕ) (trouble : T) (old new : List D) (struck : Bool)
-    (strikes : Strikes ghosts.tells ghosts.files ghosts.count befalls index trouble old struck new) where
+    (strikes : Strikes ghosts befalls index trouble old struck new) where
   -- of drives of which one was struck each is troubled, or as it was
   drive_troubled : (k : ℕ) (d : D) → IsTroubled (view ghosts (slice_index_or old k d)) (view ghosts (slice_index_or new k d))
   drive_troubled k d = dite (ℕ_discrete k index)

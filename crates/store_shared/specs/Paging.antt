@@ -3,8 +3,8 @@ use Rattle.std.specs.Prelude.{◌≡◌, ◌⊎◌, ℕ, ◌≤◌, List, None, 
 use Rattle.std.specs.Int.{IsBitSet}
 use Rattle.audit_trail.specs.declared.entry.Entry.{Entry}
 use Rattle.drive_base.specs.declared.drive.Drive.{Ghosts}
-use Rattle.register_caller.specs.Steps.{FilesStay}
-use Rattle.register_core.specs.Loops.{CountsRise, TellsStay}
+use Rattle.drive_base.specs.View.{AllGoOn, views}
+use Rattle.slot_core.specs.LanesStay.{FilesStay}
 use Rattle.slot_core.specs.Hands.{HandsStay}
 use Rattle.slot_core.specs.NameList.{ListsNames, SaysNothing, ShowsNames}
 use Rattle.slot_core.specs.Stubs.{Says}
@@ -25,10 +25,9 @@ module _ {D A : Type 0} (ghosts : Ghosts D) (entries : A → Option (List Entry)
     pub holds : holding_of now ≡ holding_of was
     pub leaves : Leaves ghosts.tells ghosts.files (numbers_of was) (numbers_of now) (holding_of was) (holding_of now) (lanes_of was) (lanes_of now) stub
         (ShowsNames from most answer) HandsStay
-    pub lists : ListsNames ghosts.tells ghosts.files ghosts.count (numbers_of was).set from most answer (lanes_of was) (lanes_of now)
-    pub files : FilesStay ghosts.tells ghosts.files ghosts.count (lanes_of was) (lanes_of now)
-    pub tells : TellsStay ghosts.tells ghosts.files ghosts.count (lanes_of was) (lanes_of now)
-    pub counts : CountsRise ghosts.tells ghosts.files ghosts.count (lanes_of was) (lanes_of now)
+    pub lists : ListsNames ghosts (numbers_of was).set from most answer (lanes_of was) (lanes_of now)
+    pub files : FilesStay ghosts (lanes_of was) (lanes_of now)
+    pub lanes : AllGoOn (views ghosts (lanes_of was)) (views ghosts (lanes_of now))
     pub out : (k : ℕ) (d : D) → IsBitSet (numbers_of was).set.out k → slice_index_or (lanes_of now) k d ≡ slice_index_or (lanes_of was) k d
 
   -- one slot of a store did so, and the others stay

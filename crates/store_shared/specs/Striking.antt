@@ -18,7 +18,7 @@ module _ {D T : Type 0} (ghosts : Ghosts D) (befalls : T → D → Bool → D �
     pub trouble : T
     pub first : place ≡ 0 → trouble ≡ given
     pub struck : Bool
-    pub strikes : Strikes ghosts.tells ghosts.files ghosts.count befalls index trouble (lanes_of was) struck (lanes_of now)
+    pub strikes : Strikes ghosts befalls index trouble (lanes_of was) struck (lanes_of now)
     pub numbers : numbers_of now ≡ numbers_of was
     pub holding : holding_of now ≡ holding_of was
     pub audit : audit_of now ≡ audit_of was
@@ -31,7 +31,7 @@ module _ {D T : Type 0} (ghosts : Ghosts D) (befalls : T → D → Bool → D �
   -- a trouble befell one data drive, of which no call was made, and the others stay
   pub record DiskIsStruck (index : ℕ) (struck : Bool) (old new : List D) : Type 0 where
     pub trouble : T
-    pub strikes : Strikes ghosts.tells ghosts.files ghosts.count befalls index trouble old struck new
+    pub strikes : Strikes ghosts befalls index trouble old struck new
     pub trail : (d : D) → ghosts.trail (slice_index_or new index d) ≡ ghosts.trail (slice_index_or old index d)
 
 module _ {D A T : Type 0} (ghosts : Ghosts D) (entries : A → Option (List Entry)) (count : A → ℕ) (befalls : T → D → Bool → D → Type 0) where

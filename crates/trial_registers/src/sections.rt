@@ -13,7 +13,7 @@ use file_access::write_file;
 use manifest_file::{KIND, print_of, read};
 use register_caller::{draft_again, write_both};
 use register_core::{
-    ContentFault, ContentRule, Draft, Looked, QuorumFault, draft, draft_after, look,
+    ContentFault, ContentRule, Draft, Looked, QuorumFault, draft_after, draft_change, look,
 };
 use register_file::{Adds, Base, Next};
 use seal_file::{Bytes, seal};
@@ -200,7 +200,7 @@ impl World {
                 return Err(NoAnswer);
             }
             let next = next_over(alloc, &looked.base, change, ballot, adds, content)?;
-            return Ok(draft(alloc, looked, &next)?);
+            return Ok(draft_change(alloc, looked, &next)?);
         };
         if first.value.content.len() >= 100 || first.longest < 100 {
             return Err(NoAnswer);

@@ -1,4 +1,4 @@
-use Rattle.std.proofs.Common.{rules, ◌≡◌, ◌<◌, ◌≤◌, ◌+◌, ◌∙◌, ◌++◌, ◌∷◌, [], ℕ, List, length, slice_index_or, slice_set, arith, ap, subst, sym, get_or-set_other, get_or-set_same}
+use Rattle.std.proofs.Common.{rules, ◌≡◌, ◌<◌, ◌+◌, ◌∙◌, ◌++◌, ◌∷◌, [], ℕ, List, length, slice_index_or, slice_set, arith, ap, subst, sym, get_or-set_other, get_or-set_same}
 use Rattle.std.specs.Prelude.{IsTrue, Option, Some, None}
 use Rattle.std.specs.Int.{IsBitSet}
 use Rattle.std.proofs.lemmas.List.{get_or_default, length-set, length-append}
@@ -6,10 +6,13 @@ use Rattle.call_types.specs.declared.why.FileKind.TheVariants.{Format}
 use Rattle.call_types.specs.declared.why.Why.{Why}
 use Rattle.call_types.specs.declared.why.Why.TheVariants.{Good, Lacks}
 use Rattle.register_file.specs.declared.record.RegFile.{RegFile}
-use Rattle.register_core.specs.Loops.{letter_at}
+use Rattle.drive_base.specs.View.{OnlyRead, view}
+use Rattle.drive_base.proofs.ViewLemmas.{at_each_view}
+use Rattle.register_core.specs.LaneWrites.{letter_at}
 use Rattle.register_core.specs.Found.{found_at}
-use Rattle.register_core.specs.Looking.{LaneIsRead}
+use Rattle.register_core.specs.Looks.{LaneIsRead}
 use Rattle.file_access.proofs.EachLemmas.{AreGoodFrom, found_more, good_after, set_each}
+use Rattle.register_core.proofs.EachLemmas.{only_read_more}
 use Rattle.register_core.proofs.ReadLemmas.{out_same, read_err, read_ok}
 use Rattle.register_core.proofs.SeenLemmas.{letters_on}
 use Rattle.register_core.proofs.lanes.read_lanes.Goals as goal
@@ -81,12 +84,8 @@ loop-index-preserved g c =
       ];
       stay = set_each T (λ (k : ℕ) (a b : T). IsBitSet c.args.out k → b ≡ a) old now i x low
           (λ d bit. c.read_lane.ensures.alone (c.is_out.ensures.1 bit) ∙ was d) inv.stay;
-      files = set_each T (λ (k : ℕ) (a b : T). IsTrue (D.tells a) → D.files b ≡ D.files a) old now i x low
-          (λ d. subst (λ (a : T). IsTrue (D.tells a) → D.files x ≡ D.files a) (was d) c.read_lane.ensures.files) inv.files;
-      tells = set_each T (λ (k : ℕ) (a b : T). D.tells b ≡ D.tells a) old now i x low
-          (λ d. subst (λ (a : T). D.tells x ≡ D.tells a) (was d) c.read_lane.ensures.tells) inv.tells;
-      counts = set_each T (λ (k : ℕ) (a b : T). D.count a ≤ D.count b) old now i x low
-          (λ d. subst (λ (a : T). D.count a ≤ D.count x) (was d) c.read_lane.ensures.count) inv.counts;
+      read = set_each T (λ (k : ℕ) (a b : T). OnlyRead (view D a) (view D b)) old now i x low
+          (λ d. subst (λ (a : T). OnlyRead (view D a) (view D x)) (was d) c.read_lane.ensures.read) inv.read;
       others = search rules;
     }
 
@@ -104,7 +103,38 @@ returns-clause-read g c =
     record {
       counted = counted;
       lettered = inv.long;
-      on = letters_on D.tells D.files D.count c.args.out c.args.most c.args.name.now c.loop-index.files.items c.loop-index.whys old c.loop-index.lanes counted inv.long each;
+      on = letters_on D c.args.out c.args.most c.args.name.now c.loop-index.files.items c.loop-index.whys old c.loop-index.lanes counted inv.long each;
       each = each;
       stay = inv.stay;
     }
+
+pub returns-clause-lanes_read : goal.returns-clause-lanes_read
+returns-clause-lanes_read g c =
+    at_each_view g.D.Drive (λ k. OnlyRead) c.args.lanes.now c.loop-index.lanes c.loop-index.auto.lanes (λ k d within. c.loop-index.invariant.read k d)
+
+pub returns-in-Err-NoMemory-clause-lanes_read : goal.returns-in-Err-NoMemory-clause-lanes_read
+returns-in-Err-NoMemory-clause-lanes_read g c =
+    let D = g.D.Drive in
+    let now = c.loop-index.lanes in
+    let inv = c.loop-index.invariant in
+    only_read_more D c.args.lanes.now now c.loop-index.index c.read_lane.new.lane c.loop-index.auto.lanes (omega arith)
+    (λ d. subst (λ (a : g.row.D.Denot). OnlyRead (view D a) (view D c.read_lane.new.lane))
+    (get_or_default now c.loop-index.index c.index-lanes-index.result d (omega arith) ∙ inv.others c.loop-index.index d (omega arith)) c.read_lane.ensures.read) inv.read
+
+pub returns-in_err-push-in-Ok-clause-lanes_read : goal.returns-in_err-push-in-Ok-clause-lanes_read
+returns-in_err-push-in-Ok-clause-lanes_read g c =
+    let D = g.D.Drive in
+    let now = c.loop-index.lanes in
+    let inv = c.loop-index.invariant in
+    only_read_more D c.args.lanes.now now c.loop-index.index c.read_lane.new.lane c.loop-index.auto.lanes (omega arith)
+    (λ d. subst (λ (a : g.row.D.Denot). OnlyRead (view D a) (view D c.read_lane.new.lane))
+    (get_or_default now c.loop-index.index c.index-lanes-index.result d (omega arith) ∙ inv.others c.loop-index.index d (omega arith)) c.read_lane.ensures.read) inv.read
+
+pub returns-in_err-push-in-Err-Because-clause-lanes_read : goal.returns-in_err-push-in-Err-Because-clause-lanes_read
+returns-in_err-push-in-Err-Because-clause-lanes_read g c =
+    let D = g.D.Drive in
+    let now = c.loop-index.lanes in
+    let inv = c.loop-index.invariant in
+    only_read_more D c.args.lanes.now now c.loop-index.index c.read_lane.new.lane c.loop-index.auto.lanes (omega arith)
+    (λ d. subst (λ (a : g.row.D.Denot). OnlyRead (view D a) (view D c.read_lane.new.lane))
+    (get_or_default now c.loop-index.index c.index-lanes-index.result d (omega arith) ∙ inv.others c.loop-index.index d (omega arith)) c.read_lane.ensures.read) inv.read

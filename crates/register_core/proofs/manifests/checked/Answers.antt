@@ -2,7 +2,7 @@ use Rattle.std.proofs.Common.{◌≤◌, ℕ, ap, refl, inr, subst, arith}
 use Rattle.std.specs.Prelude.{Bool}
 use Rattle.seal_file.specs.declared.damage.Damage.TheVariants.{Spelling}
 use Rattle.manifest_file.specs.declared.manifest.TheConstants.{LONGEST_FILE}
-use Rattle.register_core.specs.ManifestSteps.{TellsOf}
+use Rattle.register_core.specs.Manifests.{TellsOf}
 use Rattle.register_core.proofs.ManifestLemmas.{length-file_of}
 use Rattle.register_core.proofs.manifests.checked.Goals as goal
 

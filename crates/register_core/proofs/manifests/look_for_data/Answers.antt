@@ -5,10 +5,10 @@ use Rattle.drive_base.specs.View.{OnlyRead, view}
 use Rattle.drive_base.proofs.ViewLemmas.{at_each_view}
 use Rattle.call_types.specs.declared.why.Why.{Why}
 use Rattle.call_types.specs.declared.why.Why.TheVariants.{Good}
-use Rattle.register_core.specs.Loops.{letter_at}
+use Rattle.register_core.specs.LaneWrites.{letter_at}
 use Rattle.register_core.specs.Manifests.{ManifestLetter}
 use Rattle.file_access.proofs.EachLemmas.{AreGoodFrom, good_after, set_each}
-use Rattle.register_core.proofs.EachLemmas.{letters_more, letters_same}
+use Rattle.register_core.proofs.EachLemmas.{letters_more, letters_same, only_read_more}
 use Rattle.register_core.proofs.ManifestLemmas.{letter_err, letter_ok}
 use Rattle.register_core.proofs.manifests.look_for_data.Goals as goal
 use Rattle.register_core.proofs.manifests.look_for_data.Goals.{in-Ok, in-Err-Because}
@@ -79,10 +79,8 @@ returns-in-Err-NoMemory-clause-disks_read g c =
     let low : i < length now = omega arith in
     let was : (d : T) → slice_index_or now i c.disk-item.result ≡ slice_index_or old i d =
     (λ d. get_or_default now i c.disk-item.result d low ∙ inv.others i d (omega arith)) in
-    let each : (k : ℕ) (d : T) → OnlyRead (view D (slice_index_or old k d)) (view D (slice_index_or (slice_set now i x) k d)) =
-    set_each T (λ (k : ℕ) (a b : T). OnlyRead (view D a) (view D b)) old now i x low
-    (λ d. subst (λ (a : T). OnlyRead (view D a) (view D x)) (was d) c.manifest_on.ensures.read) inv.read in
-    at_each_view D (λ k. OnlyRead) old (slice_set now i x) (length-set now i x ∙ c.loop-disk.auto.disks) (λ k d within. each k d)
+    only_read_more D old now i x c.loop-disk.auto.disks low
+    (λ d. subst (λ (a : T). OnlyRead (view D a) (view D x)) (was d) c.manifest_on.ensures.read) inv.read
 
 pub returns-clause-disks_read : goal.returns-clause-disks_read
 returns-clause-disks_read g c =

@@ -1,7 +1,7 @@
 use Rattle.std.proofs.Common.{◌≡◌, ◌<◌, ◌≤◌, ℕ, length, slice_index_or}
 use Rattle.std.specs.Int.{IsBitSet}
 use Rattle.drive_base.specs.View.{OnlyRead, view}
-use Rattle.register_core.specs.Loops.{letter_at}
+use Rattle.register_core.specs.LaneWrites.{letter_at}
 use Rattle.register_core.specs.Manifests.{ManifestLetter}
 use Rattle.file_access.proofs.EachLemmas.{AreGoodFrom}
 use Rattle.register_core.proofs.manifests.look_for_data.Given as goal

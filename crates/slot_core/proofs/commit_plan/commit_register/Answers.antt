@@ -1,7 +1,6 @@
 use Rattle.std.proofs.Common.{◌∙◌, ℕ, List, Option, Err, subst, sym, refl, inl, arith}
 use Rattle.stamp_id.specs.declared.version.VersionId.{VersionId}
 use Rattle.register_core.specs.Found.{content_of}
-use Rattle.register_caller.proofs.StepLemmas.{tells_twice}
 use Rattle.slot_rules.specs.Deeds.{name_of}
 use Rattle.slot_rules.specs.DeedRules.{deed_fault, deed_most}
 use Rattle.slot_rules.specs.declared.site.Drawn.{Drawn}
@@ -11,6 +10,7 @@ use Rattle.slot_core.specs.CommitPlan.{CommitLeaves}
 use Rattle.slot_core.specs.RegisterLook.{LooksAt}
 use Rattle.slot_core.specs.Settlement.{IsReady, numbers_at}
 use Rattle.slot_core.specs.declared.commit_write.Outcome.{Outcome}
+use Rattle.slot_core.proofs.LanesStayLemmas.{files_stay, goes_after_read, read_goes_on, tells_stay}
 use Rattle.slot_core.proofs.CarryOutLemmas.{gone_none}
 use Rattle.slot_core.proofs.CommitCauseLemmas.{finish_cause, look_refused}
 use Rattle.slot_core.proofs.FinishLemmas.{deed_most_is, deed_rule, id_drawn, kept_cases, lacks_leaves, look_leaves, read_for, ready_fits}
@@ -29,9 +29,9 @@ returns-in-Err-clause-leaves g c =
     let new : List T = c.look_at.new.lanes in
     let laws : LandLaws = record { ends = c.resting_laws.ensures.end; given_up = c.flight_laws.ensures.given_up; trash = c.hands_laws.ensures.trash; freed = c.hands_laws.ensures.freed } in
     kept_cases (λ (o : Outcome). CommitLeaves {D = T} D.tells D.files site drawn drawn deed c.args.ask.now.put o trash trash old new) c.in-Err.fault c.kept.result c.kept.ensures
-    (λ other. look_leaves {D = T} D.tells D.files D.count laws site drawn deed c.args.ask.now.put c.in-Err.fault trash trash old new (omega (arith, c.look_at.auto.lanes)) c.in-Err.ensures.files
-    c.in-Err.ensures.tells refl)
-    (lacks_leaves {D = T} D.tells D.files D.count laws site drawn deed c.args.ask.now.put trash trash old new (omega (arith, c.look_at.auto.lanes)) c.in-Err.ensures.files c.in-Err.ensures.tells refl)
+    (λ other. look_leaves {D = T} D laws site drawn deed c.args.ask.now.put c.in-Err.fault trash trash old new (omega (arith, c.look_at.auto.lanes)) (files_stay g.D.Drive c.args.lanes.now c.look_at.new.lanes c.in-Err.ensures.lanes_read)
+    (tells_stay g.D.Drive c.args.lanes.now c.look_at.new.lanes c.in-Err.ensures.lanes_read) refl)
+    (lacks_leaves {D = T} D laws site drawn deed c.args.ask.now.put trash trash old new (omega (arith, c.look_at.auto.lanes)) (files_stay g.D.Drive c.args.lanes.now c.look_at.new.lanes c.in-Err.ensures.lanes_read) (tells_stay g.D.Drive c.args.lanes.now c.look_at.new.lanes c.in-Err.ensures.lanes_read) refl)
 
 pub returns-in-Err-clause-told : goal.returns-in-Err-clause-told
 returns-in-Err-clause-told g c =
@@ -48,23 +48,23 @@ returns-in-Err-clause-cause g c =
     let drawn : Drawn = c.args.drawn.now in
     let deed = c.args.deed.now in
     let rule : List ℕ → Option ℕ = λ (content : List ℕ). deed_fault c.rule_of_deed-rule.result content in
-    let looks = subst (λ (n : List ℕ). LooksAt {D = T} D.tells D.files D.count site drawn n rule (deed_most c.rule_of_deed-rule.result) (Err c.in-Err.fault) c.args.lanes.now c.look_at.new.lanes
+    let looks = subst (λ (n : List ℕ). LooksAt {D = T} D site drawn n rule (deed_most c.rule_of_deed-rule.result) (Err c.in-Err.fault) c.args.lanes.now c.look_at.new.lanes
     c.args.disks.now c.look_at.new.disks) (sym c.requires.named) c.in-Err.ensures.looks in
-    kept_cases (λ (o : Outcome). CommitCause {D = T} D.tells D.files D.count (numbers_at site drawn) (numbers_at site drawn) deed c.args.ask.now.put c.args.ask.now.moment (answer_told o) (deed_told o) c.args.lanes.now
+    kept_cases (λ (o : Outcome). CommitCause {D = T} D (numbers_at site drawn) (numbers_at site drawn) deed c.args.ask.now.put c.args.ask.now.moment (answer_told o) (deed_told o) c.args.lanes.now
     c.look_at.new.lanes c.args.disks.now c.look_at.new.disks) c.in-Err.fault c.kept.result c.kept.ensures
     (λ other. (
       other,
-      inl (look_refused {D = T} D.tells D.files D.count site drawn deed c.args.ask.now.put rule (deed_most c.rule_of_deed-rule.result) c.in-Err.fault c.args.lanes.now c.look_at.new.lanes c.args.disks.now
+      inl (look_refused {D = T} D site drawn deed c.args.ask.now.put rule (deed_most c.rule_of_deed-rule.result) c.in-Err.fault c.args.lanes.now c.look_at.new.lanes c.args.disks.now
           c.look_at.new.disks (deed_rule site drawn deed c.args.ask.now.put c.own_ids-ids.result c.rule_of_deed-rule.result c.rule_of_deed-rule.ensures c.own_ids-ids.ensures.alone c.own_ids-ids.ensures.after) looks),
     ))
-    c.in-Err.ensures.files
+    (files_stay g.D.Drive c.args.lanes.now c.look_at.new.lanes c.in-Err.ensures.lanes_read)
 
 pub returns-in-Err-plan_deed-clause-leaves : goal.returns-in-Err-plan_deed-clause-leaves
 returns-in-Err-plan_deed-clause-leaves g c =
     let D = g.D.Drive in
     let laws : LandLaws = record { ends = c.resting_laws.ensures.end; given_up = c.flight_laws.ensures.given_up; trash = c.hands_laws.ensures.trash; freed = c.hands_laws.ensures.freed } in
-    lacks_leaves {D = g.row.D.Denot} D.tells D.files D.count laws c.args.ask.now.site c.args.drawn.now c.args.deed.now c.args.ask.now.put c.args.trash.now.items c.args.trash.now.items c.args.lanes.now
-    c.look_at.new.lanes (omega (arith, c.look_at.auto.lanes)) c.in-Ok.ensures.files c.in-Ok.ensures.tells refl
+    lacks_leaves {D = g.row.D.Denot} D laws c.args.ask.now.site c.args.drawn.now c.args.deed.now c.args.ask.now.put c.args.trash.now.items c.args.trash.now.items c.args.lanes.now
+    c.look_at.new.lanes (omega (arith, c.look_at.auto.lanes)) (files_stay g.D.Drive c.args.lanes.now c.look_at.new.lanes c.in-Ok.ensures.lanes_read) (tells_stay g.D.Drive c.args.lanes.now c.look_at.new.lanes c.in-Ok.ensures.lanes_read) refl
 
 pub plan_deed-requires-clause-of_deed : goal.plan_deed-requires-clause-of_deed
 plan_deed-requires-clause-of_deed g c =
@@ -90,10 +90,10 @@ finish-requires-clause-work g c =
     let rule = c.rule_of_deed-rule.result in
     let ready = c.in-Ok.ready in
     let content : List ℕ = content_of ready.looked.base ready.looked.pending in
-    let looks = subst (λ (n : List ℕ). IsReady {D = T} D.tells D.files D.count site drawn n (λ (content : List ℕ). deed_fault rule content) (deed_most rule) ready c.args.lanes.now
+    let looks = subst (λ (n : List ℕ). IsReady {D = T} D site drawn n (λ (content : List ℕ). deed_fault rule content) (deed_most rule) ready c.args.lanes.now
     c.look_at.new.lanes c.args.disks.now c.look_at.new.disks) (sym c.requires.named) c.in-Ok.ensures.looks in
     record {
-      fits = ready_fits {D = T} D.tells D.files D.count site drawn (name_of deed) (λ (content : List ℕ). deed_fault rule content) (deed_most rule) ready c.args.lanes.now
+      fits = ready_fits {D = T} D site drawn (name_of deed) (λ (content : List ℕ). deed_fault rule content) (deed_most rule) ready c.args.lanes.now
           c.look_at.new.lanes c.args.disks.now c.look_at.new.disks deed c.in-Ok.ensures.fits c.requires.may.lanes c.requires.may.short
           (sym (deed_most_is deed ids.result rule c.rule_of_deed-rule.ensures)) looks;
       id_is = id_drawn site drawn.seq c.args.ask.now.put ids.result ready.first c.id_over-id.result c.id_over-id.ensures ids.ensures.alone ids.ensures.after;
@@ -107,25 +107,33 @@ returns-clause-leaves g c =
     let T : Type 0 = g.row.D.Denot in
     let D = g.D.Drive in
     let rule : List ℕ → Option ℕ = λ (content : List ℕ). deed_fault c.rule_of_deed-rule.result content in
-    let ready = subst (λ (n : List ℕ). IsReady {D = T} D.tells D.files D.count c.args.ask.now.site c.args.drawn.now n rule (deed_most c.rule_of_deed-rule.result) c.in-Ok.ready c.args.lanes.now c.look_at.new.lanes
+    let ready = subst (λ (n : List ℕ). IsReady {D = T} D c.args.ask.now.site c.args.drawn.now n rule (deed_most c.rule_of_deed-rule.result) c.in-Ok.ready c.args.lanes.now c.look_at.new.lanes
     c.args.disks.now c.look_at.new.disks) (sym c.requires.named) c.in-Ok.ensures.looks in
-    c.finish.ensures.leaves rule (deed_most c.rule_of_deed-rule.result) c.args.lanes.now c.args.disks.now c.look_at.new.disks ready (omega (arith, c.look_at.auto.lanes)) c.in-Ok.ensures.files c.in-Ok.ensures.tells
+    c.finish.ensures.leaves rule (deed_most c.rule_of_deed-rule.result) c.args.lanes.now c.args.disks.now c.look_at.new.disks ready (omega (arith, c.look_at.auto.lanes)) (files_stay g.D.Drive c.args.lanes.now c.look_at.new.lanes c.in-Ok.ensures.lanes_read) (tells_stay g.D.Drive c.args.lanes.now c.look_at.new.lanes c.in-Ok.ensures.lanes_read)
 
 pub returns-clause-cause : goal.returns-clause-cause
 returns-clause-cause g c =
     let T : Type 0 = g.row.D.Denot in
     let D = g.D.Drive in
     let rule : List ℕ → Option ℕ = λ (content : List ℕ). deed_fault c.rule_of_deed-rule.result content in
-    let ready = subst (λ (n : List ℕ). IsReady {D = T} D.tells D.files D.count c.args.ask.now.site c.args.drawn.now n rule (deed_most c.rule_of_deed-rule.result) c.in-Ok.ready c.args.lanes.now c.look_at.new.lanes
+    let ready = subst (λ (n : List ℕ). IsReady {D = T} D c.args.ask.now.site c.args.drawn.now n rule (deed_most c.rule_of_deed-rule.result) c.in-Ok.ready c.args.lanes.now c.look_at.new.lanes
     c.args.disks.now c.look_at.new.disks) (sym c.requires.named) c.in-Ok.ensures.looks in
     let drawn : Drawn = c.args.drawn.now in
     let site = c.args.ask.now.site in
     let deed = c.args.deed.now in
-    finish_cause {D = T} D.tells D.files D.count site drawn c.finish.new.drawn c.in-Ok.ready deed c.args.ask.now.put c.args.ask.now.moment rule (deed_most c.rule_of_deed-rule.result) c.args.lanes.now
-    c.look_at.new.lanes c.finish.new.lanes c.args.disks.now c.look_at.new.disks (deed_rule site drawn deed c.args.ask.now.put c.own_ids-ids.result c.rule_of_deed-rule.result c.rule_of_deed-rule.ensures c.own_ids-ids.ensures.alone c.own_ids-ids.ensures.after) ready c.in-Ok.ensures.files
-    (omega (arith, c.look_at.auto.lanes)) c.in-Ok.ensures.tells c.finish.result c.finish.ensures.calls
+    finish_cause {D = T} D site drawn c.finish.new.drawn c.in-Ok.ready deed c.args.ask.now.put c.args.ask.now.moment rule (deed_most c.rule_of_deed-rule.result) c.args.lanes.now
+    c.look_at.new.lanes c.finish.new.lanes c.args.disks.now c.look_at.new.disks (deed_rule site drawn deed c.args.ask.now.put c.own_ids-ids.result c.rule_of_deed-rule.result c.rule_of_deed-rule.ensures c.own_ids-ids.ensures.alone c.own_ids-ids.ensures.after) ready (files_stay g.D.Drive c.args.lanes.now c.look_at.new.lanes c.in-Ok.ensures.lanes_read)
+    (omega (arith, c.look_at.auto.lanes)) (tells_stay g.D.Drive c.args.lanes.now c.look_at.new.lanes c.in-Ok.ensures.lanes_read) c.finish.result c.finish.ensures.calls
 
-pub returns-clause-tells : goal.returns-clause-tells
-returns-clause-tells g c =
-    tells_twice g.D.Drive.tells g.D.Drive.files g.D.Drive.count c.args.lanes.now c.look_at.new.lanes c.finish.new.lanes (omega (arith, c.look_at.auto.lanes))
-    c.in-Ok.ensures.tells c.finish.ensures.tells
+pub returns-clause-lanes : goal.returns-clause-lanes
+returns-clause-lanes g c =
+    goes_after_read g.D.Drive c.args.lanes.now c.look_at.new.lanes c.finish.new.lanes c.in-Ok.ensures.lanes_read c.finish.ensures.lanes
+
+pub returns-in-Err-plan_deed-clause-cause : goal.returns-in-Err-plan_deed-clause-cause
+returns-in-Err-plan_deed-clause-cause g c = files_stay g.D.Drive c.args.lanes.now c.look_at.new.lanes c.in-Ok.ensures.lanes_read
+
+pub returns-in-Err-plan_deed-clause-lanes : goal.returns-in-Err-plan_deed-clause-lanes
+returns-in-Err-plan_deed-clause-lanes g c = read_goes_on g.D.Drive c.args.lanes.now c.look_at.new.lanes c.in-Ok.ensures.lanes_read
+
+pub returns-in-Err-clause-lanes : goal.returns-in-Err-clause-lanes
+returns-in-Err-clause-lanes g c = read_goes_on g.D.Drive c.args.lanes.now c.look_at.new.lanes c.in-Err.ensures.lanes_read

@@ -13,14 +13,14 @@ pub returns-in-Err-clause-leaves : goal.returns-in-Err-clause-leaves
 returns-in-Err-clause-leaves g c rule longest old disks disks_after ready long stay told holding rest records state s lands fits was =
     let D = g.D.Drive in
     let laws : LandLaws = record { ends = c.resting_laws.ensures.end; given_up = c.flight_laws.ensures.given_up; trash = c.hands_laws.ensures.trash; freed = c.hands_laws.ensures.freed } in
-    lacks_leaves {D = g.row.D.Denot} D.tells D.files D.count laws c.args.ask.now.site c.args.drawn.now c.args.deed.now c.args.ask.now.put c.args.trash.now.items c.args.trash.now.items old c.args.lanes.now
+    lacks_leaves {D = g.row.D.Denot} D laws c.args.ask.now.site c.args.drawn.now c.args.deed.now c.args.ask.now.put c.args.trash.now.items c.args.trash.now.items old c.args.lanes.now
     long stay told refl holding rest records state s lands fits was
 
 pub returns-in-Err-make_room-clause-leaves : goal.returns-in-Err-make_room-clause-leaves
 returns-in-Err-make_room-clause-leaves g c rule longest old disks disks_after ready long stay told holding rest records state s lands fits was =
     let D = g.D.Drive in
     let laws : LandLaws = record { ends = c.resting_laws.ensures.end; given_up = c.flight_laws.ensures.given_up; trash = c.hands_laws.ensures.trash; freed = c.hands_laws.ensures.freed } in
-    lacks_leaves {D = g.row.D.Denot} D.tells D.files D.count laws c.args.ask.now.site c.args.drawn.now c.args.deed.now c.args.ask.now.put c.args.trash.now.items c.make_room.new.trash.items old
+    lacks_leaves {D = g.row.D.Denot} D laws c.args.ask.now.site c.args.drawn.now c.args.deed.now c.args.ask.now.put c.args.trash.now.items c.make_room.new.trash.items old
     c.args.lanes.now long stay told c.make_room.ensures.items holding rest records state s lands fits was
 
 pub carry_out-requires-clause-plan : goal.carry_out-requires-clause-plan

@@ -27,14 +27,14 @@ returns-in-Err-clause-leaves g c holding rest lands fits was =
     let D = g.D.Drive in
     let trash = c.args.trash.now.items in
     let laws : LandLaws = record { ends = c.resting_laws.ensures.end; given_up = c.flight_laws.ensures.given_up; trash = c.hands_laws.ensures.trash; freed = c.hands_laws.ensures.freed } in
-    lost_leaves {D = T} D.tells D.files D.count laws c.args.ask.now.site c.args.drawn.now c.args.deed.now c.args.ask.now.put trash trash c.args.lanes.now c.unreserved.result.stub
+    lost_leaves {D = T} D laws c.args.ask.now.site c.args.drawn.now c.args.deed.now c.args.ask.now.put trash trash c.args.lanes.now c.unreserved.result.stub
     (ShowsTrash c.args.deed.now c.unreserved.result.answer trash trash) holding rest (lost_entry c.args.ask.now.site c.in-Err.why c.unreserved.result c.unreserved.ensures) lands was refl
 
 pub returns-in-Err-clause-cause : goal.returns-in-Err-clause-cause
 returns-in-Err-clause-cause g c =
     let T : Type 0 = g.row.D.Denot in
     let D = g.D.Drive in
-    lost_cause {D = T} D.tells D.files D.count (numbers_at c.args.ask.now.site c.args.drawn.now) (numbers_at c.args.ask.now.site c.args.drawn.now) c.args.deed.now c.args.ask.now.put c.args.ask.now.moment
+    lost_cause {D = T} D (numbers_at c.args.ask.now.site c.args.drawn.now) (numbers_at c.args.ask.now.site c.args.drawn.now) c.args.deed.now c.args.ask.now.put c.args.ask.now.moment
     c.args.ask.now.site c.in-Err.why c.unreserved.result (deed_in (entry_of c.unreserved.result.stub)) c.args.lanes.now c.args.disks.now c.args.disks.now c.unreserved.ensures
 
 pub returns-in-Err-clause-gone : goal.returns-in-Err-clause-gone
@@ -73,7 +73,7 @@ returns-clause-leaves g c holding rest lands fits was =
     let D = g.D.Drive in
     let outcome = c.commit_register-outcome.result in
     let new = c.commit_register-outcome.new in
-    outcome_leaves {D = T} D.tells D.files D.count c.args.ask.now.site c.args.drawn.now new.drawn c.args.deed.now c.args.ask.now.put outcome c.args.trash.now.items new.trash.items c.args.lanes.now new.lanes
+    outcome_leaves {D = T} D c.args.ask.now.site c.args.drawn.now new.drawn c.args.deed.now c.args.ask.now.put outcome c.args.trash.now.items new.trash.items c.args.lanes.now new.lanes
     c.conclude.result.answer c.conclude.result.stub holding rest c.conclude.ensures.answer
     (c.conclude.ensures.entry ∙ entry_is c.args.ask.now.site.turns (name_of c.args.deed.now) c.in-Ok.opening.entries.audit outcome c.in-Ok.ensures.opening.entries.audit_is)
     c.commit_register-outcome.ensures.leaves lands fits was
@@ -88,7 +88,7 @@ returns-clause-cause g c =
     let told : deed_in (entry_of c.conclude.result.stub) ≡ deed_told outcome =
     ap deed_in (c.conclude.ensures.entry ∙ entry_is c.args.ask.now.site.turns name c.in-Ok.opening.entries.audit outcome c.in-Ok.ensures.opening.entries.audit_is)
     ∙ told_deed c.args.ask.now.site.turns name outcome in
-    subst₂ (λ (a : Result Committed SlotFault) (d : Deed). CommitCause {D = T} D.tells D.files D.count (numbers_at c.args.ask.now.site c.args.drawn.now)
+    subst₂ (λ (a : Result Committed SlotFault) (d : Deed). CommitCause {D = T} D (numbers_at c.args.ask.now.site c.args.drawn.now)
     (numbers_at c.args.ask.now.site new.drawn) c.args.deed.now c.args.ask.now.put c.args.ask.now.moment a d c.args.lanes.now new.lanes c.args.disks.now new.disks)
     (sym c.conclude.ensures.answer) (sym told) c.commit_register-outcome.ensures.cause
 

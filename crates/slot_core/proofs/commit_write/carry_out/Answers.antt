@@ -1,4 +1,4 @@
-use Rattle.std.proofs.Common.{◌+◌, ℕ, List, Option, None, Ok, Err, ap, subst, sym, refl, inl, arith}
+use Rattle.std.proofs.Common.{◌+◌, ℕ, List, Option, None, Ok, Err, ap, subst, sym, refl, inl}
 use Rattle.audit_trail.specs.declared.entry.Deed.TheVariants.{Done as DoneDeed, Kept as KeptDeed}
 use Rattle.audit_trail.specs.declared.entry.Entry.{Entry}
 use Rattle.stamp_id.specs.declared.version.VersionId.{VersionId}
@@ -14,7 +14,7 @@ use Rattle.slot_core.specs.CommitOutcome.{EntryLeaves, answer_of, answer_told, d
 use Rattle.slot_core.specs.Commits.{MayCommitData, ShowsTrash}
 use Rattle.slot_core.specs.Settlement.{SettledOn, SettlesAfter, numbers_at}
 use Rattle.slot_core.specs.declared.commit_write.Outcome.TheVariants.{Done, Kept}
-use Rattle.register_caller.proofs.StepLemmas.{tells_twice}
+use Rattle.slot_core.proofs.LanesStayLemmas.{goes_twice}
 use Rattle.slot_core.proofs.CarryLemmas.{entry_leaves, finds_leaves, kept_leaves}
 use Rattle.slot_core.proofs.CarryOutLemmas.{gone_none, mid_low, none_told, own_over, plan_fits, plan_none, plan_own, writes_calls, writes_entry, writes_told}
 use Rattle.slot_core.proofs.DeemingLemmas.{deed_named}
@@ -32,7 +32,7 @@ returns-in-Err-clause-leaves g c deed put now rule longest old disks disks_after
     let lanes : List T = c.forward.new.lanes in
     let trash : List VersionId = c.args.trash.now.items in
     let laws : LandLaws = record { ends = c.resting_laws.ensures.end; given_up = c.flight_laws.ensures.given_up; trash = c.hands_laws.ensures.trash; freed = c.hands_laws.ensures.freed } in
-    let settles = subst (λ (n : List ℕ). SettlesAfter {D = T} D.tells D.files D.count {E = QuorumFault} site drawn mid n c.args.ready (Err c.in-Err.fault) c.args.lanes.now lanes)
+    let settles = subst (λ (n : List ℕ). SettlesAfter {D = T} D {E = QuorumFault} site drawn mid n c.args.ready (Err c.in-Err.fault) c.args.lanes.now lanes)
     (sym named) c.in-Err.ensures.settles in
     let settled = settles rule longest old disks disks_after holding records state ready long stay tells_stay (deed_named deed) s in
     entry_leaves {D = T} D.tells D.files site drawn mid mid holding (kept_with holding rest trash) (name_of deed) None KeptDeed site.turns (λ after now. Unit {0}) lanes lanes
@@ -42,7 +42,7 @@ returns-in-Err-clause-leaves g c deed put now rule longest old disks disks_after
 pub returns-in-Err-clause-told : goal.returns-in-Err-clause-told
 returns-in-Err-clause-told g c deed put now plan =
     let D = g.D.Drive in
-    λ same. forward_has_memory D.tells D.files D.count c.args.site.now c.args.drawn.now c.forward.new.drawn c.args.ready.first c.in-Err.fault c.args.lanes.now c.forward.new.lanes
+    λ same. forward_has_memory D c.args.site.now c.args.drawn.now c.forward.new.drawn c.args.ready.first c.in-Err.fault c.args.lanes.now c.forward.new.lanes
     c.in-Err.ensures.calls same
 
 pub returns-in-Err-clause-gone : goal.returns-in-Err-clause-gone
@@ -63,7 +63,7 @@ returns-in-None-clause-leaves g c deed put now rule longest old disks disks_afte
     let content : List ℕ = content_of looked.base looked.pending in
     let tale = c.args.plan.tale in
     let laws : LandLaws = record { ends = c.resting_laws.ensures.end; given_up = c.flight_laws.ensures.given_up; trash = c.hands_laws.ensures.trash; freed = c.hands_laws.ensures.freed } in
-    let settles = subst (λ (n : List ℕ). SettlesAfter {D = T} D.tells D.files D.count {E = QuorumFault} site drawn mid n c.args.ready (Ok late) c.args.lanes.now lanes)
+    let settles = subst (λ (n : List ℕ). SettlesAfter {D = T} D {E = QuorumFault} site drawn mid n c.args.ready (Ok late) c.args.lanes.now lanes)
     (sym named) c.in-Ok.ensures.settles in
     let settled = settles rule longest old disks disks_after holding records state ready long stay tells_stay (deed_named deed) s in
     let none = plan_none site (drawn.seq + again_takes c.args.ready.first) c.args.ready deed put now c.args.plan c.in-None.is plan in
@@ -111,18 +111,18 @@ returns-clause-leaves g c deed put now rule longest old disks disks_after holdin
     let last : ℕ = drawn.seq + again_takes c.args.ready.first in
     let own = c.in-Some.own in
     let tale = c.args.plan.tale in
-    let settles = subst (λ (n : List ℕ). SettlesAfter {D = T} D.tells D.files D.count {E = QuorumFault} site drawn mid n c.args.ready (Ok late) c.args.lanes.now lanes)
+    let settles = subst (λ (n : List ℕ). SettlesAfter {D = T} D {E = QuorumFault} site drawn mid n c.args.ready (Ok late) c.args.lanes.now lanes)
     (sym named) c.in-Ok.ensures.settles in
     let settled = settles rule longest old disks disks_after holding records state ready long stay tells_stay (deed_named deed) s in
     let mine = plan_own site last c.args.ready deed put now c.args.plan own c.in-Some.is plan in
     let over = own_over site last c.args.ready deed put now tale.reply own ready.ballot ready.first ready.looks.named mine.is in
-    let low = mid_low {D = T} D.tells D.files D.count site drawn mid c.args.ready.first late c.args.lanes.now lanes c.in-Ok.ensures.draws.few_seq c.in-Ok.ensures.calls in
+    let low = mid_low {D = T} D site drawn mid c.args.ready.first late c.args.lanes.now lanes c.in-Ok.ensures.draws.few_seq c.in-Ok.ensures.calls in
     let gone = subst (λ (l : List VersionId). IsGoneBy deed content mine.is.next.content l) (sym c.deref.ensures.value) mine.gone in
     let leaves = c.write_own.ensures.leaves deed put now last base content mine.is.next holding rest settled.after settled.now low mine.tale over gone settled.stands settled.known
     lands fits was in
     subst (λ (e : Option Entry). EntryLeaves {D = T} D.tells D.files (numbers_at site drawn) (numbers_at site later) holding (kept_with holding rest trash_new) new e
     (λ before after. ShowsTrash deed (answer_told outcome) trash trash_new before after) (λ disks hands less. MayCommitData deed (kept_with holding rest trash_new) disks hands less) records state)
-    (writes_entry {D = T} D.tells D.files D.count site mid later own late tale outcome lanes new site.turns (name_of deed) c.write_own.ensures.calls)
+    (writes_entry {D = T} D site mid later own late tale outcome lanes new site.turns (name_of deed) c.write_own.ensures.calls)
     (entry_leaves {D = T} D.tells D.files site drawn mid later holding (kept_with holding rest trash_new) (name_of deed) late (deed_told outcome) site.turns
     (λ (after : Records) (now : State). SettledOn (name_of deed) base content late after now) lanes new
     (λ before after. ShowsTrash deed (answer_told outcome) trash trash_new before after) (λ disks hands less. MayCommitData deed (kept_with holding rest trash_new) disks hands less)
@@ -134,17 +134,16 @@ returns-clause-told g c deed put now plan =
     let D = g.D.Drive in
     let last : ℕ = c.args.drawn.now.seq + again_takes c.args.ready.first in
     let mine = plan_own c.args.site.now last c.args.ready deed put now c.args.plan c.in-Some.own c.in-Some.is plan in
-    writes_told {D = T} D.tells D.files D.count c.args.site.now c.forward.new.drawn c.write_own.new.drawn c.in-Some.own c.in-Ok.late c.args.plan.tale c.write_own.result c.forward.new.lanes
+    writes_told {D = T} D c.args.site.now c.forward.new.drawn c.write_own.new.drawn c.in-Some.own c.in-Ok.late c.args.plan.tale c.write_own.result c.forward.new.lanes
     c.write_own.new.lanes deed now mine.tale mine.served c.write_own.ensures.calls
 
 pub returns-clause-calls : goal.returns-clause-calls
 returns-clause-calls g c =
     let T : Type 0 = g.row.D.Denot in
     let D = g.D.Drive in
-    writes_calls {D = T} D.tells D.files D.count c.args.site.now c.args.drawn.now c.forward.new.drawn c.write_own.new.drawn c.args.ready.first c.args.plan c.in-Some.own c.in-Ok.late
+    writes_calls {D = T} D c.args.site.now c.args.drawn.now c.forward.new.drawn c.write_own.new.drawn c.args.ready.first c.args.plan c.in-Some.own c.in-Ok.late
     c.write_own.result c.args.lanes.now c.forward.new.lanes c.write_own.new.lanes c.in-Some.is c.write_own.ensures.seq c.in-Ok.ensures.calls c.write_own.ensures.calls
 
-pub returns-clause-tells : goal.returns-clause-tells
-returns-clause-tells g c =
-    tells_twice g.D.Drive.tells g.D.Drive.files g.D.Drive.count c.args.lanes.now c.forward.new.lanes c.write_own.new.lanes (omega (arith, c.forward.auto.lanes))
-    c.in-Ok.ensures.tells c.write_own.ensures.tells
+pub returns-clause-lanes : goal.returns-clause-lanes
+returns-clause-lanes g c =
+    goes_twice g.D.Drive c.args.lanes.now c.forward.new.lanes c.write_own.new.lanes c.in-Ok.ensures.lanes c.write_own.ensures.lanes

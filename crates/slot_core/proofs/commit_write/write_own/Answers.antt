@@ -2,11 +2,11 @@ use Rattle.std.proofs.Common.{ℕ, List, Ok, Err, subst, sym, refl, arith}
 use Rattle.call_types.specs.declared.why.Whys.{Whys}
 use Rattle.drive_base.specs.Plan.{write_drives}
 use Rattle.drive_base.specs.declared.plan.SetPlan.{SetPlan}
-use Rattle.register_core.specs.Loops.{KeepsDrives}
+use Rattle.register_core.specs.LaneWrites.{KeepsDrives}
 use Rattle.register_core.specs.OnLanes.{AreLanes}
 use Rattle.register_core.specs.Records.{base_of, next_of}
 use Rattle.register_core.specs.declared.faults.QuorumFault.{QuorumFault}
-use Rattle.register_caller.specs.Calling.{BothLeave}
+use Rattle.register_caller.specs.BothWrites.{BothLeave}
 use Rattle.slot_rules.specs.Deeds.{name_of}
 use Rattle.slot_rules.specs.declared.site.Drawn.{Drawn}
 use Rattle.slot_core.specs.Settlement.{numbers_at}
@@ -67,10 +67,10 @@ returns-in-Ok-clause-leaves g c deed put now last base content next holding rest
       waits = c.own_data_laws.ensures.waits;
       makes = c.own_data_laws.ensures.makes;
     } in
-    let have = have_after_write {D = T} D.tells D.files D.count (numbers_at site mid) later.seq later.count called c.args.lanes.now new records wrote.after
+    let have = have_after_write {D = T} D (numbers_at site mid) later.seq later.count called c.args.lanes.now new records wrote.after
     (omega (arith, c.write_both.auto.lanes)) s.have wrote.tell wrote.unused
     (subst (λ (n : List ℕ). AreLanes {D = T} D.files site.set.out n new wrote.after) is.name_is wrote.are)
-    (subst (λ (n : List ℕ). KeepsDrives {D = T} D.tells D.files D.count site.set.out n site.term mid.count later.count c.args.lanes.now new) is.name_is
+    (subst (λ (n : List ℕ). KeepsDrives {D = T} D site.set.out n site.term mid.count later.count c.args.lanes.now new) is.name_is
     (c.in-Ok.ensures.drives s.have.tell s.have.unused)) in
     let both : BothLeave {T = Whys} {E = QuorumFault} (write_drives site.set.drives site.set.parity) c.args.own.draft.letters (base_of base) (next_of next) (Ok c.in-Ok.field-0)
     (records called) wrote.after =
@@ -131,10 +131,10 @@ returns-clause-leaves g c deed put now last base content next holding rest recor
       waits = c.own_data_laws.ensures.waits;
       makes = c.own_data_laws.ensures.makes;
     } in
-    let have = have_after_write {D = T} D.tells D.files D.count (numbers_at site mid) later.seq later.count called c.args.lanes.now new records wrote.after
+    let have = have_after_write {D = T} D (numbers_at site mid) later.seq later.count called c.args.lanes.now new records wrote.after
     (omega (arith, c.write_both.auto.lanes)) s.have wrote.tell wrote.unused
     (subst (λ (n : List ℕ). AreLanes {D = T} D.files site.set.out n new wrote.after) is.name_is wrote.are)
-    (subst (λ (n : List ℕ). KeepsDrives {D = T} D.tells D.files D.count site.set.out n site.term mid.count later.count c.args.lanes.now new) is.name_is
+    (subst (λ (n : List ℕ). KeepsDrives {D = T} D site.set.out n site.term mid.count later.count c.args.lanes.now new) is.name_is
     (c.in-Err.ensures.drives s.have.tell s.have.unused)) in
     let both : BothLeave {T = Whys} {E = QuorumFault} (write_drives site.set.drives site.set.parity) c.args.own.draft.letters (base_of base) (next_of next) (Err c.in-Err.fault)
     (records called) wrote.after =

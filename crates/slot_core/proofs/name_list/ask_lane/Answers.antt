@@ -6,6 +6,6 @@ use Rattle.slot_core.proofs.name_list.ask_lane.Goals as goal
 
 pub returns-in_ok-gather-in-Ok-clause-asks : goal.returns-in_ok-gather-in-Ok-clause-asks
 returns-in_ok-gather-in-Ok-clause-asks g c =
-    asks_good g.D.Drive.tells g.D.Drive.files g.D.Drive.count (IsTrue c.args.is_out) c.args.from.now c.args.most (map string_bytes c.in-Ok.names.items)
+    asks_good g.D.Drive (IsTrue c.args.is_out) c.args.from.now c.args.most (map string_bytes c.in-Ok.names.items)
     (λ name. IsSome (get_by_text c.args.gathered.now name)) (λ name. IsSome (get_by_text c.gather.new.gathered name)) c.args.lane.now c.names.new.self
     (search rules) c.in-Ok.ensures.count c.in_ok-gather-in-Ok.ensures c.in-Ok.ensures.page (λ told. (c.in-Ok.ensures.files told).0)

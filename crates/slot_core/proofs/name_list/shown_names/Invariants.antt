@@ -2,7 +2,8 @@ use Rattle.std.proofs.Common.{◌≡◌, ◌<◌, ◌≤◌, ℕ, length, slice_
 use Rattle.std.specs.Prelude.{IsTrue, IsSome}
 use Rattle.std.specs.BTreeMap.{get_by_text}
 use Rattle.std.specs.Int.{IsBitSet}
-use Rattle.register_core.specs.Loops.{letter_at}
+use Rattle.drive_base.specs.View.{GoesOn, view}
+use Rattle.register_core.specs.LaneWrites.{letter_at}
 use Rattle.slot_core.specs.NamePages.{AreGathered}
 use Rattle.slot_core.specs.NameList.{NamesLetter}
 use Rattle.slot_core.proofs.name_list.shown_names.Given as goal
@@ -17,7 +18,6 @@ invariant-loop-index g l = let D = g.D.Drive in record {
   stay : (k : ℕ) (d : g.row.D.Denot) → IsBitSet l.out k → slice_index_or l.lanes k d ≡ slice_index_or l.initial.lanes k d;
   files : (k : ℕ) (d : g.row.D.Denot) → IsTrue (D.tells (slice_index_or l.initial.lanes k d))
       → D.files (slice_index_or l.lanes k d) ≡ D.files (slice_index_or l.initial.lanes k d);
-  tells : (k : ℕ) (d : g.row.D.Denot) → D.tells (slice_index_or l.lanes k d) ≡ D.tells (slice_index_or l.initial.lanes k d);
-  counts : (k : ℕ) (d : g.row.D.Denot) → D.count (slice_index_or l.initial.lanes k d) ≤ D.count (slice_index_or l.lanes k d);
+  goes_on : (k : ℕ) (d : g.row.D.Denot) → GoesOn (view D (slice_index_or l.initial.lanes k d)) (view D (slice_index_or l.lanes k d));
   others : (k : ℕ) (d : g.row.D.Denot) → l.index ≤ k → slice_index_or l.lanes k d ≡ slice_index_or l.initial.lanes k d;
 }

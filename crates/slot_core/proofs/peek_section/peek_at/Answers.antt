@@ -53,7 +53,7 @@ pub returns-in-Found-clause-cause : goal.returns-in-Found-clause-cause
 returns-in-Found-clause-cause g c =
     let D = g.D.Drive in
     let site = c.args.site.now in
-    told_cause D.tells D.files D.count (numbers_at site c.args.drawn.now) (numbers_at site c.peek_register.new.drawn) c.args.name.now (Ok c.in-Found.content) c.in-Found.late
+    told_cause D (numbers_at site c.args.drawn.now) (numbers_at site c.peek_register.new.drawn) c.args.name.now (Ok c.in-Found.content) c.in-Found.late
     (completed_by (Some c.write_down.result)) c.args.lanes.now c.peek_register.new.lanes c.args.disks.now c.peek_register.new.disks (ap late_in c.write_down.ensures.stub.entry_is)
     c.in-Found.ensures.calls
 

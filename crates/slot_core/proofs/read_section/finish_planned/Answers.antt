@@ -8,5 +8,5 @@ returns-in-Ok-clause-finishes g c = (refl, c.in-Ok.ensures.late, c.in-Ok.ensures
 pub returns-in-Err-clause-finishes : goal.returns-in-Err-clause-finishes
 returns-in-Err-clause-finishes g c =
     let D = g.D.Drive in
-    refusal_finishes D.tells D.files D.count c.args.site.now c.args.drawn.now c.forward.new.drawn c.args.name.now (record { ready = c.args.ready.now; plan = c.args.plan }) c.in-Err.fault c.refusal.result
+    refusal_finishes D c.args.site.now c.args.drawn.now c.forward.new.drawn c.args.name.now (record { ready = c.args.ready.now; plan = c.args.plan }) c.in-Err.fault c.refusal.result
     c.args.lanes.now c.forward.new.lanes c.refusal.ensures c.in-Err.ensures.settles c.in-Err.ensures.calls

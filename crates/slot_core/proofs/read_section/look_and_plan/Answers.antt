@@ -9,7 +9,7 @@ pub returns-in-Err-clause-looks : goal.returns-in-Err-clause-looks
 returns-in-Err-clause-looks g c =
     let D = g.D.Drive in
     let is : false ≡ is_bucket_name c.args.name.now = ap is_bucket_name (sym c.requires.named) in
-    λ other. look_cause D.tells D.files D.count c.args.ask.now.site c.args.drawn.now c.args.name.now false c.in-Err.fault c.args.lanes.now c.look_at.new.lanes
+    λ other. look_cause D c.args.ask.now.site c.args.drawn.now c.args.name.now false c.in-Err.fault c.args.lanes.now c.look_at.new.lanes
     c.args.disks.now c.look_at.new.disks is c.in-Err.ensures.looks
 
 pub returns-in-Ok-plan_read-clause-looks : goal.returns-in-Ok-plan_read-clause-looks
@@ -18,7 +18,7 @@ returns-in-Ok-plan_read-clause-looks g c =
     let is : false ≡ is_bucket_name c.args.name.now = ap is_bucket_name (sym c.requires.named) in
     let ready = c.in-Ok.ready in
     let rule = c.look_at.new.rule in (
-      ready_at D.tells D.files D.count c.args.ask.now.site c.args.drawn.now c.args.name.now false ready c.args.lanes.now c.look_at.new.lanes
+      ready_at D c.args.ask.now.site c.args.drawn.now c.args.name.now false ready c.args.lanes.now c.look_at.new.lanes
           c.args.disks.now c.look_at.new.disks is c.in-Ok.ensures.looks,
       record {
         state = c.in-Some.state;

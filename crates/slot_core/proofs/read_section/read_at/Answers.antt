@@ -48,7 +48,7 @@ pub returns-in-Found-clause-cause : goal.returns-in-Found-clause-cause
 returns-in-Found-clause-cause g c =
     let D = g.D.Drive in
     let site = c.args.ask.now.site in
-    begun_cause D.tells D.files D.count site (numbers_at site c.args.drawn.now) (numbers_at site c.read_register.new.drawn) c.args.at.now c.args.ask.now.mode c.args.ask.now.pick
+    begun_cause D site (numbers_at site c.args.drawn.now) (numbers_at site c.read_register.new.drawn) c.args.at.now c.args.ask.now.mode c.args.ask.now.pick
     c.in-Found.plan c.in-Found.late c.begin_planned.result c.prepare.new.pins.items c.begin_planned.new.pins.items c.args.lanes.now c.read_register.new.lanes
     c.args.disks.now c.read_register.new.disks c.begin_planned.ensures.begins c.in-Found.ensures.calls
 

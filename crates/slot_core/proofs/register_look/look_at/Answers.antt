@@ -2,6 +2,7 @@ use Rattle.std.proofs.Common.{◌+◌, ◌∙◌, Option, Some, subst, sym, refl
 use Rattle.stamp_id.specs.declared.stamp.Ballot.{Ballot}
 use Rattle.register_file.specs.declared.record.Next.{Next}
 use Rattle.slot_core.specs.Settlement.{FirstIs}
+use Rattle.slot_core.proofs.LanesStayLemmas.{files_stay}
 use Rattle.slot_core.proofs.CauseLemmas.{few_good, first_fits, first_is_none}
 use Rattle.slot_core.proofs.register_look.look_at.Goals as goal
 
@@ -10,10 +11,10 @@ returns-then-not-can_forward-clause-looks g c =
     let D = g.D.Drive in
     inr (record {
       looked = c.in-Ok.looked;
-      concluded = record { looks = c.in-Ok.ensures.outcome; stay = c.in-Ok.ensures.files };
+      concluded = record { looks = c.in-Ok.ensures.outcome; stay = files_stay D c.args.lanes.now c.look.new.lanes c.in-Ok.ensures.lanes_read };
       found = c.in-Some.field-0;
       pending = c.in-Some.is;
-      few = few_good D.tells D.files D.count c.args.site.now.set c.in-Ok.looked.set c.in-Ok.looked.whys c.can_forward.result c.in-Ok.ensures.outcome.plan c.can_forward.ensures
+      few = few_good D c.args.site.now.set c.in-Ok.looked.set c.in-Ok.looked.whys c.can_forward.result c.in-Ok.ensures.outcome.plan c.can_forward.ensures
           c.if-not-can_forward.true;
       letters = refl;
     })
@@ -32,7 +33,7 @@ returns-in-None-clause-looks g c =
       ballot = ballot;
       term = refl;
       seq = refl;
-      first = first_is_none D.tells D.files D.count c.in-Ok.looked c.in-Ok.looked.pending ballot c.in-None.is;
+      first = first_is_none D c.in-Ok.looked c.in-Ok.looked.pending ballot c.in-None.is;
     }
 
 pub returns-in-Ok-draft_again-clause-looks : goal.returns-in-Ok-draft_again-clause-looks
@@ -53,5 +54,5 @@ pub returns-in-Ok-draft_again-clause-fits : goal.returns-in-Ok-draft_again-claus
 returns-in-Ok-draft_again-clause-fits g c =
     let D = g.D.Drive in
     let looks = c.in-Ok.ensures.outcome in
-    first_fits D.tells D.files D.count c.args.site.now.set c.args.name.now c.in-Ok.looked c.in-Some.field-0 c.next_ballot.result c.in-Ok-draft_again.draft looks.plan looks.named
+    first_fits D c.args.site.now.set c.args.name.now c.in-Ok.looked c.in-Some.field-0 c.next_ballot.result c.in-Ok-draft_again.draft looks.plan looks.named
     c.requires.named (looks.read.lettered ∙ c.requires.lanes) c.in-Some.is (c.in-Ok-draft_again.ensures c.in-Some.field-0 c.in-Some.is)

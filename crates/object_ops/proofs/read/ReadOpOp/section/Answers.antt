@@ -54,7 +54,7 @@ returns-in-Beginning-clause-turns g c =
       read = read.disks_read;
     })
     read.says
-    (due_by D.tells D.files D.count (numbers_of c.args.slot.now) (numbers_of c.begin_read-turn.new.self) op.at mode op.pick turn.answer (completed_by turn.stub)
+    (due_by D (numbers_of c.args.slot.now) (numbers_of c.begin_read-turn.new.self) op.at mode op.pick turn.answer (completed_by turn.stub)
     (lanes_of c.args.slot.now) (lanes_of c.begin_read-turn.new.self) c.args.disks.now c.begin_read-turn.new.disks read.cause)
     c.started_of.ensures c.begun_of-begun.ensures.begins)
 

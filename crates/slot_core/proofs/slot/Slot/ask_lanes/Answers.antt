@@ -1,8 +1,9 @@
-use Rattle.std.proofs.Common.{rules, ◌≡◌, ◌<◌, ◌≤◌, ℕ, List, length, slice_index_or, sym}
+use Rattle.std.proofs.Common.{rules, ◌≡◌, ◌<◌, ℕ, List, length, slice_index_or, sym}
 use Rattle.std.specs.Prelude.{IfOk, IsTrue}
 use Rattle.std.specs.Int.{IsBitSet}
 use Rattle.std.specs.Vec.{with_items}
 use Rattle.std.proofs.lemmas.List.{with_items_is}
+use Rattle.drive_base.specs.View.{AllGoOn, views}
 use Rattle.slot_core.proofs.KeptLemmas.{on_lanes}
 use Rattle.slot_core.specs.NameList.{LanesAreAsked}
 use Rattle.slot_core.proofs.slot.Slot.ask_lanes.Goals as goal
@@ -27,17 +28,10 @@ returns-clause-files g c =
     → g.D.Drive.files (slice_index_or new k d) ≡ g.D.Drive.files (slice_index_or old k d))
     c.deref_mut.result.now c.args.self.now.lanes.items c.shown_names.new.lanes _ c.deref_mut.ensures.value (lanes_is g c) c.shown_names.ensures.files
 
-pub returns-clause-tells : goal.returns-clause-tells
-returns-clause-tells g c =
-    on_lanes (λ (old new : List g.row.D.Denot). (k : ℕ) (d : g.row.D.Denot) → k < length old
-    → g.D.Drive.tells (slice_index_or new k d) ≡ g.D.Drive.tells (slice_index_or old k d))
-    c.deref_mut.result.now c.args.self.now.lanes.items c.shown_names.new.lanes _ c.deref_mut.ensures.value (lanes_is g c) c.shown_names.ensures.tells
-
-pub returns-clause-counts : goal.returns-clause-counts
-returns-clause-counts g c =
-    on_lanes (λ (old new : List g.row.D.Denot). (k : ℕ) (d : g.row.D.Denot) → k < length old
-    → g.D.Drive.count (slice_index_or old k d) ≤ g.D.Drive.count (slice_index_or new k d))
-    c.deref_mut.result.now c.args.self.now.lanes.items c.shown_names.new.lanes _ c.deref_mut.ensures.value (lanes_is g c) c.shown_names.ensures.counts
+pub returns-clause-lanes : goal.returns-clause-lanes
+returns-clause-lanes g c =
+    on_lanes (λ (old new : List g.row.D.Denot). AllGoOn (views g.D.Drive old) (views g.D.Drive new))
+    c.deref_mut.result.now c.args.self.now.lanes.items c.shown_names.new.lanes _ c.deref_mut.ensures.value (lanes_is g c) c.shown_names.ensures.lanes
 
 pub returns-clause-out : goal.returns-clause-out
 returns-clause-out g c =

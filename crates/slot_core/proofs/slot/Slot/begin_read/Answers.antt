@@ -1,7 +1,6 @@
 use Rattle.std.proofs.Common.{◌≡◌, ◌+◌, ◌∙◌, List, map, refl, sym}
 use Rattle.std.proofs.lemmas.List.{with_items_is}
 use Rattle.std.specs.Vec.{with_items}
-use Rattle.register_core.specs.Loops.{CountsRise, TellsStay}
 use Rattle.slot_rules.specs.declared.site.Site.{Site}
 use Rattle.slot_core.specs.Hands.{HandsStay}
 use Rattle.slot_core.specs.Sections.{ShowsNoMore}
@@ -14,6 +13,7 @@ use Rattle.slot_core.proofs.BeginReadLemmas.{flights_drawn_on, new_ticket, pins_
 use Rattle.slot_core.proofs.PeekLemmas.{leaves_turned}
 use Rattle.slot_core.proofs.KeptLemmas.{on_lanes}
 use Rattle.slot_core.proofs.slot.Slot.begin_read.Goals as goal
+use Rattle.drive_base.specs.View.{AllGoOn, views}
 
 pub invariant_of-self-2-clause-pins_before : goal.invariant_of-self-2-clause-pins_before
 invariant_of-self-2-clause-pins_before g c =
@@ -49,27 +49,17 @@ returns-clause-cause g c =
     let site : Site = self.site in
     let lanes : List T = c.read_at-turn.new.lanes in
     let is : lanes ≡ (with_items self.lanes lanes).items = sym (with_items_is self.lanes lanes (c.read_at-turn.auto.lanes ∙ c.as_mut_slice.ensures.len)) in
-    read_cause_turned {D = T} D.tells D.files D.count (numbers_of self) (numbers_at site c.read_at-turn.new.drawn) (self.site.turns + 1) c.args.at.now c.args.pick.now
+    read_cause_turned {D = T} D (numbers_of self) (numbers_at site c.read_at-turn.new.drawn) (self.site.turns + 1) c.args.at.now c.args.pick.now
     c.read_at-turn.result.answer (completed_by c.read_at-turn.result.stub)
     self.lanes.items c.as_mut_slice.result.now (with_items self.lanes lanes).items lanes c.args.disks.now c.read_at-turn.new.disks c.as_mut_slice.ensures.value is
     c.read_at-turn.ensures.cause
 
-pub returns-clause-tells : goal.returns-clause-tells
-returns-clause-tells g c =
+pub returns-clause-lanes : goal.returns-clause-lanes
+returns-clause-lanes g c =
     let T : Type 0 = g.row.D.Denot in
     let D = g.D.Drive in
     let self = c.args.self.now in
     let lanes : List T = c.read_at-turn.new.lanes in
     let is : lanes ≡ (with_items self.lanes lanes).items = sym (with_items_is self.lanes lanes (c.read_at-turn.auto.lanes ∙ c.as_mut_slice.ensures.len)) in
-    on_lanes (λ (old new : List T). TellsStay {D = T} D.tells D.files D.count old new) c.as_mut_slice.result.now self.lanes.items lanes _
-    c.as_mut_slice.ensures.value is c.read_at-turn.ensures.tells
-
-pub returns-clause-counts : goal.returns-clause-counts
-returns-clause-counts g c =
-    let T : Type 0 = g.row.D.Denot in
-    let D = g.D.Drive in
-    let self = c.args.self.now in
-    let lanes : List T = c.read_at-turn.new.lanes in
-    let is : lanes ≡ (with_items self.lanes lanes).items = sym (with_items_is self.lanes lanes (c.read_at-turn.auto.lanes ∙ c.as_mut_slice.ensures.len)) in
-    on_lanes (λ (old new : List T). CountsRise {D = T} D.tells D.files D.count old new) c.as_mut_slice.result.now self.lanes.items lanes _
-    c.as_mut_slice.ensures.value is c.read_at-turn.ensures.counts
+    on_lanes (λ (old new : List T). AllGoOn (views D old) (views D new)) c.as_mut_slice.result.now self.lanes.items lanes _
+    c.as_mut_slice.ensures.value is c.read_at-turn.ensures.lanes

@@ -2,7 +2,6 @@ use Rattle.std.proofs.Common.{◌≡◌, ◌+◌, ◌∙◌, List, map, ap, subs
 use Rattle.std.proofs.lemmas.List.{with_items_is}
 use Rattle.std.specs.Vec.{with_items}
 use Rattle.stamp_id.specs.declared.version.VersionId.{VersionId}
-use Rattle.register_core.specs.Loops.{CountsRise, TellsStay}
 use Rattle.slot_history.specs.Standing.{Flying}
 use Rattle.slot_data.specs.Rows.{flying_of}
 use Rattle.slot_rules.specs.Deeds.{name_of}
@@ -23,6 +22,7 @@ use Rattle.slot_core.proofs.PeekLemmas.{leaves_turned}
 use Rattle.slot_core.proofs.SlotCommitLemmas.{checks_flight, checks_spent, commit_holds, commit_holds_none, commit_turned, fits_landing, handed_flight, lands_row}
 use Rattle.slot_core.proofs.KeptLemmas.{on_lanes}
 use Rattle.slot_core.proofs.slot.Slot.commit.Goals as goal
+use Rattle.drive_base.specs.View.{AllGoOn, views}
 
 pub returns-then-is_spent-clause-holds : goal.returns-then-is_spent-clause-holds
 returns-then-is_spent-clause-holds g c =
@@ -48,7 +48,7 @@ returns-then-is_spent-clause-leaves g c fits =
     let lands = lands_row c.args.flight c.land-landing.result self.flights.items c.land-landing.new.flights.items self.flights_differ c.land-landing.ensures.lands in
     leaves_turned {D = T} D.tells D.files (numbers_of self) (numbers_at site drawn) (self.site.turns + 1) (holding_of self) (kept_with (holding_of self) rest trash) self.lanes.items self.lanes.items
     self.lanes.items self.lanes.items turn.stub (ShowsTrash deed turn.answer trash trash) (MayCommitData deed (kept_with (holding_of self) rest trash)) refl refl
-    (lost_leaves {D = T} D.tells D.files D.count laws site drawn deed (put_of c.land-landing.result) trash trash self.lanes.items turn.stub (ShowsTrash deed turn.answer trash trash)
+    (lost_leaves {D = T} D laws site drawn deed (put_of c.land-landing.result) trash trash self.lanes.items turn.stub (ShowsTrash deed turn.answer trash trash)
     (holding_of self) rest (ap entry_of c.spent_turn.ensures.stub_is ∙ c.spent_turn.ensures.no_entry) lands refl refl)
 
 pub returns-in-Missing-clause-turns : goal.returns-in-Missing-clause-turns
@@ -110,7 +110,7 @@ returns-in-Missing-clause-leaves g c fits =
     leaves_turned {D = T} D.tells D.files (numbers_of self) (numbers_at self.site self.drawn) (self.site.turns + 1) (holding_of self) (kept_with (holding_of self) rest trash)
     self.lanes.items self.lanes.items self.lanes.items self.lanes.items turn.stub (ShowsTrash deed turn.answer trash trash) (MayCommitData deed (kept_with (holding_of self) rest trash))
     refl refl
-    (missed_leaves {D = T} D.tells D.files D.count laws self.site self.drawn deed c.in-Missing.id trash self.lanes.items turn (holding_of self) rest c.commit_missing.ensures.missed
+    (missed_leaves {D = T} D laws self.site self.drawn deed c.in-Missing.id trash self.lanes.items turn (holding_of self) rest c.commit_missing.ensures.missed
     (subst (λ (l : Landing). Lands (put_of l) (map flying_of self.flights.items) rest) c.in-Missing.is lands) refl)
 
 pub returns-in-Missing-clause-cause : goal.returns-in-Missing-clause-cause
@@ -118,7 +118,7 @@ returns-in-Missing-clause-cause g c =
     let T : Type 0 = g.row.D.Denot in
     let D = g.D.Drive in
     let self = c.args.self.now in
-    missed_cause {D = T} D.tells D.files D.count (numbers_of self) _ c.args.deed.now (flight_put c.args.flight) c.args.now self.site (name_of c.args.deed.now) c.in-Missing.id
+    missed_cause {D = T} D (numbers_of self) _ c.args.deed.now (flight_put c.args.flight) c.args.now self.site (name_of c.args.deed.now) c.in-Missing.id
     c.commit_missing.result (deed_in (entry_of c.commit_missing.result.stub)) self.lanes.items c.args.disks.now c.args.disks.now c.commit_missing.ensures.missed
 
 pub returns-clause-holds : goal.returns-clause-holds
@@ -164,28 +164,18 @@ returns-clause-cause g c =
     let site : Site = self.site in
     let lanes : List T = c.commit_landed-turn.new.lanes in
     let is : lanes ≡ (with_items self.lanes lanes).items = sym (with_items_is self.lanes lanes (c.commit_landed-turn.auto.lanes ∙ c.as_mut_slice.ensures.len)) in
-    commit_turned {D = T} D.tells D.files D.count (numbers_of self) (numbers_at site c.commit_landed-turn.new.drawn) (self.site.turns + 1) c.args.deed.now (flight_put c.args.flight)
+    commit_turned {D = T} D (numbers_of self) (numbers_at site c.commit_landed-turn.new.drawn) (self.site.turns + 1) c.args.deed.now (flight_put c.args.flight)
     c.in-Ended.put c.args.now c.commit_landed-turn.result.answer (deed_in (entry_of c.commit_landed-turn.result.stub)) self.lanes.items c.as_mut_slice.result.now (with_items self.lanes lanes).items lanes c.args.disks.now
     c.commit_landed-turn.new.disks (sym (ap handed c.in-Ended.is)
     ∙ handed_flight c.args.flight c.land-landing.result self.flights.items c.land-landing.new.flights.items c.land-landing.ensures.lands)
     c.as_mut_slice.ensures.value is c.commit_landed-turn.ensures.cause
 
-pub returns-clause-tells : goal.returns-clause-tells
-returns-clause-tells g c =
+pub returns-clause-lanes : goal.returns-clause-lanes
+returns-clause-lanes g c =
     let T : Type 0 = g.row.D.Denot in
     let D = g.D.Drive in
     let self = c.args.self.now in
     let lanes : List T = c.commit_landed-turn.new.lanes in
     let is : lanes ≡ (with_items self.lanes lanes).items = sym (with_items_is self.lanes lanes (c.commit_landed-turn.auto.lanes ∙ c.as_mut_slice.ensures.len)) in
-    on_lanes (λ (old new : List T). TellsStay {D = T} D.tells D.files D.count old new) c.as_mut_slice.result.now self.lanes.items lanes _
-    c.as_mut_slice.ensures.value is c.commit_landed-turn.ensures.tells
-
-pub returns-clause-counts : goal.returns-clause-counts
-returns-clause-counts g c =
-    let T : Type 0 = g.row.D.Denot in
-    let D = g.D.Drive in
-    let self = c.args.self.now in
-    let lanes : List T = c.commit_landed-turn.new.lanes in
-    let is : lanes ≡ (with_items self.lanes lanes).items = sym (with_items_is self.lanes lanes (c.commit_landed-turn.auto.lanes ∙ c.as_mut_slice.ensures.len)) in
-    on_lanes (λ (old new : List T). CountsRise {D = T} D.tells D.files D.count old new) c.as_mut_slice.result.now self.lanes.items lanes _
-    c.as_mut_slice.ensures.value is c.commit_landed-turn.ensures.counts
+    on_lanes (λ (old new : List T). AllGoOn (views D old) (views D new)) c.as_mut_slice.result.now self.lanes.items lanes _
+    c.as_mut_slice.ensures.value is c.commit_landed-turn.ensures.lanes

@@ -3,6 +3,7 @@ use Rattle.std.specs.Prelude.{string_bytes}
 use Rattle.call_types.specs.Good.{good_count}
 use Rattle.drive_base.specs.Plan.{data_drives}
 use Rattle.drive_base.specs.declared.plan.SetPlan.{SetPlan}
+use Rattle.register_core.proofs.ViewedLemmas.{tells_on}
 use Rattle.slot_history.specs.State.{State}
 use Rattle.slot_core.proofs.KeptLemmas.{kept_leaves, read_leaves}
 use Rattle.slot_core.proofs.ListedLemmas.{stands_listed}
@@ -31,9 +32,9 @@ returns-in_default-clause-leaves g c =
     let old = c.args.self.now in
     let new = c.ask_lanes.new.self in
     let asked = c.ask_lanes.ensures in
-    read_leaves g.D.Drive.tells g.D.Drive.files g.D.Drive.count (numbers_of old) (numbers_of new) (holding_of old) (holding_of new) (lanes_of old) (lanes_of new) None
+    read_leaves g.D.Drive (numbers_of old) (numbers_of new) (holding_of old) (holding_of new) (lanes_of old) (lanes_of new) None
     ShowsNoMore (moves_by (numbers_of old) (numbers_of new) old.drawn.seq (omega arith) (omega arith) asked.numbers) (ap (λ (n : SlotNumbers). n.seq) asked.numbers)
-    asked.holding asked.long asked.files asked.tells refl
+    asked.holding asked.long asked.files (tells_on g.D.Drive (lanes_of old) (lanes_of new) asked.lanes) refl
 
 pub returns-then-good-read_quorum-clause-leaves : goal.returns-then-good-read_quorum-clause-leaves
 returns-then-good-read_quorum-clause-leaves g c =
@@ -44,14 +45,14 @@ returns-then-good-read_quorum-clause-leaves g c =
     let numbers = c.enter_nothing.ensures.numbers ∙ asked.numbers in
     leaves_with g.D.Drive.tells g.D.Drive.files (numbers_of old) (numbers_of new) (holding_of old) (holding_of new) (lanes_of old) (lanes_of mid) (lanes_of new)
     (Some c.enter_nothing.result) ShowsNoMore HandsStay c.enter_nothing.ensures.lanes
-    (kept_leaves g.D.Drive.tells g.D.Drive.files g.D.Drive.count (numbers_of old) (numbers_of new) (holding_of old) (holding_of new) (lanes_of old) (lanes_of mid)
+    (kept_leaves g.D.Drive (numbers_of old) (numbers_of new) (holding_of old) (holding_of new) (lanes_of old) (lanes_of mid)
     (Some c.enter_nothing.result) (nothing_at old.site.turns) ShowsNoMore
     (moves_by (numbers_of old) (numbers_of new) old.drawn.seq (omega arith) (omega arith) numbers) (ap (λ (n : SlotNumbers). n.seq) numbers)
-    (c.enter_nothing.ensures.holding ∙ asked.holding) asked.long asked.files asked.tells c.enter_nothing.ensures.entry refl refl (λ records state standing. tt))
+    (c.enter_nothing.ensures.holding ∙ asked.holding) asked.long asked.files (tells_on g.D.Drive (lanes_of old) (lanes_of mid) asked.lanes) c.enter_nothing.ensures.entry refl refl (λ records state standing. tt))
 
 -- the names are listed
 listed : (g : _) (c : goal.After-enter_nothing-2 g)
-    → NamesAreListed g.D.Drive.tells g.D.Drive.files g.D.Drive.count c.args.self.now.site.set c.args.from.now c.args.most (map string_bytes c.from_vec.result)
+    → NamesAreListed g.D.Drive c.args.self.now.site.set c.args.from.now c.args.most (map string_bytes c.from_vec.result)
     (lanes_of c.args.self.now) (lanes_of c.ask_lanes.new.self)
 listed g c =
     let shown = c.in-Ok-ask_lanes.shown in
@@ -74,9 +75,9 @@ returns-clause-leaves g c =
     let Shows : State → State → Type 0 = ShowsNames {Y = Global} c.args.from.now c.args.most (Ok c.from_vec.result) in
     leaves_with g.D.Drive.tells g.D.Drive.files (numbers_of old) (numbers_of new) (holding_of old) (holding_of new) (lanes_of old) (lanes_of mid) (lanes_of new)
     (Some c.enter_nothing-2.result) Shows HandsStay c.enter_nothing-2.ensures.lanes
-    (kept_leaves g.D.Drive.tells g.D.Drive.files g.D.Drive.count (numbers_of old) (numbers_of new) (holding_of old) (holding_of new) (lanes_of old) (lanes_of mid)
+    (kept_leaves g.D.Drive (numbers_of old) (numbers_of new) (holding_of old) (holding_of new) (lanes_of old) (lanes_of mid)
     (Some c.enter_nothing-2.result) (nothing_at old.site.turns) Shows
     (moves_by (numbers_of old) (numbers_of new) old.drawn.seq (omega arith) (omega arith) numbers) (ap (λ (n : SlotNumbers). n.seq) numbers)
-    (c.enter_nothing-2.ensures.holding ∙ asked.holding) asked.long asked.files asked.tells c.enter_nothing-2.ensures.entry refl refl
-    (λ records state standing. λ name held made listable. stands_listed g.D.Drive.tells g.D.Drive.files g.D.Drive.count (numbers_of old) (holding_of old).flights
+    (c.enter_nothing-2.ensures.holding ∙ asked.holding) asked.long asked.files (tells_on g.D.Drive (lanes_of old) (lanes_of mid) asked.lanes) c.enter_nothing-2.ensures.entry refl refl
+    (λ records state standing. λ name held made listable. stands_listed g.D.Drive (numbers_of old) (holding_of old).flights
     (lanes_of old) (lanes_of mid) records state c.args.from.now c.args.most (map string_bytes c.from_vec.result) standing (listed g c) name held made listable))

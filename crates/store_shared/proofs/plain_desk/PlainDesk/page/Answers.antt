@@ -20,8 +20,7 @@ returns-clause-pages g c =
         leaves = says.leaves;
         lists = says.lists;
         files = says.files;
-        tells = says.tells;
-        counts = says.counts;
+        lanes = says.lanes;
         out = says.out;
       };
       stays = refl;

@@ -28,8 +28,7 @@ returns-in-Ok-clause-pages g c =
         leaves = says.leaves;
         lists = says.lists;
         files = says.files;
-        tells = says.tells;
-        counts = says.counts;
+        lanes = says.lanes;
         out = says.out;
       };
       pass = turn_seen c.args.own c.give.result (turns_so_far held) (ticket_of held) (lent_to held) held.value to c.in-Ok.ensures.turns.0
