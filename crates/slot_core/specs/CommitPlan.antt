@@ -1,9 +1,10 @@
 -- What a commit leaves of a register, apart from the slot that has it.
-use Rattle.std.specs.Prelude.{◌≡◌, ◌⊎◌, ◌≤◌, ℕ, ◌+◌, Bool, List, length, Option, string_bytes}
+use Rattle.std.specs.Prelude.{◌≡◌, ◌⊎◌, ◌≤◌, ℕ, ◌+◌, Bool, List, length, Option, Result, string_bytes}
 use Rattle.drive_base.specs.declared.drive.Drive.{Ghosts}
 use Rattle.drive_base.specs.Files.{Files}
 use Rattle.stamp_id.specs.declared.version.VersionId.{VersionId}
 use Rattle.drive_base.specs.declared.plan.SetPlan.{SetPlan}
+use Rattle.audit_trail.specs.declared.entry.Deed.{Deed}
 use Rattle.register_core.specs.Found.{content_of}
 use Rattle.register_core.specs.declared.faults.QuorumFault.{QuorumFault}
 use Rattle.register_core.specs.declared.faults.QuorumFault.TheVariants.{ReadQuorum, WriteQuorum, Undecided, NoMemory}
@@ -15,11 +16,13 @@ use Rattle.slot_rules.specs.Owning.{IsDraftable, IsOwnId, again_takes, life_at}
 use Rattle.slot_rules.specs.Planning.{IsPlanned, most_for}
 use Rattle.slot_rules.specs.Plans.{IsPlan}
 use Rattle.slot_rules.specs.declared.commit.Commit.{Commit}
+use Rattle.slot_rules.specs.declared.commit.Committed.{Committed}
 use Rattle.slot_rules.specs.declared.plans.Plan.{Plan}
 use Rattle.slot_rules.specs.declared.ready.Ready.{Ready}
 use Rattle.slot_rules.specs.declared.site.Ask.{Ask}
 use Rattle.slot_rules.specs.declared.site.Drawn.{Drawn}
 use Rattle.slot_rules.specs.declared.site.Site.{Site}
+use Rattle.slot_core.specs.CommitCauses.{CommitCause}
 use Rattle.slot_core.specs.CommitOutcome.{CallsCarry, EntryLeaves, FitsPut, Lands, answer_told, entry_told, kept_with}
 use Rattle.slot_core.specs.Commits.{MayCommitData, ShowsTrash}
 use Rattle.slot_core.specs.RegisterLook.{FirstFits}
@@ -28,6 +31,7 @@ use Rattle.slot_core.specs.Standing.{SlotStands}
 use Rattle.slot_core.specs.declared.commit_plan.Work.{Work}
 use Rattle.slot_core.specs.declared.commit_write.Outcome.{Outcome}
 use Rattle.slot_core.specs.declared.commit_write.Outcome.TheVariants.{Kept, LacksMemory}
+use Rattle.slot_core.specs.declared.slot.SlotFault.{SlotFault}
 use Rattle.drive_base.specs.declared.drive.TheConstants.{LONGEST_NAME}
 use Rattle.slot_core.specs.LanesStay.{FilesStay, TellsStay}
 
@@ -81,3 +85,8 @@ module _ {D : Type 0} (ghosts : Ghosts D) where
   abbrev pub FinishCalls : Site → Drawn → Drawn → Ready → Commit → Option VersionId → ℕ → Outcome → List D → List D → Type 0
   FinishCalls site drawn later ready deed put now outcome old new = ((outcome ≡ LacksMemory) × (new ≡ old))
       ⊎ FinishPlan site drawn later ready deed put now outcome old new
+
+  -- from which calls the answer of a commit comes that is asked so, by the deed that its entry tells
+  abbrev pub AskCause : Ask → Drawn → Drawn → Commit → Result Committed SlotFault → Deed → List D → List D → List D → List D → Type 0
+  AskCause ask drawn later deed answer entered old new disks disks_after = CommitCause ghosts (numbers_at ask.site drawn) (numbers_at ask.site later) deed
+      ask.put ask.moment answer entered old new disks disks_after

@@ -1,5 +1,5 @@
 -- What a commit does: what its entry says, and what it leaves in the slot's memory.
-use Rattle.std.specs.Prelude.{◌≡◌, ◌⊎◌, ⊤, ℕ, List, [], ◌++◌, Option, Some, None, MatchOption, Result, Ok, Err, Contains}
+use Rattle.std.specs.Prelude.{◌≡◌, ◌⊎◌, ⊤, ℕ, List, [], ◌++◌, Option, Some, None, MatchOption, Result, Ok, Err, Contains, ◌+◌, ◌≤◌, Vec, vec_capacity, vec_len}
 use Rattle.stamp_id.specs.declared.stamp.ChangeId.{ChangeId}
 use Rattle.stamp_id.specs.declared.version.VersionId.{VersionId}
 use Rattle.call_types.specs.Refusals.{refusal_of}
@@ -65,6 +65,11 @@ GoneByAnswer (Err _) gone = gone ≡ []
 -- so the trash grows by an answer
 abbrev pub TrashGrows : Result Committed SlotFault → List VersionId → List VersionId → Type 0
 TrashGrows answer old new = (more : List VersionId) × (new ≡ old ++ more) × GoneByAnswer answer more
+
+-- the trash keeps its capacity, and gets so many more at most
+pub record TrashFits {Y : Type 0} (more : ℕ) (old new : Vec VersionId Y) : Type 0 where
+  pub capacity : vec_capacity new ≡ vec_capacity old
+  pub len : vec_len new ≤ vec_len old + more
 
 pub record CommitHolds (flight : Option Flight) (answer : Result Committed SlotFault) (old new : Holding) : Type 0 where
   pub rest : List Flying

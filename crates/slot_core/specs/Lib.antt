@@ -24,6 +24,7 @@ pub mod ReadSection
 pub mod RegisterLook
 pub mod Sections
 pub mod Settlement
+pub mod SlotTurns
 pub mod Standing
 pub mod Stubs
 pub mod Turns

@@ -1,5 +1,6 @@
 -- The names that lanes gave, as a listing gathers them.
-use Rattle.std.specs.Prelude.{◌≡◌, ◌⊎◌, ℕ, ◌<◌, Bool, IsTrue, IsSome, List, All, slice_index_or}
+use Rattle.std.specs.Prelude.{◌≡◌, ◌⊎◌, ℕ, ◌<◌, Bool, IsTrue, IsSome, List, All, String, slice_index_or}
+use Rattle.std.specs.BTreeMap.{BTreeMap, get_by_text}
 use Rattle.call_types.specs.declared.why.Why.{Why}
 use Rattle.call_types.specs.declared.why.Why.TheVariants.{Good}
 use Rattle.drive_base.specs.Files.{Files}
@@ -8,6 +9,10 @@ use Rattle.drive_base.specs.Names.{IsPage, ListsShown}
 use Rattle.drive_base.specs.declared.drive.TheConstants.{LONGEST_NAME}
 use Rattle.register_core.specs.LaneWrites.{letter_at}
 use Rattle.slot_core.specs.NameList.{IsShown, NamesLetter}
+
+-- a name is among those that were gathered
+abbrev pub IsGathered : {X Y : Type 0} → BTreeMap (String Y) X → List ℕ → Type 0
+IsGathered gathered name = IsSome (get_by_text gathered name)
 
 module _ {D : Type 0} (tells : D → Bool) (files : D → Files) where
   -- the page that a lane gave is gathered

@@ -1,5 +1,5 @@
 -- The numbers that a slot draws, and when they are spent.
-use Rattle.std.specs.Prelude.{◌≡◌, ◌⊎◌, ℕ, ◌+◌, ◌<◌, ◌≤◌}
+use Rattle.std.specs.Prelude.{◌≡◌, ◌⊎◌, ℕ, ◌+◌, ◌<◌, ◌≤◌, ◌^◌}
 use Rattle.slot_rules.specs.declared.site.Drawn.{Drawn}
 use Rattle.slot_core.specs.Views.{SlotNumbers}
 
@@ -23,6 +23,17 @@ pub record Draws (numbers names : ℕ) (old new : Drawn) : Type 0 where
   pub count : old.count ≤ new.count
   pub few_count : new.count ≤ old.count + names
 
+-- an own change is written under this number, and so many loose names are used at most
+pub record DrawsOwn (number names : ℕ) (old new : Drawn) : Type 0 where
+  pub seq : new.seq ≡ number
+  pub count : old.count ≤ new.count
+  pub few_count : new.count ≤ old.count + names
+
+-- so many numbers can still be drawn, and so many loose names used
+pub record HasLeft (numbers names : ℕ) (drawn : Drawn) : Type 0 where
+  pub seq : drawn.seq + numbers < 2 ^ 62
+  pub count : drawn.count + names < 2 ^ 64
+
 -- the last sequence number at which a section may still begin, 2^62 - 16,384: no section draws more than 16,383
 abbrev pub last_seq : ℕ
 last_seq = 4611686018427371520
@@ -34,6 +45,11 @@ last_count = 9223372036853727232
 -- the numbers of a slot are spent: sections that may draw some are refused
 abbrev pub AreSpent : SlotNumbers → Type 0
 AreSpent numbers = (last_seq < numbers.seq) ⊎ (last_count < numbers.count)
+
+-- they aren't, where so many were drawn
+pub record AreUnspent (drawn : Drawn) : Type 0 where
+  pub seq : drawn.seq ≤ last_seq
+  pub count : drawn.count ≤ last_count
 
 -- the numbers of a slot that last drew this one
 abbrev pub with_seq : SlotNumbers → ℕ → SlotNumbers

@@ -14,15 +14,19 @@ use Rattle.slot_rules.specs.Rules.{longest_for, rule_for}
 use Rattle.slot_rules.specs.declared.site.Drawn.{Drawn}
 use Rattle.slot_rules.specs.declared.site.Site.{Site}
 use Rattle.slot_core.specs.Causes.{LookCause, PeekCause}
+use Rattle.slot_core.specs.Hands.{HandsStay}
+use Rattle.slot_core.specs.Sections.{ShowsContent}
 use Rattle.slot_core.specs.Settlement.{Settled, numbers_at}
 use Rattle.slot_core.specs.Standing.{SlotStands}
 use Rattle.slot_core.specs.Stubs.{AuditCounts, AuditHas, StubOfEntry}
+use Rattle.slot_core.specs.Turns.{Leaves}
 use Rattle.slot_core.specs.Views.{SlotNumbers}
 use Rattle.slot_core.specs.declared.slot.SlotFault.{SlotFault}
 use Rattle.slot_core.specs.declared.slot.SlotFault.TheVariants.{SeqSpent}
 use Rattle.slot_core.specs.declared.peek_section.Peeked.{Peeked}
 use Rattle.slot_core.specs.declared.peek_section.Peeked.TheVariants.{Found, Refused, LacksMemory}
 use Rattle.slot_core.specs.declared.stub.Stub.{Stub}
+use Rattle.slot_core.specs.declared.stub.Turn.{Turn}
 use Rattle.slot_core.specs.LanesStay.{FilesStay}
 
 -- what a section that wasn't refused for its numbers tells, whatever the drives tell
@@ -63,6 +67,11 @@ module _ {D : Type 0} (tells : D → Bool) (files : D → Files) where
   LookLeaves site drawn later name peeked old new = (holding : Holding) (records : Records) (state : State)
       → SlotStands tells files (numbers_at site drawn) holding.flights old records state
       → PeekLeaves (numbers_at site drawn) (numbers_at site later) holding name peeked new records state
+
+  -- what a whole look leaves, whatever its slot holds
+  abbrev pub PeekTurnLeaves : Site → Drawn → Drawn → List ℕ → Turn (List ℕ) → List D → List D → Type 0
+  PeekTurnLeaves site drawn later name turn old new = (holding : Holding)
+      → Leaves tells files (numbers_at site drawn) (numbers_at site later) holding holding old new turn.stub (ShowsContent name turn.answer) HandsStay
 
 module _ {D : Type 0} (ghosts : Ghosts D) where
   -- the calls of a look and of the completion after it, by what they gave

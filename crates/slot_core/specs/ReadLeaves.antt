@@ -10,10 +10,11 @@ use Rattle.slot_history.specs.State.{State}
 use Rattle.slot_rules.specs.declared.site.Drawn.{Drawn}
 use Rattle.slot_core.specs.Hands.{HandsStay}
 use Rattle.slot_core.specs.PeekSection.{GivesBy, GivesOver}
-use Rattle.slot_core.specs.ReadSection.{IsNewTicket, KnownRead, PlansRead, ReadGave}
+use Rattle.slot_core.specs.ReadSection.{IsNewTicket, KnownRead, PlansRead, ReadCause, ReadGave}
 use Rattle.slot_core.specs.Sections.{ReadHolds, ShowsNoMore}
 use Rattle.slot_core.specs.Settlement.{numbers_at}
 use Rattle.slot_core.specs.Standing.{SlotStands}
+use Rattle.slot_core.specs.Stubs.{completed_by}
 use Rattle.slot_core.specs.Turns.{Leaves}
 use Rattle.slot_core.specs.declared.peek_section.Peeked.{Peeked}
 use Rattle.slot_core.specs.declared.read_plan.ReadAsk.{ReadAsk}
@@ -41,3 +42,8 @@ module _ {D : Type 0} (ghosts : Ghosts D) where
   ReadCalls ask drawn later at peeked old new disks disks_after = GivesBy ghosts (numbers_at ask.site drawn) (numbers_at ask.site later) (key_name at)
       (λ plan late. ReadGave ghosts (numbers_at ask.site drawn) (numbers_at ask.site later) at
       (λ state. PlansRead ask.site.turns at ask.mode ask.pick state plan) late old new disks disks_after) peeked old new disks disks_after
+
+  -- from which calls a whole read comes
+  abbrev pub BegunCause : ReadAsk → Drawn → Drawn → Key → Turn ReadStart → List D → List D → List D → List D → Type 0
+  BegunCause ask drawn later at turn old new disks disks_after = ReadCause ghosts (numbers_at ask.site drawn) (numbers_at ask.site later) at ask.pick
+      turn.answer (completed_by turn.stub) old new disks disks_after

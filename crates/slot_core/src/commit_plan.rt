@@ -3,17 +3,14 @@
 ghost use Rattle.std.specs.Prelude.{◌≡◌, ◌+◌, ◌<◌, ◌≤◌, ◌^◌, OnOk, length, vec_capacity, vec_len};
 ghost use Rattle.drive_base.specs.View.{AllGoOn, AllOnlyRead, views};
 ghost use Rattle.slot_rules.specs.Deeds.{name_of};
-ghost use Rattle.slot_core.specs.CommitCauses.{CommitCause};
 ghost use Rattle.slot_core.specs.CommitOutcome.{IsTold, answer_told, deed_told};
-ghost use Rattle.slot_core.specs.CommitPlan.{CommitLeaves, FinishCalls, FinishLeaves, IsKeptBy, IsWork};
+ghost use Rattle.slot_core.specs.CommitPlan.{AskCause, CommitLeaves, FinishCalls, FinishLeaves, IsKeptBy, IsWork};
 ghost use Rattle.slot_core.specs.Commits.{TrashGrows};
 ghost use Rattle.slot_core.specs.Deeds.{MayCommit};
-ghost use Rattle.slot_core.specs.Numbers.{Draws};
-ghost use Rattle.slot_core.specs.Settlement.{numbers_at};
+ghost use Rattle.slot_core.specs.Numbers.{AreUnspent, Draws};
 
 use crate::commit_write::{Outcome, carry_out};
 use crate::register_look::look_at;
-use crate::slot::{LAST_COUNT, LAST_SEQ};
 use drive_base::Drive;
 use fault_base::NoMemory;
 use register_core::QuorumFault;
@@ -65,8 +62,7 @@ fn finish<D: Drive>(
     requires lanes { length lanes.old ≡ ask.now.site.set.drives }
     requires named { name_of deed.now ≡ name.now }
     requires work { IsWork ask.now deed.now drawn.old.seq work }
-    requires seq { drawn.old.seq ≤ LAST_SEQ }
-    requires count { drawn.old.count ≤ LAST_COUNT }
+    requires unspent { AreUnspent drawn.old }
     requires room { vec_len trash.old + ask.now.spare ≤ vec_capacity trash.old }
     ensures leaves { FinishLeaves D.Drive ask.now.site drawn.old drawn.new work.ready deed.now ask.now.put result
         trash.old.items trash.new.items lanes.old lanes.new }
@@ -132,8 +128,8 @@ pub(crate) fn commit_register<D: Drive>(
     ensures leaves { CommitLeaves D.tells D.files ask.now.site drawn.old drawn.new deed.now ask.now.put result trash.old.items trash.new.items
         lanes.old lanes.new }
     ensures told { IsTold deed.now ask.now.moment result }
-    ensures cause { CommitCause D.Drive (numbers_at ask.now.site drawn.old) (numbers_at ask.now.site drawn.new) deed.now ask.now.put
-        ask.now.moment (answer_told result) (deed_told result) lanes.old lanes.new disks.old disks.new }
+    ensures cause { AskCause D.Drive ask.now drawn.old drawn.new deed.now (answer_told result) (deed_told result)
+        lanes.old lanes.new disks.old disks.new }
     ensures gone { TrashGrows (answer_told result) trash.old.items trash.new.items }
     ensures room_stays { vec_len trash.new + ask.now.spare ≤ vec_capacity trash.new }
     ensures draws { Draws 3 64 drawn.old drawn.new }

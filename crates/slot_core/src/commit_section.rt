@@ -1,23 +1,23 @@
 //! The section that commits a change of a key or of a bucket.
 
-ghost use Rattle.std.specs.Prelude.{◌≡◌, ◌+◌, ◌<◌, ◌≤◌, ◌^◌, Err, length, vec_capacity, vec_len};
+ghost use Rattle.std.specs.Prelude.{◌≡◌, ◌+◌, ◌<◌, ◌≤◌, Err, length, vec_capacity, vec_len};
 ghost use Rattle.stamp_id.specs.declared.version.VersionId.{VersionId};
 ghost use Rattle.drive_base.specs.View.{AllGoOn, AllOnlyRead, views};
 ghost use Rattle.drive_base.specs.declared.drive.TheConstants.{LONGEST_NAME};
-ghost use Rattle.version_list.specs.State.{IsMoment};
 ghost use Rattle.slot_rules.specs.Deeds.{IsLawfulDeed, IsNamedDeed, name_of};
 ghost use Rattle.slot_rules.specs.declared.site.Drawn.{Drawn};
-ghost use Rattle.slot_core.specs.CommitCauses.{CommitCause, deed_in};
+ghost use Rattle.slot_core.specs.CommitCauses.{deed_in};
+ghost use Rattle.slot_core.specs.CommitPlan.{AskCause};
 ghost use Rattle.slot_core.specs.CommitSection.{IsMissed, LandedLeaves};
-ghost use Rattle.slot_core.specs.Commits.{ChecksFlight, CommitHolds, FitsFlight, MayCommitData, SaysCommit, ShowsTrash, TrashGrows};
-ghost use Rattle.slot_core.specs.Deeds.{MayCommit};
+ghost use Rattle.slot_core.specs.Commits.{ChecksFlight, CommitHolds, SaysCommit, TrashGrows};
+ghost use Rattle.slot_core.specs.Deeds.{MayBegin, MayCommit};
 ghost use Rattle.slot_core.specs.Numbers.{Draws};
 ghost use Rattle.slot_core.specs.PeekSection.{TurnsAt};
 ghost use Rattle.slot_core.specs.PutEnds.{flight_put};
 ghost use Rattle.slot_core.specs.Settlement.{numbers_at};
+ghost use Rattle.slot_core.specs.SlotTurns.{SlotCommitCause, SlotCommitLeaves, SlotTurns};
 ghost use Rattle.slot_core.specs.Stubs.{Says, entry_of};
-ghost use Rattle.slot_core.specs.Turns.{Leaves, Turns};
-ghost use Rattle.slot_core.specs.Views.{audit_of, holding_of, lanes_of, numbers_of};
+ghost use Rattle.slot_core.specs.Views.{holding_of, lanes_of, numbers_of};
 ghost use Rattle.slot_core.specs.declared.slot.SlotFault.TheVariants.{NotInFlight};
 
 use crate::audit_entry::{refuse, spent_turn};
@@ -50,22 +50,16 @@ impl<D: Drive, A: Audit> Slot<D, A> {
         flight: Option<Flight>,
         now: u64,
     ) -> Turn<Committed>
-        requires turns { (numbers_of self.old).turns + 1 < 2 ^ 64 }
-        requires disks { length disks.old ≡ (numbers_of self.old).set.drives }
+        requires begins { MayBegin (numbers_of self.old) disks.old now }
         requires lawful { IsLawfulDeed deed.now }
         requires named { IsNamedDeed deed.now }
         requires short { length (name_of deed.now) ≤ LONGEST_NAME }
-        requires moment { IsMoment now }
-        ensures turns { Turns (numbers_of self.old) (numbers_of self.new) (A.entries (audit_of self.old)) (A.entries (audit_of self.new))
-            (A.count (audit_of self.old)) (A.count (audit_of self.new)) result.answer result.stub }
+        ensures turns { SlotTurns A.entries A.count self.old self.new result }
         ensures says { Says result.stub (SaysCommit deed.now now result.answer) }
         ensures holds { CommitHolds flight result.answer (holding_of self.old) (holding_of self.new) }
         ensures checks { ChecksFlight flight (holding_of self.old) result.answer }
-        ensures leaves { FitsFlight deed.now flight → Leaves D.tells D.files (numbers_of self.old) (numbers_of self.new) (holding_of self.old) (holding_of self.new)
-            (lanes_of self.old) (lanes_of self.new) result.stub (ShowsTrash deed.now result.answer (holding_of self.old).trash (holding_of self.new).trash)
-            (MayCommitData deed.now (holding_of self.new)) }
-        ensures cause { CommitCause D.Drive (numbers_of self.old) (numbers_of self.new) deed.now (flight_put flight) now result.answer
-            (deed_in (entry_of result.stub)) (lanes_of self.old) (lanes_of self.new) disks.old disks.new }
+        ensures leaves { SlotCommitLeaves D.tells D.files self.old self.new deed.now flight result }
+        ensures cause { SlotCommitCause D.Drive self.old self.new deed.now (flight_put flight) now result disks.old disks.new }
         ensures lanes { AllGoOn (views D.Drive (lanes_of self.old)) (views D.Drive (lanes_of self.new)) }
         ensures disks_read { AllOnlyRead (views D.Drive disks.old) (views D.Drive disks.new) }
     {
@@ -125,8 +119,8 @@ fn commit_landed<D: Drive, A: Audit>(
     ensures says { Says result.stub (SaysCommit deed.now ask.now.moment result.answer) }
     ensures checks { (id : VersionId) → result.answer ≡ Err (NotInFlight id) → ⊥ }
     ensures leaves { LandedLeaves D.tells D.files ask.now drawn.old drawn.new deed.now result trash.old.items trash.new.items lanes.old lanes.new }
-    ensures cause { CommitCause D.Drive (numbers_at ask.now.site drawn.old) (numbers_at ask.now.site drawn.new) deed.now ask.now.put
-        ask.now.moment result.answer (deed_in (entry_of result.stub)) lanes.old lanes.new disks.old disks.new }
+    ensures cause { AskCause D.Drive ask.now drawn.old drawn.new deed.now result.answer (deed_in (entry_of result.stub))
+        lanes.old lanes.new disks.old disks.new }
     ensures gone { TrashGrows result.answer trash.old.items trash.new.items }
     ensures room_stays { vec_len trash.new + ask.now.spare ≤ vec_capacity trash.new }
     ensures draws { Draws 3 64 drawn.old drawn.new }

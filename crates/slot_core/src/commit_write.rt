@@ -1,12 +1,12 @@
 //! A plan that is carried out: what is pending is completed, and then the own change is written.
 
 ghost use Rattle.drive_base.specs.View.{AllGoOn, views};
-ghost use Rattle.std.specs.Prelude.{◌≡◌, ◌+◌, ◌*◌, ◌<◌, ◌≤◌, ◌^◌, ◌++◌, List, None, length, vec_capacity, vec_len};
+ghost use Rattle.std.specs.Prelude.{◌≡◌, ◌+◌, ◌*◌, ◌<◌, ◌≤◌, ◌^◌, None, length, vec_capacity, vec_len};
 ghost use Rattle.stamp_id.specs.declared.version.VersionId.{VersionId};
-ghost use Rattle.slot_core.specs.Numbers.{Draws};
+ghost use Rattle.slot_core.specs.Numbers.{Draws, DrawsOwn, HasLeft};
 ghost use Rattle.slot_core.specs.CommitOutcome.{CallsCarry, CallsOwnWrites, answer_told};
 ghost use Rattle.slot_core.specs.CommitWrite.{CarriesAfter, PlanFits, TellsAfter, WritesOwnOver};
-ghost use Rattle.slot_core.specs.Commits.{TrashGrows};
+ghost use Rattle.slot_core.specs.Commits.{TrashFits, TrashGrows};
 ghost use Rattle.slot_core.specs.RegisterLook.{DraftFits, FirstFits};
 
 use crate::register_look::forward;
@@ -45,15 +45,13 @@ pub(crate) fn carry_out<D: Drive>(
     requires lanes { length lanes.old ≡ site.now.set.drives }
     requires fits { FirstFits site.now.set ready.first }
     requires plan { PlanFits site.now.set drawn.old.seq plan }
-    requires seq { drawn.old.seq + 3 < 2 ^ 62 }
-    requires count { drawn.old.count + 4 * site.now.set.drives < 2 ^ 64 }
+    requires left { HasLeft 3 (4 * site.now.set.drives) drawn.old }
     requires room { vec_len trash.old + length plan.gone.items ≤ vec_capacity trash.old }
     ensures leaves { CarriesAfter D.Drive site.now drawn.old drawn.new name.now ready plan result trash.old.items trash.new.items lanes.old lanes.new }
     ensures told { TellsAfter site.now drawn.old ready plan result }
     ensures calls { CallsCarry D.Drive site.now drawn.old drawn.new ready.first plan result lanes.old lanes.new }
     ensures gone { TrashGrows (answer_told result) trash.old.items trash.new.items }
-    ensures capacity { vec_capacity trash.new ≡ vec_capacity trash.old }
-    ensures len { vec_len trash.new ≤ vec_len trash.old + length plan.gone.items }
+    ensures trash { TrashFits (length plan.gone.items) trash.old trash.new }
     ensures lanes { AllGoOn (views D.Drive lanes.old) (views D.Drive lanes.new) }
     ensures draws { Draws 3 (4 * site.now.set.drives) drawn.old drawn.new }
 {
@@ -97,12 +95,9 @@ fn write_own<D: Drive>(
     ensures leaves { WritesOwnOver D.tells D.files site.now drawn.old drawn.new own tale late gone.now result trash.old.items trash.new.items lanes.old lanes.new }
     ensures calls { CallsOwnWrites D.Drive site.now drawn.old drawn.new own late tale result lanes.old lanes.new }
     ensures gone { TrashGrows (answer_told result) trash.old.items trash.new.items }
-    ensures capacity { vec_capacity trash.new ≡ vec_capacity trash.old }
-    ensures len { vec_len trash.new ≤ vec_len trash.old + length gone.now }
+    ensures trash { TrashFits (length gone.now) trash.old trash.new }
     ensures lanes { AllGoOn (views D.Drive lanes.old) (views D.Drive lanes.new) }
-    ensures rises { drawn.old.count ≤ drawn.new.count }
-    ensures few { drawn.new.count ≤ drawn.old.count + 2 * site.now.set.drives }
-    ensures seq { drawn.new.seq ≡ own.seq }
+    ensures draws { DrawsOwn own.seq (2 * site.now.set.drives) drawn.old drawn.new }
 {
     // The laws for the proof, of what a change of one's own leaves. The calls do nothing.
     fresh_laws();

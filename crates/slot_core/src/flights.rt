@@ -5,7 +5,7 @@ ghost use Rattle.slot_data.specs.declared.rows.FlightRow.{FlightRow};
 ghost use Rattle.slot_core.specs.Hands.{HandsStay};
 ghost use Rattle.slot_core.specs.Numbers.{AreSpent, with_seq};
 ghost use Rattle.slot_core.specs.Sections.{MayGiveUp, PutGoes, PutHolds, ShowsNoMore};
-ghost use Rattle.slot_core.specs.Turns.{Leaves, TurnsQuietly};
+ghost use Rattle.slot_core.specs.SlotTurns.{SlotLeaves, SlotTurnsQuietly};
 ghost use Rattle.slot_core.specs.Views.{audit_of, holding_of, lanes_of, numbers_of};
 ghost use Rattle.slot_history.specs.Contents.{number_of_id};
 ghost use Rattle.slot_rules.specs.Fields.{AreApart};
@@ -32,13 +32,11 @@ impl<D: Drive, A: Audit> Slot<D, A> {
         requires turns { (numbers_of self.old).turns + 1 < 2 ^ 64 }
         requires bucket { IsUtf8 at.now.bucket }
         requires key { IsUtf8 at.now.key }
-        ensures turns { TurnsQuietly (numbers_of self.old) (numbers_of self.new) (A.entries (audit_of self.old)) (A.entries (audit_of self.new))
-            (A.count (audit_of self.old)) (A.count (audit_of self.new)) result.answer result.stub }
+        ensures turns { SlotTurnsQuietly A.entries A.count self.old self.new result }
         ensures spent { (result.answer ≡ Err SlotFault.SeqSpent) ↔ AreSpent (numbers_of self.old) }
         ensures holds { PutHolds (numbers_of self.old) (numbers_of self.new) at.now result.answer (holding_of self.old) (holding_of self.new) }
         ensures lanes { lanes_of self.new ≡ lanes_of self.old }
-        ensures leaves { Leaves D.tells D.files (numbers_of self.old) (numbers_of self.new) (holding_of self.old) (holding_of self.new)
-            (lanes_of self.old) (lanes_of self.new) result.stub ShowsNoMore HandsStay }
+        ensures leaves { SlotLeaves D.tells D.files self.old self.new result.stub ShowsNoMore HandsStay }
     {
         // The laws for the proof, that lanes and data go on to stand where a put begins. The calls do nothing.
         resting_laws();
@@ -88,14 +86,12 @@ impl<D: Drive, A: Audit> Slot<D, A> {
     /// Gives a put up: it isn't under way any more, and its data is trash. A flight that isn't listed changes nothing. It takes no memory, and is always done.
     pub fn drop_put(&mut self, flight: Flight) -> Turn<()>
         requires turns { (numbers_of self.old).turns + 1 < 2 ^ 64 }
-        ensures turns { TurnsQuietly (numbers_of self.old) (numbers_of self.new) (A.entries (audit_of self.old)) (A.entries (audit_of self.new))
-            (A.count (audit_of self.old)) (A.count (audit_of self.new)) result.answer result.stub }
+        ensures turns { SlotTurnsQuietly A.entries A.count self.old self.new result }
         ensures done { result.answer ≡ Ok tt }
         ensures drawn { (numbers_of self.new).seq ≡ (numbers_of self.old).seq }
         ensures holds { PutGoes flight.id (holding_of self.old) (holding_of self.new) }
         ensures lanes { lanes_of self.new ≡ lanes_of self.old }
-        ensures leaves { Leaves D.tells D.files (numbers_of self.old) (numbers_of self.new) (holding_of self.old) (holding_of self.new)
-            (lanes_of self.old) (lanes_of self.new) result.stub ShowsNoMore (MayGiveUp flight.id) }
+        ensures leaves { SlotLeaves D.tells D.files self.old self.new result.stub ShowsNoMore (MayGiveUp flight.id) }
     {
         // The laws for the proof, that lanes and data go on to stand where a put is given up. The calls do nothing.
         resting_laws();

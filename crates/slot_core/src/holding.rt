@@ -2,8 +2,8 @@
 
 ghost use Rattle.std.specs.Prelude.{◌≡◌, ◌+◌, ◌<◌, ◌^◌, None};
 ghost use Rattle.slot_core.specs.Sections.{MayLetGo, PinGoes, ShowsNoMore, TakesInHand, TrashHolds};
-ghost use Rattle.slot_core.specs.Turns.{Leaves, TurnsQuietly};
-ghost use Rattle.slot_core.specs.Views.{audit_of, holding_of, lanes_of, numbers_of, pins_of};
+ghost use Rattle.slot_core.specs.SlotTurns.{SlotLeaves, SlotTurnsQuietly};
+ghost use Rattle.slot_core.specs.Views.{holding_of, lanes_of, numbers_of, pins_of};
 
 use crate::audit_entry::no_memory;
 use crate::slot::Slot;
@@ -49,14 +49,12 @@ impl<D: Drive, A: Audit> Slot<D, A> {
     /// Ends a read: its pin is gone. A pin that isn't listed changes nothing. It takes no memory, and is always done.
     pub fn end_read(&mut self, pin: Pin) -> Turn<()>
         requires turns { (numbers_of self.old).turns + 1 < 2 ^ 64 }
-        ensures turns { TurnsQuietly (numbers_of self.old) (numbers_of self.new) (A.entries (audit_of self.old)) (A.entries (audit_of self.new))
-            (A.count (audit_of self.old)) (A.count (audit_of self.new)) result.answer result.stub }
+        ensures turns { SlotTurnsQuietly A.entries A.count self.old self.new result }
         ensures done { result.answer ≡ Ok tt }
         ensures drawn { (numbers_of self.new).seq ≡ (numbers_of self.old).seq }
         ensures holds { PinGoes pin.ticket (holding_of self.old) (holding_of self.new) }
         ensures lanes { lanes_of self.new ≡ lanes_of self.old }
-        ensures leaves { Leaves D.tells D.files (numbers_of self.old) (numbers_of self.new) (holding_of self.old) (holding_of self.new)
-            (lanes_of self.old) (lanes_of self.new) result.stub ShowsNoMore (MayLetGo (numbers_of self.old).set pin.ticket (holding_of self.old)) }
+        ensures leaves { SlotLeaves D.tells D.files self.old self.new result.stub ShowsNoMore (MayLetGo (numbers_of self.old).set pin.ticket (holding_of self.old)) }
     {
         // The laws for the proof, that the data goes on to stand where a pin ends. The call does nothing.
         pin_laws();
@@ -72,14 +70,12 @@ impl<D: Drive, A: Audit> Slot<D, A> {
     /// is to remove their files. `NoMemory` takes none.
     pub fn take_trash(&mut self, alloc: Global, most: u32) -> Turn<Ids>
         requires turns { (numbers_of self.old).turns + 1 < 2 ^ 64 }
-        ensures turns { TurnsQuietly (numbers_of self.old) (numbers_of self.new) (A.entries (audit_of self.old)) (A.entries (audit_of self.new))
-            (A.count (audit_of self.old)) (A.count (audit_of self.new)) result.answer result.stub }
+        ensures turns { SlotTurnsQuietly A.entries A.count self.old self.new result }
         ensures stubless { result.stub ≡ None }
         ensures drawn { (numbers_of self.new).seq ≡ (numbers_of self.old).seq }
         ensures holds { TrashHolds most (pins_of self.old) (holding_of self.old) (holding_of self.new) result.answer }
         ensures lanes { lanes_of self.new ≡ lanes_of self.old }
-        ensures leaves { Leaves D.tells D.files (numbers_of self.old) (numbers_of self.new) (holding_of self.old) (holding_of self.new)
-            (lanes_of self.old) (lanes_of self.new) result.stub ShowsNoMore (TakesInHand result.answer) }
+        ensures leaves { SlotLeaves D.tells D.files self.old self.new result.stub ShowsNoMore (TakesInHand result.answer) }
     {
         // The laws for the proof, that the data goes on to stand where trash is taken that no pin names. The calls do nothing.
         hands_laws();

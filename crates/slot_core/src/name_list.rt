@@ -1,15 +1,14 @@
 //! The names of a slot's registers.
 
 ghost use Rattle.drive_base.specs.View.{AllGoOn, GoesOn, view, views};
-ghost use Rattle.std.specs.Prelude.{◌≡◌, ◌+◌, ◌<◌, ◌^◌, ℕ, IfOk, length, map, slice_index_or, string_bytes, ◌↔◌, ◌⊎◌, ◌≤◌, List, Contains, IsSome, IsTrue, OnOk};
+ghost use Rattle.std.specs.Prelude.{◌≡◌, ◌+◌, ◌<◌, ◌^◌, ℕ, IfOk, length, map, slice_index_or, string_bytes, ◌↔◌, ◌⊎◌, ◌≤◌, List, Contains, IsTrue, OnOk};
 ghost use Rattle.std.specs.Int.{IsBitSet};
 ghost use Rattle.slot_core.specs.Hands.{HandsStay};
 ghost use Rattle.slot_core.specs.NameList.{AreShownNames, LanesAreAsked, ListsNames, SaysNothing, ShowsNames};
 ghost use Rattle.slot_core.specs.Stubs.{Says};
-ghost use Rattle.slot_core.specs.Turns.{Leaves, TurnsUnspent};
+ghost use Rattle.slot_core.specs.SlotTurns.{SlotLeaves, SlotTurnsUnspent};
 ghost use Rattle.slot_core.specs.Views.{audit_of, holding_of, lanes_of, numbers_of};
-ghost use Rattle.std.specs.BTreeMap.{get_by_text};
-ghost use Rattle.slot_core.specs.NamePages.{AsksLane};
+ghost use Rattle.slot_core.specs.NamePages.{AsksLane, IsGathered};
 ghost use Rattle.slot_core.specs.LanesStay.{FilesStay};
 
 use crate::slot::{Slot, SlotFault};
@@ -28,12 +27,10 @@ impl<D: Drive, A: Audit> Slot<D, A> {
     /// `ReadQuorum` with the letters of the lanes, where fewer answered. It draws no number, and numbers that are spent don't refuse it.
     pub fn list_names(&mut self, alloc: Global, from: &str, most: u32) -> Turn<Names>
         requires turns { (numbers_of self.old).turns + 1 < 2 ^ 64 }
-        ensures turns { TurnsUnspent (numbers_of self.old) (numbers_of self.new) (A.entries (audit_of self.old)) (A.entries (audit_of self.new))
-            (A.count (audit_of self.old)) (A.count (audit_of self.new)) result.answer result.stub }
+        ensures turns { SlotTurnsUnspent A.entries A.count self.old self.new result }
         ensures says { Says result.stub SaysNothing }
         ensures holds { holding_of self.new ≡ holding_of self.old }
-        ensures leaves { Leaves D.tells D.files (numbers_of self.old) (numbers_of self.new) (holding_of self.old) (holding_of self.new)
-            (lanes_of self.old) (lanes_of self.new) result.stub (ShowsNames from.now most result.answer) HandsStay }
+        ensures leaves { SlotLeaves D.tells D.files self.old self.new result.stub (ShowsNames from.now most result.answer) HandsStay }
         ensures lists { ListsNames D.Drive (numbers_of self.old).set from.now most result.answer (lanes_of self.old) (lanes_of self.new) }
         ensures files { FilesStay D.Drive (lanes_of self.old) (lanes_of self.new) }
         ensures lanes { AllGoOn (views D.Drive (lanes_of self.old)) (views D.Drive (lanes_of self.new)) }
@@ -142,8 +139,7 @@ fn ask_lane<D: Drive>(
     most: u32,
     gathered: &mut BTreeMap<String, ()>,
 ) -> Result<Why, NoMemory>
-    ensures asks { IfOk result (λ why. AsksLane D.Drive (IsTrue is_out) from.now most why
-        (λ name. IsSome (get_by_text gathered.old name)) (λ name. IsSome (get_by_text gathered.new name)) lane.old lane.new) }
+    ensures asks { IfOk result (λ why. AsksLane D.Drive (IsTrue is_out) from.now most why (IsGathered gathered.old) (IsGathered gathered.new) lane.old lane.new) }
     ensures files { IsTrue (D.tells lane.old) → D.files lane.new ≡ D.files lane.old }
     ensures goes_on { GoesOn (view D.Drive lane.old) (view D.Drive lane.new) }
     ensures alone { IsTrue is_out → lane.new ≡ lane.old }
@@ -167,8 +163,7 @@ fn ask_lane<D: Drive>(
 
 /// Gathers names.
 fn gather(gathered: &mut BTreeMap<String, ()>, mut names: Vec<String>) -> Result<(), NoMemory>
-    ensures { OnOk result ((name : List ℕ) → IsSome (get_by_text gathered.new name)
-        ↔ (IsSome (get_by_text gathered.old name) ⊎ Contains (map string_bytes names.items) name)) }
+    ensures { OnOk result ((name : List ℕ) → IsGathered gathered.new name ↔ (IsGathered gathered.old name ⊎ Contains (map string_bytes names.items) name)) }
 {
     while let Some(name) = names.pop() {
         gathered.insert(name, ())?;

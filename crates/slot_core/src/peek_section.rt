@@ -8,13 +8,12 @@ ghost use Rattle.slot_core.specs.Deeds.{MayLook};
 ghost use Rattle.slot_core.specs.Hands.{HandsStay};
 ghost use Rattle.slot_core.specs.Sections.{SaysKept, ShowsContent};
 ghost use Rattle.slot_core.specs.Stubs.{Says, completed_by};
-ghost use Rattle.slot_core.specs.Turns.{Leaves, Turns};
-ghost use Rattle.slot_core.specs.Views.{audit_of, holding_of, lanes_of, numbers_of};
+ghost use Rattle.slot_core.specs.SlotTurns.{SlotLeaves, SlotTurns};
+ghost use Rattle.slot_core.specs.Views.{holding_of, lanes_of, numbers_of};
 ghost use Rattle.drive_base.specs.View.{AllGoOn, AllOnlyRead, views};
 ghost use Rattle.drive_base.specs.declared.drive.TheConstants.{LONGEST_NAME};
 ghost use Rattle.register_core.specs.Found.{content_of};
-ghost use Rattle.slot_data.specs.Holding.{Holding};
-ghost use Rattle.slot_core.specs.PeekSection.{IsRefusal, LookLeaves, PeekCalls, TurnsAt};
+ghost use Rattle.slot_core.specs.PeekSection.{IsRefusal, LookLeaves, PeekCalls, PeekTurnLeaves, TurnsAt};
 ghost use Rattle.slot_core.specs.Settlement.{numbers_at};
 
 use crate::audit_entry::{
@@ -39,12 +38,10 @@ impl<D: Drive, A: Audit> Slot<D, A> {
         requires disks { length disks.old ≡ (numbers_of self.old).set.drives }
         requires named { IsRegisterName name.now }
         requires short { length name.now ≤ LONGEST_NAME }
-        ensures turns { Turns (numbers_of self.old) (numbers_of self.new) (A.entries (audit_of self.old)) (A.entries (audit_of self.new))
-            (A.count (audit_of self.old)) (A.count (audit_of self.new)) result.answer result.stub }
+        ensures turns { SlotTurns A.entries A.count self.old self.new result }
         ensures says { Says result.stub (SaysKept name.now) }
         ensures holds { holding_of self.new ≡ holding_of self.old }
-        ensures leaves { Leaves D.tells D.files (numbers_of self.old) (numbers_of self.new) (holding_of self.old) (holding_of self.new)
-            (lanes_of self.old) (lanes_of self.new) result.stub (ShowsContent name.now result.answer) HandsStay }
+        ensures leaves { SlotLeaves D.tells D.files self.old self.new result.stub (ShowsContent name.now result.answer) HandsStay }
         ensures cause { PeekCause D.Drive (numbers_of self.old) (numbers_of self.new) name.now result.answer (completed_by result.stub)
             (lanes_of self.old) (lanes_of self.new) disks.old disks.new }
         ensures lanes { AllGoOn (views D.Drive (lanes_of self.old)) (views D.Drive (lanes_of self.new)) }
@@ -174,8 +171,7 @@ pub(crate) fn peek_at<D: Drive, A: Audit>(
     requires short { length name.now ≤ LONGEST_NAME }
     ensures turns { TurnsAt (numbers_at site.now drawn.old) (A.entries audit.old) (A.entries audit.new) (A.count audit.old) (A.count audit.new) result.answer result.stub }
     ensures says { Says result.stub (SaysKept name.now) }
-    ensures leaves { (holding : Holding) → Leaves D.tells D.files (numbers_at site.now drawn.old) (numbers_at site.now drawn.new) holding holding
-        lanes.old lanes.new result.stub (ShowsContent name.now result.answer) HandsStay }
+    ensures leaves { PeekTurnLeaves D.tells D.files site.now drawn.old drawn.new name.now result lanes.old lanes.new }
     ensures cause { PeekCause D.Drive (numbers_at site.now drawn.old) (numbers_at site.now drawn.new) name.now result.answer (completed_by result.stub)
         lanes.old lanes.new disks.old disks.new }
     ensures lanes { AllGoOn (views D.Drive lanes.old) (views D.Drive lanes.new) }

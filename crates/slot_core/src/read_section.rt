@@ -6,11 +6,11 @@ ghost use Rattle.slot_core.specs.Numbers.{Draws};
 ghost use Rattle.slot_core.specs.Deeds.{MayLook};
 ghost use Rattle.slot_core.specs.Hands.{HandsStay};
 ghost use Rattle.slot_core.specs.ReadSection.{BeginsPlan, FinishesPlan, LooksForRead, PinIsListed, ReadCause, entries_of};
-ghost use Rattle.slot_core.specs.ReadLeaves.{BegunLeaves, ReadCalls, ReadLeaves};
+ghost use Rattle.slot_core.specs.ReadLeaves.{BegunCause, BegunLeaves, ReadCalls, ReadLeaves};
 ghost use Rattle.slot_core.specs.Sections.{ReadHolds, SaysRead, ShowsNoMore};
 ghost use Rattle.slot_core.specs.Stubs.{Says, completed_by};
-ghost use Rattle.slot_core.specs.Turns.{Leaves, Turns};
-ghost use Rattle.slot_core.specs.Views.{audit_of, holding_of, lanes_of, numbers_of};
+ghost use Rattle.slot_core.specs.SlotTurns.{SlotLeaves, SlotTurns};
+ghost use Rattle.slot_core.specs.Views.{holding_of, lanes_of, numbers_of};
 ghost use Rattle.drive_base.specs.View.{AllGoOn, AllOnlyRead, views};
 ghost use Rattle.drive_base.specs.declared.drive.TheConstants.{LONGEST_NAME};
 ghost use Rattle.audit_trail.specs.Entries.{with_entry};
@@ -55,12 +55,10 @@ impl<D: Drive, A: Audit> Slot<D, A> {
         requires bucket { IsUtf8 at.now.bucket }
         requires key { IsUtf8 at.now.key }
         requires short { length (key_name at.now) ≤ LONGEST_NAME }
-        ensures turns { Turns (numbers_of self.old) (numbers_of self.new) (A.entries (audit_of self.old)) (A.entries (audit_of self.new))
-            (A.count (audit_of self.old)) (A.count (audit_of self.new)) result.answer result.stub }
+        ensures turns { SlotTurns A.entries A.count self.old self.new result }
         ensures says { Says result.stub (SaysRead at.now mode pick.now result.answer) }
         ensures holds { ReadHolds (numbers_of self.old) at.now result.answer (holding_of self.old) (holding_of self.new) }
-        ensures leaves { Leaves D.tells D.files (numbers_of self.old) (numbers_of self.new) (holding_of self.old) (holding_of self.new)
-            (lanes_of self.old) (lanes_of self.new) result.stub ShowsNoMore HandsStay }
+        ensures leaves { SlotLeaves D.tells D.files self.old self.new result.stub ShowsNoMore HandsStay }
         ensures cause { ReadCause D.Drive (numbers_of self.old) (numbers_of self.new) at.now pick.now result.answer (completed_by result.stub)
             (lanes_of self.old) (lanes_of self.new) disks.old disks.new }
         ensures lanes { AllGoOn (views D.Drive (lanes_of self.old)) (views D.Drive (lanes_of self.new)) }
@@ -278,8 +276,7 @@ pub(crate) fn read_at<D: Drive, A: Audit>(
     ensures says { Says result.stub (SaysRead at.now ask.now.mode ask.now.pick result.answer) }
     ensures pins { PinIsListed ask.now.site.turns at.now result.answer pins.old.items pins.new.items }
     ensures leaves { BegunLeaves D.tells D.files ask.now drawn.old drawn.new at.now result lanes.old lanes.new }
-    ensures cause { ReadCause D.Drive (numbers_at ask.now.site drawn.old) (numbers_at ask.now.site drawn.new) at.now ask.now.pick result.answer (completed_by result.stub)
-        lanes.old lanes.new disks.old disks.new }
+    ensures cause { BegunCause D.Drive ask.now drawn.old drawn.new at.now result lanes.old lanes.new disks.old disks.new }
     ensures lanes { AllGoOn (views D.Drive lanes.old) (views D.Drive lanes.new) }
     ensures disks_read { AllOnlyRead (views D.Drive disks.old) (views D.Drive disks.new) }
     ensures draws { Draws 1 32 drawn.old drawn.new }

@@ -1,5 +1,5 @@
 -- A section's own change: its base, its id, its numbers and its draft.
-use Rattle.std.specs.Prelude.{◌≡◌, ◌≢◌, ℕ, ◌+◌, Option, None, Some}
+use Rattle.std.specs.Prelude.{◌≡◌, ◌≢◌, ℕ, ◌+◌, IfOk, List, Option, None, Result, Some}
 use Rattle.call_types.specs.declared.reply.Reply.{Reply}
 use Rattle.stamp_id.specs.declared.stamp.ChangeId.{ChangeId}
 use Rattle.stamp_id.specs.declared.version.VersionId.{VersionId}
@@ -83,3 +83,11 @@ pub record IsOwnOf (site : Site) (last : ℕ) (ready : Ready) (deed : Commit) (p
   pub id_slot : id.slot ≡ site.index
   pub does : DoesOver (name_of deed) (content_of ready.looked.base ready.looked.pending) (call_of deed (Some next.change) now) id reply next.content
   pub changed : next.content ≢ content_of ready.looked.base ready.looked.pending
+
+-- where a call of the deed leaves another content than the register's, the own change is one that leaves it
+abbrev pub OwnLeaves : {E : Type 0} → Site → ℕ → Ready → Commit → Option VersionId → VersionId → List ℕ → Result Own E → Type 0
+OwnLeaves site last ready deed put id content result = (now : ℕ) (reply : Reply) → (
+    let found : List ℕ = content_of ready.looked.base ready.looked.pending in
+    DoesOver (name_of deed) found (call_of deed (Some id.change) now) id reply content
+    → content ≢ found
+    → IfOk result (λ own. (is : IsOwnOf site last ready deed put now reply own) × (is.next.content ≡ content)))

@@ -1,13 +1,10 @@
 //! A section's own change: its id, its numbers and its files.
 
-ghost use Rattle.std.specs.Prelude.{◌≡◌, ◌≢◌, ℕ, ◌+◌, ◌<◌, ◌≤◌, ◌^◌, IfOk, Some, length};
-ghost use Rattle.call_types.specs.declared.reply.Reply.{Reply};
+ghost use Rattle.std.specs.Prelude.{◌≡◌, ◌+◌, ◌<◌, ◌≤◌, ◌^◌, IfOk, Some, length};
 ghost use Rattle.sealed_record.specs.Fields.{IfThere};
-ghost use Rattle.register_core.specs.Found.{content_of};
 ghost use Rattle.register_file.specs.Record.{AddsPrint, IsCanonicalNext};
-ghost use Rattle.slot_rules.specs.Deeds.{call_of, name_of};
-ghost use Rattle.slot_rules.specs.Owning.{IsDraftable, IsOwnChange, IsOwnDraft, IsOwnId, IsOwnOf, again_takes, id_over, life_at, own_seq};
-ghost use Rattle.slot_rules.specs.Planning.{DoesOver, act_adds, adds_of, most_for};
+ghost use Rattle.slot_rules.specs.Owning.{IsDraftable, IsOwnDraft, IsOwnId, OwnLeaves, again_takes, id_over, life_at, own_seq};
+ghost use Rattle.slot_rules.specs.Planning.{act_adds, adds_of, most_for};
 ghost use Rattle.slot_rules.specs.Owning.{base_after};
 
 use crate::commit::Commit;
@@ -198,10 +195,7 @@ pub(crate) fn own_of(
     requires short { length content ≤ most_for deed.now }
     requires within { most_for deed.now ≤ ready.now.looked.longest }
     ensures change { IfOk result (λ own. own.change ≡ id.change) }
-    ensures own { (now : ℕ) (reply : Reply)
-        → DoesOver (name_of deed.now) (content_of ready.now.looked.base ready.now.looked.pending) (call_of deed.now (Some id.change) now) id reply content
-        → content ≢ content_of ready.now.looked.base ready.now.looked.pending
-        → IfOk result (λ own. (is : IsOwnOf site.now last ready.now deed.now put now reply own) × (is.next.content ≡ content)) }
+    ensures own { OwnLeaves site.now last ready.now deed.now put id content result }
 {
     let seq = ballot_seq(last, put);
     let parent = parent_of(ready);

@@ -142,7 +142,7 @@ returns-clause-calls g c =
     let T : Type 0 = g.row.D.Denot in
     let D = g.D.Drive in
     writes_calls {D = T} D c.args.site.now c.args.drawn.now c.forward.new.drawn c.write_own.new.drawn c.args.ready.first c.args.plan c.in-Some.own c.in-Ok.late
-    c.write_own.result c.args.lanes.now c.forward.new.lanes c.write_own.new.lanes c.in-Some.is c.write_own.ensures.seq c.in-Ok.ensures.calls c.write_own.ensures.calls
+    c.write_own.result c.args.lanes.now c.forward.new.lanes c.write_own.new.lanes c.in-Some.is c.write_own.ensures.draws.seq c.in-Ok.ensures.calls c.write_own.ensures.calls
 
 pub returns-clause-lanes : goal.returns-clause-lanes
 returns-clause-lanes g c =
