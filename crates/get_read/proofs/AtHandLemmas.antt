@@ -10,7 +10,7 @@ use Rattle.call_types.specs.declared.why.Why.{Why}
 use Rattle.call_types.specs.declared.why.Why.TheVariants.{Good}
 use Rattle.poly_code.specs.Codeword.{AreDistinct}
 use Rattle.get_read.specs.declared.blocks.Blocks.{Blocks}
-use Rattle.get_read.specs.Sifting.{AreAtHand, AreSifted, row_at}
+use Rattle.get_read.specs.Blocks.{AreAtHand, AreSifted, row_at}
 
 -- the drives of the blocks, with one more
 pub rows_below : (place : ℕ) (found next : Blocks) → next.rows.items ≡ found.rows.items ++ place ∷ [] → All (λ row. row < place) found.rows.items

@@ -16,7 +16,7 @@ use Rattle.drive_base.specs.declared.fault.DriveFault.TheVariants as fault
 use Rattle.file_access.specs.Reading.{FailedOnce, IsCutShort, IsShort, IsWhyNot, NeverDamaged, NoDamage}
 use Rattle.file_access.specs.Trails.{AnswerOf, FillAnswerOf}
 use Rattle.get_read.specs.Account.{WasSeen}
-use Rattle.get_read.specs.Calling.{SizeCall, WasSeenSo}
+use Rattle.get_read.specs.Calls.{SizeCall, WasSeenSo}
 use Rattle.get_read.specs.Letters.{TellsNoPiece}
 
 -- a reading of a drive, by what its answer tells

@@ -25,15 +25,15 @@ use Rattle.shard_file.specs.Stripes.{piece, stripe_count, stripe_length, stripe_
 use Rattle.body_print.specs.Names.{shard_name}
 use Rattle.get_read.specs.declared.blocks.Blocks.{Blocks}
 use Rattle.get_read.specs.Account.{Account, Call, WasSeen}
-use Rattle.get_read.specs.Calling.{WasSeenSo}
-use Rattle.get_read.specs.Advancing.{GivesRun, IsStripeBy, StripeAnswers}
+use Rattle.get_read.specs.Calls.{WasSeenSo}
+use Rattle.get_read.specs.Progress.{GivesRun, IsStripeBy, StripeAnswers}
 use Rattle.get_read.specs.Causes.{digest_in}
-use Rattle.get_read.specs.Judging.{IsRebuilt, JudgesStripe}
+use Rattle.get_read.specs.Stripes.{IsRebuilt, JudgesStripe}
 use Rattle.get_read.specs.Letters.{BlockLetter, GaveBlockIn, IsBlockIn, IsTableIn, NoBlockOf, TellsNoBytes, TellsNoTable}
-use Rattle.get_read.specs.Passing.{PassesDrive, PassesOver}
+use Rattle.get_read.specs.PassedDrives.{PassesDrive, PassesOver}
 use Rattle.get_read.specs.Readers.{AreTablesOf, IsStripe, IsStripeOf, Told, all_calls}
 use Rattle.get_read.specs.Refusing.{FewGiveIn}
-use Rattle.get_read.specs.Sifting.{AreAtHand, AreSifted, IsRow, block_at, row_at, stored_at}
+use Rattle.get_read.specs.Blocks.{AreAtHand, AreSifted, IsRow, block_at, row_at, stored_at}
 use Rattle.get_read.specs.declared.faults.BodyFault.{BodyFault}
 use Rattle.get_read.specs.declared.faults.BodyFault.TheVariants.{InvalidRange, ShardQuorum, NoMemory}
 use Rattle.get_read.specs.declared.state.StripeWork.{StripeWork}

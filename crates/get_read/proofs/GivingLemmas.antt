@@ -18,12 +18,12 @@ use Rattle.body_print.proofs.CutLemmas.{text_tells_cuts}
 use Rattle.body_print.specs.Names.{manifest_name}
 use Rattle.body_print.specs.Prints.{IsCutAs, IsCutOf}
 use Rattle.get_read.specs.Account.{Account}
-use Rattle.get_read.specs.Advancing.{IsRunBy}
+use Rattle.get_read.specs.Progress.{IsRunBy}
 use Rattle.get_read.specs.Causes.{body_length}
 use Rattle.get_read.specs.Given.{AreOfSpanIn, IsFoundIn}
 use Rattle.get_read.specs.Outcomes.{wanted_of}
-use Rattle.get_read.specs.Turning.{wanted_of_stripe}
-use Rattle.get_read.specs.declared.state.Fetching.{Fetching as FetchingRecord}
+use Rattle.get_read.specs.Turns.{wanted_of_stripe}
+use Rattle.get_read.specs.declared.fetch.Fetching.{Fetching as FetchingRecord}
 use Rattle.get_read.proofs.SpanByLemmas.{goes_on, of_body}
 
 -- where the pieces of a body begin that is cut as parts say

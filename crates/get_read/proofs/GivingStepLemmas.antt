@@ -9,24 +9,24 @@ use Rattle.drive_base.specs.declared.drive.Drive.{Ghosts}
 use Rattle.manifest_file.specs.declared.manifest.ManifestPart.{ManifestPart}
 use Rattle.shard_file.specs.Stripes.{stripe_size}
 use Rattle.get_read.specs.Account.{Account, AreInUse}
-use Rattle.get_read.specs.Advancing.{FetchAnswers, FetchSteps, IsRunBy}
+use Rattle.get_read.specs.Progress.{FetchAnswers, FetchSteps, IsRunBy}
 use Rattle.get_read.specs.Causes.{body_length}
 use Rattle.get_read.specs.Given.{AreOfSpanIn, IsFoundIn}
-use Rattle.get_read.specs.Held.{all_bytes}
+use Rattle.get_read.specs.Blocks.{all_bytes}
 use Rattle.get_read.specs.Readers.{AreCalls, AreOfState, AreTablesOf, IsRefusedIn, IsStateOf, StepsFrom, Told, all_calls, set_of, told_after, wants}
-use Rattle.get_read.specs.Turning.{GivesPiece, wanted_of_stripe}
+use Rattle.get_read.specs.Turns.{GivesPiece, wanted_of_stripe}
 use Rattle.get_read.specs.declared.faults.BodyFault.{BodyFault}
 use Rattle.get_read.specs.declared.faults.BodyFault.TheVariants.{InvalidRange, ShardQuorum, NoMemory}
 use Rattle.get_read.specs.declared.reader.ReadStep.{ReadStep}
 use Rattle.get_read.specs.declared.reader.ReadStep.TheVariants.{More, Piece, Done}
 use Rattle.get_read.specs.declared.state.Asked.{Asked}
 use Rattle.get_read.specs.declared.state.PartWork.{PartWork}
-use Rattle.get_read.specs.declared.state.Fetching.{Fetching as FetchingRecord}
+use Rattle.get_read.specs.declared.fetch.Fetching.{Fetching as FetchingRecord}
 use Rattle.get_read.specs.declared.state.State.{State}
 use Rattle.get_read.specs.declared.state.State.TheVariants.{Fetching, Refused}
 use Rattle.get_read.proofs.AccountLemmas.{found_on, span_on}
 use Rattle.get_read.proofs.GivingLemmas.{given_on}
-use Rattle.get_read.proofs.ReaderLemmas.{fetch_begins, in_use_on, no_turn, none_held, one_turn, stands_after}
+use Rattle.get_read.proofs.ReaderLemmas.{ends_without, fetch_begins, in_use_on, no_turn, none_held, one_turn, stands_after}
 
 -- the tables of the same part are held on
 held_again : (d : ℕ) (parts : List ManifestPart) (old new : PartWork) (was is : ManifestPart) (calls : Account) → new ≡ old
@@ -170,14 +170,7 @@ module _ {D : Type 0} (ghosts : Ghosts D) where
   fetch_given asked fetching next stripe new piece (Ok Done) before after same place steps gives = absurd gives
   fetch_given asked fetching next stripe new piece (Err fault) before after same place steps gives =
       let are : AreCalls ghosts (set_of asked).out steps.calls before after = subst (λ (a : Asked). AreCalls ghosts (set_of a).out steps.calls before after) same steps.are in
-      subst (λ (s : State). StepsFrom ghosts asked (Fetching fetching) s piece (Err fault) before after) (sym gives.1)
-      (subst (λ (f : BodyFault). StepsFrom ghosts asked (Fetching fetching) (Refused NoMemory) piece (Err f) before after) (sym gives.0) (record {
-        calls = steps.calls;
-        are = are;
-        made = omega (arith, steps.made);
-        stays = tt;
-        goes_on = λ told given so. (stands_after ghosts false asked (Fetching fetching) (Refused NoMemory) told steps.calls before after given so are tt, tt);
-      }))
+      ends_without ghosts asked (Fetching fetching) new piece fault steps.calls before after are (omega (arith, steps.made)) tt gives.0 gives.1
   fetch_given asked fetching next stripe new piece (Ok Piece) before after same place steps gives =
       let are : AreCalls ghosts (set_of asked).out steps.calls before after = subst (λ (a : Asked). AreCalls ghosts (set_of a).out steps.calls before after) same steps.are in
       record {

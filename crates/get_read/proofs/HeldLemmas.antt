@@ -9,8 +9,8 @@ use Rattle.call_types.specs.declared.why.Why.TheVariants.{Good}
 use Rattle.drive_base.specs.Plan.{data_drives}
 use Rattle.drive_base.specs.declared.plan.SetPlan.{SetPlan}
 use Rattle.shard_file.specs.Stripes.{stripe_size}
-use Rattle.get_read.specs.Held.{all_bytes}
-use Rattle.get_read.specs.Passing.{PassesOver}
+use Rattle.get_read.specs.Blocks.{all_bytes}
+use Rattle.get_read.specs.PassedDrives.{PassesOver}
 use Rattle.get_read.specs.declared.blocks.Blocks.{Blocks}
 
 -- some table of a list that has one

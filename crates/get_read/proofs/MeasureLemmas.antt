@@ -9,20 +9,20 @@ use Rattle.drive_base.specs.declared.plan.SetPlan.{SetPlan}
 use Rattle.manifest_file.specs.declared.manifest.Manifest.{Manifest}
 use Rattle.shard_file.proofs.StripeLemmas.{stripes_reach}
 use Rattle.shard_file.specs.Stripes.{stripe_count}
-use Rattle.get_read.specs.Going.{StaysBesides}
-use Rattle.get_read.specs.Held.{all_bytes}
-use Rattle.get_read.specs.Judging.{JudgesStripe}
+use Rattle.get_read.specs.Progress.{StaysBesides}
+use Rattle.get_read.specs.Blocks.{all_bytes}
+use Rattle.get_read.specs.Stripes.{JudgesStripe}
 use Rattle.get_read.specs.Measure.{Falls, FallsOn, ahead_left, alone_left, one_held, one_told, run_left, search_left, state_left, steps_a_stripe, stripe_left}
 use Rattle.get_read.specs.Readers.{set_of}
-use Rattle.get_read.specs.Turning.{BeginsSpan, GivesPiece}
+use Rattle.get_read.specs.Turns.{BeginsSpan, GivesPiece}
 use Rattle.get_read.specs.Windows.{RunTakes}
 use Rattle.get_read.specs.declared.faults.BodyFault.{BodyFault}
 use Rattle.get_read.specs.declared.faults.BodyFault.TheVariants.{NoMemory}
 use Rattle.get_read.specs.declared.reader.ReadStep.{ReadStep}
 use Rattle.get_read.specs.declared.reader.ReadStep.TheVariants.{More, Piece, Done}
 use Rattle.get_read.specs.declared.state.Asked.{Asked}
-use Rattle.get_read.specs.declared.state.Search.{Search}
-use Rattle.get_read.specs.declared.state.Fetching.{Fetching as FetchingRecord}
+use Rattle.get_read.specs.declared.search.Search.{Search}
+use Rattle.get_read.specs.declared.fetch.Fetching.{Fetching as FetchingRecord}
 use Rattle.get_read.specs.declared.state.StripeWork.{StripeWork}
 use Rattle.get_read.specs.declared.state.State.{State}
 use Rattle.get_read.specs.declared.state.State.TheVariants.{Searching, Fetching, Refused}

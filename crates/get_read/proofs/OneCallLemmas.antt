@@ -3,7 +3,7 @@ use Rattle.std.proofs.Common.{◌≡◌, ◌∙◌, ℕ, ◌<◌, List, [], ◌�
 use Rattle.std.specs.Int.{IsBitSet}
 use Rattle.field_reader.specs.Spelling.{IsBytes}
 use Rattle.std.proofs.lemmas.Bool.{cases_eq}
-use Rattle.std.proofs.lemmas.List.{get_or-set_other, get_or-set_same, get_or_default, length-set}
+use Rattle.std.proofs.lemmas.List.{get_or-set_other, get_or-set_same, get_or_default, length-set, set-get_or}
 use Rattle.drive_base.proofs.ViewLemmas.{at_each_view, length-views, none_since, view_at-views}
 use Rattle.drive_base.specs.Calls.{Seen, Showed, WasMade}
 use Rattle.drive_base.specs.View.{AllOnlyRead, DriveView, OnlyRead, view, views, view_at}
@@ -20,38 +20,39 @@ untouched drive = record { goes_on = record { tells = refl; count = omega arith 
 pub shown_bytes : (name : List ℕ) (at : ℕ) (bytes : List ℕ) (old new : DriveView) → WasSeen (Showed name at bytes) old new → IsBytes bytes
 shown_bytes name at bytes old new seen = (calls_tell_what_was_so seen.made (Showed name at bytes) old new seen.was seen.tells).1
 
--- an element is found again, whatever stands for one that is not there
-pub again : {D : Type 0} (drives : List D) (k : ℕ) (d : D) → k < length drives → slice_index_or drives k (slice_index_or drives k d) ≡ slice_index_or drives k d
-again drives k d low = get_or_default drives k (slice_index_or drives k d) d low
-
 module _ {D : Type 0} (ghosts : Ghosts D) where
   -- the call is one of the drives' calls
-  pub called_once : (out k : ℕ) (seen : Seen) (drives : List D) (was now : D) → k < length drives → (IsBitSet out k → ⊥)
-      → slice_index_or drives k was ≡ was → (seen_so : WasSeen seen (view ghosts was) (view ghosts now))
+  pub called_once : (out k : ℕ) (seen : Seen) (drives : List D) (e now : D) → k < length drives → (IsBitSet out k → ⊥)
+      → (seen_so : WasSeen seen (view ghosts (slice_index_or drives k e)) (view ghosts now))
       → AreCalls ghosts out (record { drive = k; made = seen_so.made } ∷ []) drives (slice_set drives k now)
-  called_once out k seen drives was now low in_use is seen_so =
-      let before : view_at (views ghosts drives) k ≡ view ghosts was = view_at-views ghosts drives k was low ∙ ap (view ghosts) is in
+  called_once out k seen drives e now low in_use seen_so =
+      let was = view ghosts (slice_index_or drives k e) in
+      let before : view_at (views ghosts drives) k ≡ was = view_at-views ghosts drives k e low in
       let after : view_at (views ghosts (slice_set drives k now)) k ≡ view ghosts now =
-      view_at-views ghosts (slice_set drives k now) k was (omega (arith, length-set drives k now)) ∙ ap (view ghosts) (get_or-set_same drives k now was low) in (
+      view_at-views ghosts (slice_set drives k now) k e (omega (arith, length-set drives k now)) ∙ ap (view ghosts) (get_or-set_same drives k now e low) in (
         record {
           within = omega (arith, length-views ghosts drives);
           in_use = in_use;
           was = subst (λ (v : DriveView). WasMade seen_so.made v (view_at (views ghosts (slice_set drives k now)) k)) (sym before)
-              (subst (λ (v : DriveView). WasMade seen_so.made (view ghosts was) v) (sym after) seen_so.was);
+              (subst (λ (v : DriveView). WasMade seen_so.made was v) (sym after) seen_so.was);
           reading = seen_so.reading;
         },
         λ other d apart. get_or-set_other drives k other now d apart,
       )
 
+  -- without a call they are as before
+  pub none_called : (drives : List D) (k : ℕ) (e now : D) → now ≡ slice_index_or drives k e → slice_set drives k now ≡ drives
+  none_called drives k e now same = ap (slice_set drives k) same ∙ set-get_or drives k e
+
   -- and all drives were only read, where that one was
-  pub only_read_at : (k : ℕ) (drives : List D) (was now : D) → k < length drives → slice_index_or drives k was ≡ was
-      → OnlyRead (view ghosts was) (view ghosts now) → AllOnlyRead (views ghosts drives) (views ghosts (slice_set drives k now))
-  only_read_at k drives was now low is read = at_each_view ghosts (λ _. OnlyRead) drives (slice_set drives k now) (length-set drives k now)
+  pub only_read_at : (k : ℕ) (drives : List D) (e now : D) → k < length drives → OnlyRead (view ghosts (slice_index_or drives k e)) (view ghosts now)
+      → AllOnlyRead (views ghosts drives) (views ghosts (slice_set drives k now))
+  only_read_at k drives e now low read = at_each_view ghosts (λ _. OnlyRead) drives (slice_set drives k now) (length-set drives k now)
       (λ j d inside. elim (cases_eq j k) [
         | inl same ↦
             subst (λ (v : DriveView). OnlyRead v (view ghosts (slice_index_or (slice_set drives k now) j d)))
-            (ap (view ghosts) (sym (ap (λ (i : ℕ). slice_index_or drives i d) same ∙ get_or_default drives k d was low ∙ is)))
-            (subst (λ (v : DriveView). OnlyRead (view ghosts was) v)
+            (ap (view ghosts) (sym (ap (λ (i : ℕ). slice_index_or drives i d) same ∙ get_or_default drives k d e low)))
+            (subst (λ (v : DriveView). OnlyRead (view ghosts (slice_index_or drives k e)) v)
             (ap (view ghosts) (sym (ap (λ (i : ℕ). slice_index_or (slice_set drives k now) i d) same ∙ get_or-set_same drives k now d low))) read)
         | inr apart ↦
             subst (λ (v : DriveView). OnlyRead (view ghosts (slice_index_or drives j d)) v)

@@ -1,5 +1,5 @@
 -- A reader before and after one step.
-use Rattle.std.proofs.Common.{◌≡◌, ◌∙◌, ℕ, ◌+◌, ◌<◌, List, [], ◌∷◌, ◌++◌, length, replicate, slice_index_or, ap, refl, subst, sym, inl, arith, append-nil, append_assoc}
+use Rattle.std.proofs.Common.{◌≡◌, ◌∙◌, ℕ, ◌+◌, ◌<◌, ◌≤◌, List, [], ◌∷◌, ◌++◌, length, replicate, slice_index_or, ap, refl, subst, sym, inl, arith, append-nil, append_assoc}
 use Rattle.std.specs.Prelude.{Bool, Err, None, Ok, Option, Result, Some, false, true}
 use Rattle.std.specs.Int.{IsBitSet}
 use Rattle.std.proofs.lemmas.List.{get_or-replicate, get_or_default, length-replicate}
@@ -13,23 +13,23 @@ use Rattle.drive_base.specs.declared.plan.SetPlan.{SetPlan}
 use Rattle.manifest_file.specs.declared.manifest.Manifest.{Manifest}
 use Rattle.manifest_file.specs.declared.manifest.ManifestPart.{ManifestPart}
 use Rattle.get_read.specs.Account.{Account, AreInUse, Call}
-use Rattle.get_read.specs.Advancing.{SearchAnswers, SearchSteps}
+use Rattle.get_read.specs.Progress.{SearchAnswers, SearchSteps}
 use Rattle.get_read.specs.Given.{AreOfSpanIn, IsFoundIn}
-use Rattle.get_read.specs.Held.{all_bytes}
-use Rattle.get_read.specs.Readers.{AreCalls, AreOfState, AreTablesOf, IsFetchOf, IsRefusedIn, IsSearchOf, IsStateOf, StepsFrom, TellsFound, Told, all_calls, set_of, told_after, wants}
+use Rattle.get_read.specs.Blocks.{all_bytes}
+use Rattle.get_read.specs.Readers.{AreCalls, AreOfState, AreTablesOf, IsFetchOf, IsRefusedIn, IsSearchOf, IsStateOf, StaysSo, StepsFrom, TellsFound, Told, all_calls, set_of, told_after, wants}
 use Rattle.get_read.specs.Refusing.{NoneServesIn}
 use Rattle.get_read.specs.States.{manifest_in}
-use Rattle.get_read.specs.Turning.{BeginsAt, BeginsSpan, HasNoRuns}
+use Rattle.get_read.specs.Turns.{BeginsAt, BeginsSpan, HasNoRuns}
 use Rattle.get_read.specs.Windows.{AreAhead}
 use Rattle.get_read.specs.declared.faults.BodyFault.{BodyFault}
 use Rattle.get_read.specs.declared.faults.BodyFault.TheVariants.{InvalidRange, ShardQuorum, NoMemory}
-use Rattle.get_read.specs.declared.manifests.Wanted.{Wanted}
+use Rattle.get_read.specs.declared.search.Wanted.{Wanted}
 use Rattle.get_read.specs.declared.reader.Reader.{Reader}
 use Rattle.get_read.specs.declared.reader.ReadStep.{ReadStep}
 use Rattle.get_read.specs.declared.reader.ReadStep.TheVariants.{More, Piece, Done}
 use Rattle.get_read.specs.declared.state.Asked.{Asked}
-use Rattle.get_read.specs.declared.state.Search.{Search}
-use Rattle.get_read.specs.declared.state.Fetching.{Fetching as FetchingRecord}
+use Rattle.get_read.specs.declared.search.Search.{Search}
+use Rattle.get_read.specs.declared.fetch.Fetching.{Fetching as FetchingRecord}
 use Rattle.get_read.specs.declared.state.State.{State}
 use Rattle.get_read.specs.declared.state.State.TheVariants.{Searching, Fetching, Ended, Refused}
 use Rattle.get_read.specs.declared.window.Window.{Window}
@@ -168,7 +168,25 @@ none_held d n part tables calls none = λ k low. inl (ap (λ (t : List (List ℕ
 told_same : (told : Told) → told_after false told [] ≡ told
 told_same told = ap (λ (s : Account). record { before = told.before; since = s }) (append-nil told.since)
 
+-- without a call more a state stands on
+state_still : (asked : Asked) (state : State) (told : Told) (given : List ℕ) → AreOfState asked state told given → AreOfState asked state (told_after false told []) given
+state_still asked state told given so = subst (λ (t : Told). AreOfState asked state t given) (sym (told_same told)) so
+
 module _ {D : Type 0} (ghosts : Ghosts D) where
+  -- a step that finds no memory ends the reading
+  pub ends_without : (asked : Asked) (old new : State) (piece : List ℕ) (fault : BodyFault) (calls : Account) (before after : List D)
+      → AreCalls ghosts (set_of asked).out calls before after → length calls ≤ 1 → StaysSo old (Err NoMemory) (Refused NoMemory) calls
+      → fault ≡ NoMemory → new ≡ Refused NoMemory → StepsFrom ghosts asked old new piece (Err fault) before after
+  ends_without asked old new piece fault calls before after are made stays short refused =
+      subst (λ (s : State). StepsFrom ghosts asked old s piece (Err fault) before after) (sym refused)
+      (subst (λ (f : BodyFault). StepsFrom ghosts asked old (Refused NoMemory) piece (Err f) before after) (sym short) (record {
+        calls = calls;
+        are = are;
+        made = made;
+        stays = stays;
+        goes_on = λ told given so. (stands_after ghosts false asked old (Refused NoMemory) told calls before after given so are tt, tt);
+      }))
+
   -- the manifest is found, and the span begins
   pub search_begun : (asked : Asked) (search next : Search) (m : Manifest) (new : State) (piece : List ℕ) (result : Result ReadStep BodyFault) (before after : List D)
       → search.asked ≡ asked → SearchSteps ghosts search next (Ok (Some m)) before after → BeginsSpan asked (Refused NoMemory) new m result
@@ -213,28 +231,20 @@ module _ {D : Type 0} (ghosts : Ghosts D) where
       })
   search_begun asked search next m new piece (Err fault) before after same steps begins =
       let are : AreCalls ghosts (set_of asked).out steps.calls before after = subst (λ (a : Asked). AreCalls ghosts (set_of a).out steps.calls before after) same steps.are in
-      subst (λ (s : State). StepsFrom ghosts asked (Searching search) s piece (Err fault) before after) (sym begins.1)
-      (subst (λ (f : BodyFault). StepsFrom ghosts asked (Searching search) (Refused NoMemory) piece (Err f) before after) (sym begins.0) (record {
-        calls = steps.calls;
-        are = are;
-        made = omega (arith, steps.made);
-        stays = tt;
-        goes_on = λ told given so. (stands_after ghosts false asked (Searching search) (Refused NoMemory) told steps.calls before after given so are tt, tt);
-      }))
+      ends_without asked (Searching search) new piece fault steps.calls before after are (omega (arith, steps.made)) tt begins.0 begins.1
 
   -- a reader that is done, or was refused, stays so
-  pub ended_stays : (asked : Asked) (m : Manifest) (piece : List ℕ) (drives : List D)
-      → StepsFrom ghosts asked (Ended m) (Ended m) piece (Ok Done) drives drives
-  ended_stays asked m piece drives = record {
-    calls = [];
-    are = refl;
-    made = omega arith;
-    stays = (refl, refl, refl);
-    goes_on = λ told given so. (
-      subst (λ (t : Told). AreOfState asked (Ended m) t given) (sym (told_same told)) so,
-      (so.is.0, (m, refl, subst (λ (t : Told). IsFoundIn (wants asked) asked.id m (all_calls t)) (sym (told_same told)) so.is.1)),
-    );
-  }
+  pub ended_stays : (asked : Asked) (m : Manifest) (piece : List ℕ) (drives : List D) → StepsFrom ghosts asked (Ended m) (Ended m) piece (Ok Done) drives drives
+  ended_stays asked m piece drives =
+      let still : (told : Told) → IsFoundIn (wants asked) asked.id m (all_calls told) → IsFoundIn (wants asked) asked.id m (all_calls (told_after false told [])) =
+      λ told. subst (λ (t : Told). IsFoundIn (wants asked) asked.id m (all_calls t)) (sym (told_same told)) in
+      record {
+        calls = [];
+        are = refl;
+        made = omega arith;
+        stays = (refl, refl, refl);
+        goes_on = λ told given so. (state_still asked (Ended m) told given so, (so.is.0, (m, refl, still told so.is.1)));
+      }
 
   pub refused_stays : (asked : Asked) (fault : BodyFault) (piece : List ℕ) (drives : List D)
       → StepsFrom ghosts asked (Refused fault) (Refused fault) piece (Err fault) drives drives
@@ -243,10 +253,7 @@ module _ {D : Type 0} (ghosts : Ghosts D) where
     are = refl;
     made = omega arith;
     stays = (refl, refl, refl);
-    goes_on = λ told given so. (
-      subst (λ (t : Told). AreOfState asked (Refused fault) t given) (sym (told_same told)) so,
-      subst (λ (t : Told). IsRefusedIn asked fault t (length given)) (sym (told_same told)) so.is,
-    );
+    goes_on = λ told given so. let still = state_still asked (Refused fault) told given so in (still, still.is);
   }
 
 -- the manifest that is told was found

@@ -17,7 +17,7 @@ use Rattle.get_read.specs.Account.{Account, Call, Stands}
 use Rattle.get_read.specs.Causes.{Serves, Wanted}
 use Rattle.get_read.specs.Given.{IsFoundIn}
 use Rattle.get_read.specs.Letters.{NoManifestOf, TellsNoManifest}
-use Rattle.get_read.specs.Passing.{PassesDrive, PassesOver}
+use Rattle.get_read.specs.PassedDrives.{PassesDrive, PassesOver}
 use Rattle.get_read.specs.Readers.{IsSearch, set_of, wants}
 use Rattle.get_read.specs.Refusing.{NoneServesIn}
 use Rattle.get_read.specs.declared.state.Asked.{Asked}

@@ -2,7 +2,6 @@
 use Rattle.std.proofs.Common.{◌≡◌, ◌⊎◌, ◌∙◌, ℕ, ◌<◌, List, [], ◌∷◌, ◌++◌, length, slice_index_or, slice_set, ap, refl, subst, sym, inl, inr, arith, append-nil}
 use Rattle.std.specs.Prelude.{Err, None, Ok, Some, false}
 use Rattle.std.specs.Int.{IsBitSet}
-use Rattle.std.proofs.lemmas.List.{set-get_or}
 use Rattle.call_types.specs.Good.{is_good}
 use Rattle.call_types.specs.declared.why.Why.{Why}
 use Rattle.call_types.specs.declared.why.Why.TheVariants.{Good, Failed, Damaged, Behind, Lacks}
@@ -17,18 +16,18 @@ use Rattle.manifest_file.specs.declared.manifest.Manifest.{Manifest}
 use Rattle.manifest_file.specs.Spelling.{file_of}
 use Rattle.body_print.specs.Names.{manifest_name}
 use Rattle.get_read.specs.Account.{Account, WasSeen}
-use Rattle.get_read.specs.Advancing.{LookCall, SearchSteps}
-use Rattle.get_read.specs.Calling.{IdleOrCalled}
+use Rattle.get_read.specs.Progress.{LookCall, SearchSteps}
+use Rattle.get_read.specs.Calls.{IdleOrCalled}
 use Rattle.get_read.specs.Causes.{Wanted}
 use Rattle.get_read.specs.Manifests.{IsDamagedSo, IsServed}
-use Rattle.get_read.specs.Passing.{PassesDrive}
+use Rattle.get_read.specs.PassedDrives.{PassesDrive}
 use Rattle.get_read.specs.Readers.{AreCalls, IsSearchOf, set_of, wants}
 use Rattle.get_read.specs.Refusing.{NoneServesIn}
 use Rattle.get_read.specs.declared.faults.BodyFault.TheVariants.{ShardQuorum, NoMemory}
-use Rattle.get_read.specs.declared.state.Looked.{Looked}
-use Rattle.get_read.specs.declared.state.Looked.TheVariants.{Size, File}
-use Rattle.get_read.specs.declared.state.Search.{Search}
-use Rattle.get_read.proofs.OneCallLemmas.{called_once}
+use Rattle.get_read.specs.declared.search.Looked.{Looked}
+use Rattle.get_read.specs.declared.search.Looked.TheVariants.{Size, File}
+use Rattle.get_read.specs.declared.search.Search.{Search}
+use Rattle.get_read.proofs.OneCallLemmas.{called_once, none_called}
 use Rattle.get_read.proofs.SearchLemmas.{none_serves, search_found, search_passed, search_sized}
 
 -- a cause that tells what is wrong with a file is not good
@@ -86,63 +85,63 @@ module _ {D : Type 0} (ghosts : Ghosts D) (old new : Search) where
   }
 
   -- a call gave the length of the next drive's file
-  pub search_sizes : (n : ℕ) (drives : List D) (was now : D) → old.tried < length drives → slice_index_or drives old.tried was ≡ was
+  pub search_sizes : (n : ℕ) (drives : List D) (e now : D) → old.tried < length drives
       → (IsBitSet (set_of old.asked).out old.tried → ⊥) → new.asked ≡ old.asked → new.tried ≡ old.tried → new.size ≡ Some n → new.whys ≡ old.whys
-      → LookCall old (Ok (Size n)) (view ghosts was) (view ghosts now)
+      → LookCall old (Ok (Size n)) (view ghosts (slice_index_or drives old.tried e)) (view ghosts now)
       → SearchSteps ghosts old new (Ok None) drives (slice_set drives old.tried now)
-  search_sizes n drives was now low is in_use asked tried size whys call = record {
+  search_sizes n drives e now low in_use asked tried size whys call = record {
     calls = record { drive = old.tried; made = call.1.made } ∷ [];
-    are = called_once ghosts (set_of old.asked).out old.tried (Sized (manifest_name old.asked.id) n) drives was now low in_use is call.1;
+    are = called_once ghosts (set_of old.asked).out old.tried (Sized (manifest_name old.asked.id) n) drives e now low in_use call.1;
     made = refl;
     asked = asked;
     goes_on = λ account so. rw (asked, tried, size, whys) (search_sized old.asked old.tried old.size old.whys account n call.1.made so call.0 call.1.tells);
   }
 
   -- or the manifest
-  pub search_finds : (m : Manifest) (drives : List D) (was now : D) → old.tried < length drives → slice_index_or drives old.tried was ≡ was
+  pub search_finds : (m : Manifest) (drives : List D) (e now : D) → old.tried < length drives
       → (IsBitSet (set_of old.asked).out old.tried → ⊥) → new.asked ≡ old.asked
-      → LookCall old (Ok (File m)) (view ghosts was) (view ghosts now)
+      → LookCall old (Ok (File m)) (view ghosts (slice_index_or drives old.tried e)) (view ghosts now)
       → SearchSteps ghosts old new (Ok (Some m)) drives (slice_set drives old.tried now)
-  search_finds m drives was now low is in_use asked call = record {
+  search_finds m drives e now low in_use asked call = record {
     calls = record { drive = old.tried; made = call.3.made } ∷ [];
-    are = called_once ghosts (set_of old.asked).out old.tried (Showed (manifest_name old.asked.id) 0 (file_of m)) drives was now low in_use is call.3;
+    are = called_once ghosts (set_of old.asked).out old.tried (Showed (manifest_name old.asked.id) 0 (file_of m)) drives e now low in_use call.3;
     made = refl;
     asked = asked;
     goes_on = λ account so. rw asked (search_found old.asked old.tried old.size old.whys account m call.3.made so call.0 call.1 call.2 call.3.tells);
   }
 
   -- there was not enough memory, before a call or after it
-  pub search_without : (drives : List D) (was now : D) → old.tried < length drives → slice_index_or drives old.tried was ≡ was
+  pub search_without : (drives : List D) (e now : D) → old.tried < length drives
       → (IsBitSet (set_of old.asked).out old.tried → ⊥) → new.asked ≡ old.asked
-      → (now ≡ was) ⊎ ((seen : Seen) × WasSeen seen (view ghosts was) (view ghosts now))
+      → (now ≡ slice_index_or drives old.tried e) ⊎ ((seen : Seen) × WasSeen seen (view ghosts (slice_index_or drives old.tried e)) (view ghosts now))
       → SearchSteps ghosts old new (Err NoMemory) drives (slice_set drives old.tried now)
-  search_without drives was now low is in_use asked (inl same) = record {
+  search_without drives e now low in_use asked (inl same) = record {
     calls = [];
-    are = ap (slice_set drives old.tried) (same ∙ sym is) ∙ set-get_or drives old.tried was;
+    are = none_called ghosts drives old.tried e now same;
     made = omega arith;
     asked = asked;
     goes_on = λ account so. tt;
   }
-  search_without drives was now low is in_use asked (inr seen) = record {
+  search_without drives e now low in_use asked (inr seen) = record {
     calls = record { drive = old.tried; made = seen.1.made } ∷ [];
-    are = called_once ghosts (set_of old.asked).out old.tried seen.0 drives was now low in_use is seen.1;
+    are = called_once ghosts (set_of old.asked).out old.tried seen.0 drives e now low in_use seen.1;
     made = omega arith;
     asked = asked;
     goes_on = λ account so. tt;
   }
 
   -- what the next drive's call told, after which it was left
-  pub search_left : (why : Why) (drives : List D) (was now : D) → old.tried < length drives → slice_index_or drives old.tried was ≡ was
+  pub search_left : (why : Why) (drives : List D) (e now : D) → old.tried < length drives
       → (IsBitSet (set_of old.asked).out old.tried → ⊥) → old.tried < (set_of old.asked).drives → new.asked ≡ old.asked → new.size ≡ None
-      → LookCall old (Err (Because why)) (view ghosts was) (view ghosts now)
+      → LookCall old (Err (Because why)) (view ghosts (slice_index_or drives old.tried e)) (view ghosts now)
       → PassesDrive (set_of old.asked) why old.tried new.tried old.whys new.whys
       → (calls : Account) × AreCalls ghosts (set_of old.asked).out calls drives (slice_set drives old.tried now) × (length calls ≡ 1)
       × ((account : Account) → IsSearchOf old account → IsSearchOf new (account ++ calls))
-  search_left why drives was now low is in_use inside asked none call passes =
+  search_left why drives e now low in_use inside asked none call passes =
       let seen = call.1.0 in
       let made = call.1.1.made in (
         record { drive = old.tried; made = made } ∷ [],
-        called_once ghosts (set_of old.asked).out old.tried seen drives was now low in_use is call.1.1,
+        called_once ghosts (set_of old.asked).out old.tried seen drives e now low in_use call.1.1,
         refl,
         λ account so. rw (asked, none) (search_passed old.asked old.tried new.tried old.size old.whys new.whys account why seen made call.1.1.tells so
             inside passes call.1.2),

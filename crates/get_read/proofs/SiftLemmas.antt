@@ -18,7 +18,7 @@ use Rattle.poly_code.specs.Codeword.{AreDistinct}
 use Rattle.shard_file.proofs.Pieces.{get_or-pieces, length-pieces}
 use Rattle.shard_file.specs.Stripes.{piece, pieces}
 use Rattle.get_read.specs.declared.blocks.Blocks.{Blocks}
-use Rattle.get_read.specs.Sifting.{AreAtHand, AreSifted, IsRow, IsRowOf, TellsDigest, block_at, row_at, stored_at}
+use Rattle.get_read.specs.Blocks.{AreAtHand, AreSifted, IsRow, IsRowOf, TellsDigest, block_at, row_at, stored_at}
 use Rattle.get_read.proofs.PieceLemmas.{piece_after, piece_before, removed_long}
 
 -- the digest of a row's block among those of all

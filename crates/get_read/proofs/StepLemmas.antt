@@ -2,7 +2,7 @@
 use Rattle.std.proofs.Common.{◌≡◌, ◌∙◌, ℕ, ◌*◌, ◌<◌, List, [], ◌∷◌, ◌++◌, length, slice_index_or, slice_set, ap, refl, subst, sym, inl, inr, arith, append_assoc}
 use Rattle.std.specs.Prelude.{Err, None, Ok, Option, Result, Some, Vec, false}
 use Rattle.std.specs.Global.{Global}
-use Rattle.std.proofs.lemmas.List.{length-map, map-set, set-get_or}
+use Rattle.std.proofs.lemmas.List.{length-map, map-set}
 use Rattle.call_types.specs.declared.why.Why.{Why}
 use Rattle.call_types.specs.declared.why.Why.TheVariants.{Good}
 use Rattle.drive_base.specs.Calls.{Seen, Showed, Tells}
@@ -17,23 +17,23 @@ use Rattle.shard_file.specs.Shards.{block_place, table_place}
 use Rattle.shard_file.specs.Stripes.{block_size, stripe_count, stripe_length, stripe_size}
 use Rattle.body_print.specs.Names.{shard_name}
 use Rattle.get_read.specs.Account.{Account, Call}
-use Rattle.get_read.specs.Advancing.{FetchAnswers, FetchCall, FetchSteps, MakesOne, StripeAnswers, TellsNeither, data_of, next_table, part_of}
+use Rattle.get_read.specs.Progress.{FetchAnswers, FetchCall, FetchSteps, MakesOne, StripeAnswers, TellsNeither, data_of, next_table, part_of}
 use Rattle.get_read.specs.Given.{IsFoundIn}
-use Rattle.get_read.specs.Judging.{JudgesStripe}
+use Rattle.get_read.specs.Stripes.{JudgesStripe}
 use Rattle.get_read.specs.Letters.{IsBlockIn, IsTableIn}
-use Rattle.get_read.specs.Passing.{PassesDrive}
-use Rattle.get_read.specs.Held.{all_bytes}
+use Rattle.get_read.specs.PassedDrives.{PassesDrive}
+use Rattle.get_read.specs.Blocks.{all_bytes}
 use Rattle.get_read.specs.Readers.{AreTablesOf, IsFetchOf, IsStripe, IsStripeOf, Told, all_calls, set_of, told_after, wants}
 use Rattle.get_read.specs.declared.faults.BodyFault.{BodyFault}
 use Rattle.get_read.specs.declared.faults.BodyFault.TheVariants.{NoMemory}
 use Rattle.get_read.specs.declared.state.Asked.{Asked}
-use Rattle.get_read.specs.declared.state.Fetching.{Fetching as FetchingRecord}
-use Rattle.get_read.specs.declared.state.Found.TheVariants.{Table, Block}
+use Rattle.get_read.specs.declared.fetch.Fetching.{Fetching as FetchingRecord}
+use Rattle.get_read.specs.declared.fetch.StripeFind.TheVariants.{Table, Block}
 use Rattle.get_read.specs.declared.state.PartWork.{PartWork}
 use Rattle.get_read.specs.declared.state.StripeWork.{StripeWork}
-use Rattle.get_read.specs.declared.tables.Fetched.{Fetched}
+use Rattle.get_read.specs.declared.calls.Fetched.{Fetched}
 use Rattle.get_read.proofs.FetchLemmas.{block_now, judged_so, stripe_added, stripe_on, stripe_passed, table_now, tables_more, tables_on}
-use Rattle.get_read.proofs.OneCallLemmas.{called_once, shown_bytes}
+use Rattle.get_read.proofs.OneCallLemmas.{called_once, none_called, shown_bytes}
 
 -- the calls of a step that is no turn stand behind all calls
 behind : (told : Told) (calls : Account) → all_calls told ++ calls ≡ all_calls (told_after false told calls)
@@ -69,12 +69,12 @@ module _ (old new : FetchingRecord) where
 
 module _ {D : Type 0} (ghosts : Ghosts D) (old new : FetchingRecord) where
   -- a table was shown, and is held from then on
-  pub fetch_holds : (table : Vec ℕ Global) (drives : List D) (was now : D) → old.work.tried < length drives → slice_index_or drives old.work.tried was ≡ was
+  pub fetch_holds : (table : Vec ℕ Global) (drives : List D) (e now : D) → old.work.tried < length drives
       → old.work.tried < (set_of old.asked).drives → new.asked ≡ old.asked → new.manifest ≡ old.manifest → new.at ≡ old.at → new.part.place ≡ old.part.place
       → new.ahead ≡ None → new.work ≡ old.work → new.part.tables.items ≡ slice_set old.part.tables.items old.work.tried table
-      → FetchCall old (Ok (Table table)) (view ghosts was) (view ghosts now)
+      → FetchCall old (Ok (Table table)) (view ghosts (slice_index_or drives old.work.tried e)) (view ghosts now)
       → FetchSteps {Z = Global} ghosts old new (Ok None) drives (slice_set drives old.work.tried now)
-  fetch_holds table drives was now low is inside asked manifest at place none work tables call =
+  fetch_holds table drives e now low inside asked manifest at place none work tables call =
       let d0 = any_part old.manifest.parts old.part.place old.in_manifest in
       let shows = call d0 in
       let part = part_of old d0 in
@@ -85,7 +85,7 @@ module _ {D : Type 0} (ghosts : Ghosts D) (old new : FetchingRecord) where
       let call_is : Call = record { drive = k; made = made } in
       record {
         calls = call_is ∷ [];
-        are = called_once ghosts (set_of old.asked).out k seen drives was now low (old.next_in_use inside) is shows.was;
+        are = called_once ghosts (set_of old.asked).out k seen drives e now low (old.next_in_use inside) shows.was;
         made = refl;
         asked = asked;
         at = at;
@@ -97,7 +97,7 @@ module _ {D : Type 0} (ghosts : Ghosts D) (old new : FetchingRecord) where
             let table_is : IsTableIn d p (slice_index_or p.roots k []) (calls ++ call_is ∷ []) k table.items =
             subst (λ (q : ManifestPart). IsTableIn d q (slice_index_or q.roots k []) (calls ++ call_is ∷ []) k table.items) same
             (table_now d part (slice_index_or part.roots k []) calls k table.items made shows.was.tells shows.size
-            (shown_bytes (shard_name part.id) (table_place d part.length) table.items (view ghosts was) (view ghosts now) shows.was) shows.digest) in
+            (shown_bytes (shard_name part.id) (table_place d part.length) table.items (view ghosts (slice_index_or drives old.work.tried e)) (view ghosts now) shows.was) shows.digest) in
             let bytes : all_bytes new.part.tables.items ≡ slice_set (all_bytes old.part.tables.items) k table.items =
             ap (λ (t : List (Vec ℕ Global)). all_bytes t) tables ∙ map-set (λ (file : Vec ℕ Global). file.items) old.part.tables.items k table in
             let held : AreTablesOf d p (all_bytes new.part.tables.items) (calls ++ call_is ∷ []) =
@@ -176,15 +176,15 @@ module _ {D : Type 0} (ghosts : Ghosts D) (old new : FetchingRecord) where
   }
 
   -- the next drive is left, and the stripe is judged
-  pub fetch_passed : (why : Why) (mid : StripeWork) (result : Result (Option (Vec ℕ Global)) BodyFault) (drives : List D) (was now : D)
-      → old.work.tried < length drives → slice_index_or drives old.work.tried was ≡ was → old.work.tried < (set_of old.asked).drives → StaysFor
-      → FetchCall old (Err (Because why)) (view ghosts was) (view ghosts now)
+  pub fetch_passed : (why : Why) (mid : StripeWork) (result : Result (Option (Vec ℕ Global)) BodyFault) (drives : List D) (e now : D)
+      → old.work.tried < length drives → old.work.tried < (set_of old.asked).drives → StaysFor
+      → FetchCall old (Err (Because why)) (view ghosts (slice_index_or drives old.work.tried e)) (view ghosts now)
       → PassesDrive (set_of old.asked) why old.work.tried mid.tried old.work.whys mid.whys → mid.found ≡ old.work.found
       → mid.stripe ≡ old.work.stripe → mid.size ≡ old.work.size
       → JudgesStripe (set_of old.asked) (stripe_length old.part.long old.work.stripe) result mid new.work
       → new.work.tried ≡ mid.tried → new.work.stripe ≡ mid.stripe → new.work.size ≡ mid.size
       → FetchSteps {Z = Global} ghosts old new result drives (slice_set drives old.work.tried now)
-  fetch_passed why mid result drives was now low is inside stays call passes found stripe size judges tried_now stripe_now size_now =
+  fetch_passed why mid result drives e now low inside stays call passes found stripe size judges tried_now stripe_now size_now =
       let d0 = any_part old.manifest.parts old.part.place old.in_manifest in
       let tells = call.1 d0 in
       let k = old.work.tried in
@@ -193,7 +193,7 @@ module _ {D : Type 0} (ghosts : Ghosts D) (old new : FetchingRecord) where
       let call_is : Call = record { drive = k; made = made } in
       record {
         calls = call_is ∷ [];
-        are = called_once ghosts (set_of old.asked).out k seen drives was now low (old.next_in_use inside) is tells.1;
+        are = called_once ghosts (set_of old.asked).out k seen drives e now low (old.next_in_use inside) tells.1;
         made = made_one result call_is;
         asked = stays.asked;
         at = stays.at;
@@ -209,9 +209,9 @@ module _ {D : Type 0} (ghosts : Ghosts D) (old new : FetchingRecord) where
       }
 
   -- its block is at hand, and the stripe is judged
-  pub fetch_added : (fetched : Fetched) (mid : StripeWork) (result : Result (Option (Vec ℕ Global)) BodyFault) (drives : List D) (was now : D)
-      → old.work.tried < length drives → slice_index_or drives old.work.tried was ≡ was → old.work.tried < (set_of old.asked).drives → StaysFor
-      → FetchCall old (Ok (Block fetched)) (view ghosts was) (view ghosts now)
+  pub fetch_added : (fetched : Fetched) (mid : StripeWork) (result : Result (Option (Vec ℕ Global)) BodyFault) (drives : List D) (e now : D)
+      → old.work.tried < length drives → old.work.tried < (set_of old.asked).drives → StaysFor
+      → FetchCall old (Ok (Block fetched)) (view ghosts (slice_index_or drives old.work.tried e)) (view ghosts now)
       → PassesDrive (set_of old.asked) Good old.work.tried mid.tried old.work.whys mid.whys
       → mid.found.rows.items ≡ old.work.found.rows.items ++ old.work.tried ∷ [] → mid.found.stored.items ≡ old.work.found.stored.items ++ fetched.stored ∷ []
       → mid.found.bytes.items ≡ old.work.found.bytes.items ++ fetched.block.items
@@ -219,7 +219,7 @@ module _ {D : Type 0} (ghosts : Ghosts D) (old new : FetchingRecord) where
       → JudgesStripe (set_of old.asked) (stripe_length old.part.long old.work.stripe) result mid new.work
       → new.work.tried ≡ mid.tried → new.work.stripe ≡ mid.stripe → new.work.size ≡ mid.size
       → FetchSteps {Z = Global} ghosts old new result drives (slice_set drives old.work.tried now)
-  fetch_added fetched mid result drives was now low is inside stays call passes rows stored bytes stripe size judges tried_now stripe_now size_now =
+  fetch_added fetched mid result drives e now low inside stays call passes rows stored bytes stripe size judges tried_now stripe_now size_now =
       let d0 = any_part old.manifest.parts old.part.place old.in_manifest in
       let part = part_of old d0 in
       let fetches = call d0 in
@@ -230,7 +230,7 @@ module _ {D : Type 0} (ghosts : Ghosts D) (old new : FetchingRecord) where
       let call_is : Call = record { drive = k; made = made } in
       record {
         calls = call_is ∷ [];
-        are = called_once ghosts (set_of old.asked).out k seen drives was now low (old.next_in_use inside) is fetches.was;
+        are = called_once ghosts (set_of old.asked).out k seen drives e now low (old.next_in_use inside) fetches.was;
         made = made_one result call_is;
         asked = stays.asked;
         at = stays.at;
@@ -252,19 +252,19 @@ module _ {D : Type 0} (ghosts : Ghosts D) (old new : FetchingRecord) where
             block_now d p old.work.stripe (slice_index_or p.roots k []) calls told.since k (next_table old) fetched.stored fetched.block.items made
             (subst (λ (q : ManifestPart). Tells made (Showed (shard_name q.id) (block_place d old.work.stripe) fetched.block.items)) same fetches.was.tells)
             table block_size_is
-            (shown_bytes (shard_name part.id) (block_place d old.work.stripe) fetched.block.items (view ghosts was) (view ghosts now) fetches.was) fetches.stored in
+            (shown_bytes (shard_name part.id) (block_place d old.work.stripe) fetched.block.items (view ghosts (slice_index_or drives old.work.tried e)) (view ghosts now) fetches.was) fetches.stored in
             let added = stripe_added set p old.work.stripe old.work.size old.work.found mid.found k mid.tried old.work.whys mid.whys calls told.since fetched.stored fetched.block.items made
             so.stripe old.work.at_hand inside (old.work.untried k (omega arith)) passes rows stored bytes fetches.size block in
             fetch_judged mid result told (call_is ∷ []) stays stripe size (passes.counted ∙ old.letters) so (rw (stripe, size) added) judges tried_now stripe_now size_now;
       }
 
   -- there was not enough memory, before a call
-  pub fetch_idle : (drives : List D) (was now : D) → slice_index_or drives old.work.tried was ≡ was → now ≡ was → new.asked ≡ old.asked → new.at ≡ old.at
+  pub fetch_idle : (drives : List D) (e now : D) → now ≡ slice_index_or drives old.work.tried e → new.asked ≡ old.asked → new.at ≡ old.at
       → new.manifest ≡ old.manifest → new.part ≡ old.part → new.ahead ≡ None
       → FetchSteps {Z = Global} ghosts old new (Err NoMemory) drives (slice_set drives old.work.tried now)
-  fetch_idle drives was now is same asked at manifest part none = record {
+  fetch_idle drives e now same asked at manifest part none = record {
     calls = [];
-    are = ap (slice_set drives old.work.tried) (same ∙ sym is) ∙ set-get_or drives old.work.tried was;
+    are = none_called ghosts drives old.work.tried e now same;
     made = omega arith;
     asked = asked;
     at = at;
@@ -278,10 +278,10 @@ module _ {D : Type 0} (ghosts : Ghosts D) (old new : FetchingRecord) where
   }
 
   -- there was not enough memory, after a block was shown
-  pub fetch_unkept : (fetched : Fetched) (drives : List D) (was now : D) → old.work.tried < length drives → slice_index_or drives old.work.tried was ≡ was
-      → old.work.tried < (set_of old.asked).drives → StaysFor → FetchCall old (Ok (Block fetched)) (view ghosts was) (view ghosts now)
+  pub fetch_unkept : (fetched : Fetched) (drives : List D) (e now : D) → old.work.tried < length drives
+      → old.work.tried < (set_of old.asked).drives → StaysFor → FetchCall old (Ok (Block fetched)) (view ghosts (slice_index_or drives old.work.tried e)) (view ghosts now)
       → FetchSteps {Z = Global} ghosts old new (Err NoMemory) drives (slice_set drives old.work.tried now)
-  fetch_unkept fetched drives was now low is inside stays call =
+  fetch_unkept fetched drives e now low inside stays call =
       let d0 = any_part old.manifest.parts old.part.place old.in_manifest in
       let part = part_of old d0 in
       let fetches = call d0 in
@@ -290,7 +290,7 @@ module _ {D : Type 0} (ghosts : Ghosts D) (old new : FetchingRecord) where
       let call_is : Call = record { drive = k; made = fetches.was.made } in
       record {
         calls = call_is ∷ [];
-        are = called_once ghosts (set_of old.asked).out k seen drives was now low (old.next_in_use inside) is fetches.was;
+        are = called_once ghosts (set_of old.asked).out k seen drives e now low (old.next_in_use inside) fetches.was;
         made = omega arith;
         asked = stays.asked;
         at = stays.at;

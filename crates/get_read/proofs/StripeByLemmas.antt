@@ -14,12 +14,12 @@ use Rattle.body_print.proofs.ClashLemmas.{each_or, one_or_two}
 use Rattle.body_print.specs.Clashes.{IsTableOrBlock}
 use Rattle.body_print.specs.Shards.{AreShards, AreStripeBlocks, HasRoots}
 use Rattle.get_read.specs.Account.{Account}
-use Rattle.get_read.specs.Advancing.{IsStripeBy, PartClashIn}
+use Rattle.get_read.specs.Progress.{IsStripeBy, PartClashIn}
 use Rattle.get_read.specs.Causes.{digest_in}
 use Rattle.get_read.specs.Given.{MetIn}
-use Rattle.get_read.specs.Judging.{IsRebuilt}
+use Rattle.get_read.specs.Stripes.{IsRebuilt}
 use Rattle.get_read.specs.Letters.{GaveBlockIn, ShowedAt}
-use Rattle.get_read.specs.Sifting.{row_at}
+use Rattle.get_read.specs.Blocks.{row_at}
 use Rattle.get_read.specs.declared.blocks.Blocks.{Blocks}
 use Rattle.get_read.proofs.ClashLemmas.{digest_of_block}
 

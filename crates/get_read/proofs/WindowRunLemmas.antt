@@ -19,7 +19,7 @@ use Rattle.shard_file.specs.Stripes.{block_size, piece, pieces, stripe_length, s
 use Rattle.body_print.proofs.ClashLemmas.{each_or}
 use Rattle.body_print.specs.Names.{shard_name}
 use Rattle.get_read.specs.Account.{Account, Call}
-use Rattle.get_read.specs.Advancing.{GivesRun, IsRunBy, IsStripeBy, PartClashIn, StripeAnswers}
+use Rattle.get_read.specs.Progress.{GivesRun, IsRunBy, IsStripeBy, PartClashIn, StripeAnswers}
 use Rattle.get_read.specs.Causes.{digest_in}
 use Rattle.get_read.specs.Letters.{IsBlockIn, IsTableIn}
 use Rattle.get_read.specs.Readers.{IsStripeOf, Told, all_calls}
@@ -161,7 +161,7 @@ run_given set part w bytes calls runs verified rebuilt below some within =
             same = verified (j * w.count + s) (run_under j (length w.rows.items) s w.count inside low);
           })
           full
-          (λ other shards is blocks same. rebuilt.1 s other shards low (is ∙ whole) blocks same)),
+          (λ other shards is blocks same. rebuilt.1 s low other shards (is ∙ whole) blocks same)),
     )
 
 -- the rows stand on

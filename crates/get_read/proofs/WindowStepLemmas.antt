@@ -2,7 +2,7 @@
 use Rattle.std.proofs.Common.{◌≡◌, ◌∙◌, ℕ, ◌*◌, ◌<◌, List, [], ◌∷◌, ◌++◌, length, slice_index_or, slice_set, ap, refl, subst, sym, inl, inr, arith}
 use Rattle.std.specs.Prelude.{Err, None, Ok, Option, Result, Some, Vec, false}
 use Rattle.std.specs.Global.{Global}
-use Rattle.std.proofs.lemmas.List.{length-map, map-set, set-get_or}
+use Rattle.std.proofs.lemmas.List.{length-map, map-set}
 use Rattle.drive_base.specs.Calls.{Seen, Showed, Tells}
 use Rattle.drive_base.specs.View.{view}
 use Rattle.drive_base.specs.declared.drive.Drive.{Ghosts}
@@ -11,22 +11,21 @@ use Rattle.manifest_file.specs.declared.manifest.ManifestPart.{ManifestPart}
 use Rattle.shard_file.specs.Shards.{block_place, table_place}
 use Rattle.body_print.specs.Names.{shard_name}
 use Rattle.get_read.specs.Account.{Account, Call, WasSeen}
-use Rattle.get_read.specs.Advancing.{FetchSteps, MakesOne, StripeAnswers, data_of, part_of}
-use Rattle.get_read.specs.Going.{StaysBesides, WindowSteps}
-use Rattle.get_read.specs.Held.{all_bytes}
+use Rattle.get_read.specs.Progress.{FetchSteps, MakesOne, StaysBesides, StripeAnswers, WindowSteps, data_of, part_of}
+use Rattle.get_read.specs.Blocks.{all_bytes}
 use Rattle.get_read.specs.Letters.{IsTableIn}
 use Rattle.get_read.specs.Readers.{AreCalls, AreTablesOf, IsFetchOf, IsPartOf, IsStripeOf, Told, all_calls, set_of, told_after}
 use Rattle.get_read.specs.Windows.{AreAhead, AreRuns, FitsWindow, RunPasses, RunTakes, TookRun, WindowCall, digests_in}
 use Rattle.get_read.specs.declared.faults.BodyFault.{BodyFault}
 use Rattle.get_read.specs.declared.faults.BodyFault.TheVariants.{NoMemory}
 use Rattle.get_read.specs.declared.state.Asked.{Asked}
-use Rattle.get_read.specs.declared.state.Fetching.{Fetching as FetchingRecord}
+use Rattle.get_read.specs.declared.fetch.Fetching.{Fetching as FetchingRecord}
 use Rattle.get_read.specs.declared.state.PartWork.{PartWork}
 use Rattle.get_read.specs.declared.state.StripeWork.{StripeWork}
-use Rattle.get_read.specs.declared.window.Found.TheVariants.{Table}
+use Rattle.get_read.specs.declared.window.WindowFind.TheVariants.{Table}
 use Rattle.get_read.specs.declared.window.Window.{Window}
 use Rattle.get_read.proofs.FetchLemmas.{stripe_on, table_now, tables_more, tables_on}
-use Rattle.get_read.proofs.OneCallLemmas.{called_once, shown_bytes}
+use Rattle.get_read.proofs.OneCallLemmas.{called_once, none_called, shown_bytes}
 use Rattle.get_read.proofs.ReaderLemmas.{no_turn}
 use Rattle.get_read.proofs.StepLemmas.{any_part}
 use Rattle.get_read.proofs.WindowRunLemmas.{passed_ahead, runs_added, runs_on, took_ahead, took_answers}
@@ -61,15 +60,15 @@ module _ {D : Type 0} (ghosts : Ghosts D) (old : FetchingRecord) (w : Window) (n
       rw (asked, work) (subst (λ (all : Account). IsStripeOf set p old.work all (told.since ++ more)) (sym (no_turn told more)) stripe)
 
   -- a call was made that leaves the window as it is, or gives it up, but for its next drive
-  pub window_passed : (drives : List D) (was now : D) → length drives ≡ (set_of old.asked).drives → slice_index_or drives w.tried was ≡ was
+  pub window_passed : (drives : List D) (e now : D) → length drives ≡ (set_of old.asked).drives
       → FitsWindow (set_of old.asked) old.part.long old.work.stripe w → StaysBesides old new → RunPasses w new.ahead
-      → ((seen : Seen) × WasSeen seen (view ghosts was) (view ghosts now))
+      → ((seen : Seen) × WasSeen seen (view ghosts (slice_index_or drives w.tried e)) (view ghosts now))
       → WindowSteps {Z = Global} ghosts old w new (Ok None) drives (slice_set drives w.tried now)
-  window_passed drives was now counted is fits stays passes call =
+  window_passed drives e now counted fits stays passes call =
       let call_is : Call = record { drive = w.tried; made = call.1.made } in
       record {
         calls = call_is ∷ [];
-        are = called_once ghosts (set_of old.asked).out w.tried call.0 drives was now (omega (arith, counted, fits.tried)) fits.in_use is call.1;
+        are = called_once ghosts (set_of old.asked).out w.tried call.0 drives e now (omega (arith, counted, fits.tried)) fits.in_use call.1;
         made = refl;
         asked = stays.asked;
         at = stays.at;
@@ -83,14 +82,14 @@ module _ {D : Type 0} (ghosts : Ghosts D) (old : FetchingRecord) (w : Window) (n
       }
 
   -- a call gave the blocks of the next drive
-  pub window_took : (result : Result (Option (Vec ℕ Global)) BodyFault) (run table : List ℕ) (drives : List D) (was now : D) → length drives ≡ (set_of old.asked).drives
-      → slice_index_or drives w.tried was ≡ was → FitsWindow (set_of old.asked) old.part.long old.work.stripe w → StaysBesides old new
+  pub window_took : (result : Result (Option (Vec ℕ Global)) BodyFault) (run table : List ℕ) (drives : List D) (e now : D) → length drives ≡ (set_of old.asked).drives
+      → FitsWindow (set_of old.asked) old.part.long old.work.stripe w → StaysBesides old new
       → table ≡ slice_index_or (all_bytes old.part.tables.items) w.tried []
       → RunTakes (set_of old.asked) w run (digests_in table w.first w.count) result new.ahead
       → ((d : ManifestPart) → (0 < length table) × (length run ≡ w.count * w.size)
-      × WasSeen (Showed (shard_name (part_of old d).id) (block_place (data_of old) w.first) run) (view ghosts was) (view ghosts now))
+      × WasSeen (Showed (shard_name (part_of old d).id) (block_place (data_of old) w.first) run) (view ghosts (slice_index_or drives w.tried e)) (view ghosts now))
       → WindowSteps {Z = Global} ghosts old w new result drives (slice_set drives w.tried now)
-  window_took result run table drives was now counted is fits stays table_is takes call =
+  window_took result run table drives e now counted fits stays table_is takes call =
       let d0 = any_part old.manifest.parts old.part.place old.in_manifest in
       let part = part_of old d0 in
       let seen : Seen = Showed (shard_name part.id) (block_place (data_of old) w.first) run in
@@ -99,7 +98,7 @@ module _ {D : Type 0} (ghosts : Ghosts D) (old : FetchingRecord) (w : Window) (n
       let call_is : Call = record { drive = w.tried; made = made } in
       record {
         calls = call_is ∷ [];
-        are = called_once ghosts (set_of old.asked).out w.tried seen drives was now (omega (arith, counted, fits.tried)) fits.in_use is shows;
+        are = called_once ghosts (set_of old.asked).out w.tried seen drives e now (omega (arith, counted, fits.tried)) fits.in_use shows;
         made = one_made result call_is;
         asked = stays.asked;
         at = stays.at;
@@ -121,7 +120,7 @@ module _ {D : Type 0} (ghosts : Ghosts D) (old : FetchingRecord) (w : Window) (n
             (runs_added set p w next table run calls made
             (subst (λ (q : ManifestPart). Tells made (Showed (shard_name q.id) (block_place (data_of old) w.first) run)) same shows.tells)
             took runs is_table (omega (arith, fits.within, long)) fits.size (call d0).1
-            (shown_bytes (shard_name part.id) (block_place (data_of old) w.first) run (view ghosts was) (view ghosts now) shows)) in
+            (shown_bytes (shard_name part.id) (block_place (data_of old) w.first) run (view ghosts (slice_index_or drives w.tried e)) (view ghosts now) shows)) in
             record {
               is_part = stays_part told (call_is ∷ []) so stays;
               stripe = subst (λ (a : Asked). StripeAnswers (set_of a) p result new.work (told_after false told (call_is ∷ []))) (sym stays.asked) (took_answers set p w run (digests_in table w.first w.count) result new.ahead new.work (told_after false told (call_is ∷ [])) takes added
@@ -133,13 +132,13 @@ module _ {D : Type 0} (ghosts : Ghosts D) (old : FetchingRecord) (w : Window) (n
       }
 
   -- a call gave the digest table of the next drive
-  pub window_holds : (table : Vec ℕ Global) (drives : List D) (was now : D) → length drives ≡ (set_of old.asked).drives → slice_index_or drives w.tried was ≡ was
+  pub window_holds : (table : Vec ℕ Global) (drives : List D) (e now : D) → length drives ≡ (set_of old.asked).drives
       → FitsWindow (set_of old.asked) old.part.long old.work.stripe w → new.asked ≡ old.asked → new.manifest ≡ old.manifest → new.at ≡ old.at
       → new.part.place ≡ old.part.place → new.work ≡ old.work → new.ahead ≡ Some w → new.part.tables.items ≡ slice_set old.part.tables.items w.tried table
       → ((d : ManifestPart) → WindowCall (data_of old) (part_of old d) (slice_index_or (part_of old d).roots w.tried []) (slice_index_or (all_bytes old.part.tables.items) w.tried [])
-      w (Ok (Table table)) (view ghosts was) (view ghosts now))
+      w (Ok (Table table)) (view ghosts (slice_index_or drives w.tried e)) (view ghosts now))
       → WindowSteps {Z = Global} ghosts old w new (Ok None) drives (slice_set drives w.tried now)
-  window_holds table drives was now counted is fits asked manifest at place work some tables call =
+  window_holds table drives e now counted fits asked manifest at place work some tables call =
       let d0 = any_part old.manifest.parts old.part.place old.in_manifest in
       let part = part_of old d0 in
       let k = w.tried in
@@ -150,7 +149,7 @@ module _ {D : Type 0} (ghosts : Ghosts D) (old : FetchingRecord) (w : Window) (n
       let call_is : Call = record { drive = k; made = made } in
       record {
         calls = call_is ∷ [];
-        are = called_once ghosts (set_of old.asked).out k seen drives was now (omega (arith, counted, fits.tried)) fits.in_use is shows;
+        are = called_once ghosts (set_of old.asked).out k seen drives e now (omega (arith, counted, fits.tried)) fits.in_use shows;
         made = refl;
         asked = asked;
         at = at;
@@ -163,7 +162,7 @@ module _ {D : Type 0} (ghosts : Ghosts D) (old : FetchingRecord) (w : Window) (n
             let table_is : IsTableIn d p (slice_index_or p.roots k []) (calls ++ call_is ∷ []) k table.items =
             subst (λ (q : ManifestPart). IsTableIn d q (slice_index_or q.roots k []) (calls ++ call_is ∷ []) k table.items) same
             (table_now d part (slice_index_or part.roots k []) calls k table.items made shows.tells (call d0).1
-            (shown_bytes (shard_name part.id) (table_place d part.length) table.items (view ghosts was) (view ghosts now) shows) (call d0).2) in
+            (shown_bytes (shard_name part.id) (table_place d part.length) table.items (view ghosts (slice_index_or drives w.tried e)) (view ghosts now) shows) (call d0).2) in
             let bytes : all_bytes new.part.tables.items ≡ slice_set (all_bytes old.part.tables.items) k table.items =
             ap (λ (t : List (Vec ℕ Global)). all_bytes t) tables ∙ map-set (λ (file : Vec ℕ Global). file.items) old.part.tables.items k table in
             let held : AreTablesOf d p (all_bytes new.part.tables.items) (calls ++ call_is ∷ []) =
@@ -184,11 +183,11 @@ module _ {D : Type 0} (ghosts : Ghosts D) (old : FetchingRecord) (w : Window) (n
       }
 
   -- there was not enough memory, before a call
-  pub window_idle : (drives : List D) (was now : D) → slice_index_or drives w.tried was ≡ was → now ≡ was → StaysBesides old new → new.ahead ≡ None
+  pub window_idle : (drives : List D) (e now : D) → now ≡ slice_index_or drives w.tried e → StaysBesides old new → new.ahead ≡ None
       → WindowSteps {Z = Global} ghosts old w new (Err NoMemory) drives (slice_set drives w.tried now)
-  window_idle drives was now is same stays none = record {
+  window_idle drives e now same stays none = record {
     calls = [];
-    are = ap (slice_set drives w.tried) (same ∙ sym is) ∙ set-get_or drives w.tried was;
+    are = none_called ghosts drives w.tried e now same;
     made = omega arith;
     asked = stays.asked;
     at = stays.at;

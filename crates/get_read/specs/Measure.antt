@@ -1,16 +1,16 @@
 -- How many steps a reader has left at most, before it is done or refused.
 use Rattle.std.specs.Prelude.{◌≡◌, ◌<◌, ◌+◌, ◌-◌, ◌*◌, ℕ, List, [], ◌∷◌, Option, Some, None, Result, Ok, Err, slice_index_or}
 use Rattle.drive_base.specs.declared.plan.SetPlan.{SetPlan}
-use Rattle.get_read.specs.Advancing.{next_table}
-use Rattle.get_read.specs.Held.{all_bytes}
+use Rattle.get_read.specs.Progress.{next_table}
+use Rattle.get_read.specs.Blocks.{all_bytes}
 use Rattle.get_read.specs.Readers.{set_of}
 use Rattle.get_read.specs.declared.faults.BodyFault.{BodyFault}
 use Rattle.get_read.specs.declared.reader.Reader.{Reader}
 use Rattle.get_read.specs.declared.reader.ReadStep.{ReadStep}
 use Rattle.get_read.specs.declared.reader.ReadStep.TheVariants.{More, Piece, Done}
 use Rattle.get_read.specs.declared.state.Asked.{Asked}
-use Rattle.get_read.specs.declared.state.Search.{Search}
-use Rattle.get_read.specs.declared.state.Fetching.{Fetching as FetchingRecord}
+use Rattle.get_read.specs.declared.search.Search.{Search}
+use Rattle.get_read.specs.declared.fetch.Fetching.{Fetching as FetchingRecord}
 use Rattle.get_read.specs.declared.state.State.{State}
 use Rattle.get_read.specs.declared.state.State.TheVariants.{Searching, Fetching, Ended, Refused}
 use Rattle.get_read.specs.declared.window.Window.{Window}

@@ -18,11 +18,10 @@ use Rattle.body_print.specs.Names.{manifest_name}
 use Rattle.get_read.specs.Account.{Account, AreInUse, OthersStay, Stands, WasCalled}
 use Rattle.get_read.specs.Causes.{Wanted}
 use Rattle.get_read.specs.Given.{AreOfSpanIn, IsFoundIn}
-use Rattle.get_read.specs.Held.{all_bytes}
+use Rattle.get_read.specs.Blocks.{IsRow, all_bytes, block_at, row_at, stored_at}
 use Rattle.get_read.specs.Letters.{IsBlockIn, IsTableIn, NoBlockOf, NoManifestOf}
 use Rattle.get_read.specs.Outcomes.{wanted_of}
 use Rattle.get_read.specs.Refusing.{FewBlocksIn, NoneServesIn}
-use Rattle.get_read.specs.Sifting.{IsRow, block_at, row_at, stored_at}
 use Rattle.get_read.specs.declared.blocks.Blocks.{Blocks}
 use Rattle.get_read.specs.States.{manifest_in}
 use Rattle.get_read.specs.Windows.{AreAhead}
@@ -32,10 +31,10 @@ use Rattle.get_read.specs.declared.reader.Reader.{Reader}
 use Rattle.get_read.specs.declared.reader.ReadStep.{ReadStep}
 use Rattle.get_read.specs.declared.reader.ReadStep.TheVariants.{More, Piece, Done}
 use Rattle.get_read.specs.declared.state.Asked.{Asked}
-use Rattle.get_read.specs.declared.state.Search.{Search}
+use Rattle.get_read.specs.declared.search.Search.{Search}
 use Rattle.get_read.specs.declared.state.PartWork.{PartWork}
 use Rattle.get_read.specs.declared.state.StripeWork.{StripeWork}
-use Rattle.get_read.specs.declared.state.Fetching.{Fetching as FetchingRecord}
+use Rattle.get_read.specs.declared.fetch.Fetching.{Fetching as FetchingRecord}
 use Rattle.get_read.specs.declared.state.State.{State}
 use Rattle.get_read.specs.declared.state.State.TheVariants.{Searching, Fetching, Ended, Refused}
 

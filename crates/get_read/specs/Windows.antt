@@ -12,13 +12,13 @@ use Rattle.manifest_file.specs.declared.manifest.ManifestPart.{ManifestPart}
 use Rattle.shard_file.specs.Shards.{block_place, table_place}
 use Rattle.shard_file.specs.Stripes.{block_size, piece, stripe_count, stripe_size}
 use Rattle.body_print.specs.Names.{shard_name}
-use Rattle.body_print.specs.Shards.{AreStripeBlocks}
 use Rattle.get_read.specs.Account.{Account, WasSeen}
 use Rattle.get_read.specs.Letters.{IsBlockIn}
+use Rattle.get_read.specs.Stripes.{EachStripe}
 use Rattle.get_read.specs.declared.faults.BodyFault.{BodyFault}
 use Rattle.get_read.specs.declared.faults.BodyFault.TheVariants.{InvalidRange, ShardQuorum, NoMemory}
-use Rattle.get_read.specs.declared.window.Found.{Found}
-use Rattle.get_read.specs.declared.window.Found.TheVariants.{Table, Run}
+use Rattle.get_read.specs.declared.window.WindowFind.{WindowFind}
+use Rattle.get_read.specs.declared.window.WindowFind.TheVariants.{Table, Run}
 use Rattle.get_read.specs.declared.window.Window.{Window}
 
 -- a window begins at a stripe, each of its stripes is whole, its next drive is not out, and more blocks are wanted
@@ -61,7 +61,7 @@ AreAhead set part None calls = Unit {0}
 AreAhead set part (Some window) calls = AreRuns set part window calls
 
 -- a call for a window gives the digest table of its next drive, or the blocks, or tells why not
-abbrev pub WindowCall : ℕ → ManifestPart → List ℕ → List ℕ → Window → Result Found FetchFault → DriveView → DriveView → Type 0
+abbrev pub WindowCall : ℕ → ManifestPart → List ℕ → List ℕ → Window → Result WindowFind FetchFault → DriveView → DriveView → Type 0
 WindowCall d part root held window (Ok (Table table)) before after = (held ≡ []) × (length table.items ≡ 32 * stripe_count part.length)
     × (root ≡ sha256 table.items) × WasSeen (Showed (shard_name part.id) (table_place d part.length) table.items) before after
 WindowCall d part root held window (Ok (Run run)) before after = (0 < length held) × (length run.items ≡ window.count * window.size)
@@ -97,19 +97,14 @@ Verifies window = (k : ℕ) → k < length window.rows.items * window.count → 
 
 -- bytes are the stripes whose blocks these are, if there are such
 abbrev pub AreRebuilt : SetPlan → Window → List ℕ → Type 0
-AreRebuilt set window bytes = (length bytes ≡ stripe_size * window.count) × ((s : ℕ) (stripe : List ℕ) (shards : List (List ℕ)) → s < window.count
-    → length stripe ≡ stripe_size → AreStripeBlocks set.drives (data_drives set.drives set.parity) stripe shards
-    → ((j : ℕ) → j < length window.rows.items → run_block window j s ≡ slice_index_or shards (slice_index window.rows.items j) [])
-    → piece stripe_size bytes s ≡ stripe)
+AreRebuilt set window bytes = (length bytes ≡ stripe_size * window.count)
+    × ((s : ℕ) → s < window.count → EachStripe set stripe_size window.rows.items (λ j. run_block window j s) (λ stripe _. piece stripe_size bytes s ≡ stripe))
 
 -- a stripe of a window is added to bytes, if its blocks are these
 pub record AddsStripe (set : SetPlan) (window : Window) (s : ℕ) (old new : List ℕ) : Type 0 where
   pub long : length new ≡ length old + stripe_size
   pub kept : take (length old) new ≡ old
-  pub stripe : (stripe : List ℕ) (shards : List (List ℕ)) → length stripe ≡ stripe_size
-      → AreStripeBlocks set.drives (data_drives set.drives set.parity) stripe shards
-      → ((j : ℕ) → j < length window.rows.items → run_block window j s ≡ slice_index_or shards (slice_index window.rows.items j) [])
-      → new ≡ old ++ stripe
+  pub stripe : EachStripe set stripe_size window.rows.items (λ j. run_block window j s) (λ stripe _. new ≡ old ++ stripe)
 
 -- the digests that a table has for the stripes of a window
 abbrev pub digests_in : List ℕ → ℕ → ℕ → List ℕ

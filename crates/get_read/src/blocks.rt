@@ -1,19 +1,22 @@
-//! Blocks of a stripe from several drives, and the comparison of them all with their digests.
+//! Blocks of a stripe from several drives: their comparison with their digests, and the stripe that they make.
 
-ghost use Rattle.std.specs.Prelude.{◌≡◌, ◌<◌, ◌≤◌, ◌+◌, ◌*◌, ◌++◌, ◌∷◌, [], ℕ, List, IsOk, IsTrue, false, length, map};
+ghost use Rattle.std.specs.Prelude.{◌≡◌, ◌<◌, ◌≤◌, ◌+◌, ◌*◌, ◌++◌, ◌∷◌, [], ℕ, List, IfOk, IsOk, IsTrue, false, length, map, slice_index, slice_index_or, take};
 ghost use Rattle.std.specs.List.{remove, remove_range};
 ghost use Rattle.sha2.specs.Sha256.{sha256};
-ghost use Rattle.shard_file.specs.Stripes.{pieces};
-ghost use Rattle.get_read.specs.Sifting.{AreAtHand, AreSifted, block_at};
-ghost use Rattle.get_read.specs.declared.blocks.Blocks.{Blocks};
 ghost use Rattle.call_types.specs.declared.why.Why.{Why};
+ghost use Rattle.drive_base.specs.Plan.{data_drives};
+ghost use Rattle.shard_file.specs.Stripes.{pieces};
+ghost use Rattle.get_read.specs.Stripes.{EachStripeOf, MakeStripe};
+ghost use Rattle.get_read.specs.Blocks.{AreAtHand, AreSifted, block_at};
+ghost use Rattle.get_read.specs.declared.blocks.Blocks.{Blocks};
 
-use crate::tables::Fetched;
+use crate::calls::Fetched;
 use call_types::{Why, Whys};
-use drive_base::MOST_DRIVES;
+use drive_base::{MOST_DRIVES, SetPlan};
+use poly_code::rebuild;
 use seal_file::Damage;
 use shard_file::block_digests;
-use std::alloc::AllocError;
+use std::alloc::{AllocError, Global};
 
 /// Blocks of a stripe, of one size: the numbers of their drives, the digests that the tables have for them, and the
 /// blocks joined.
@@ -116,4 +119,93 @@ fn take_out(found: &mut Blocks, place: usize, size: usize)
     found.rows.remove(place);
     found.stored.remove(place);
     found.bytes.drain(from..from + size);
+}
+
+/// The bytes of a stripe of so many bytes, from verified blocks of this size. Where these are its data blocks no byte is copied.
+pub fn stripe_of(
+    alloc: Global,
+    set: &SetPlan,
+    blocks: Blocks,
+    size: usize,
+    long: usize,
+) -> Result<Vec<u8>, AllocError>
+    requires { MakeStripe set.now size long blocks }
+    ensures long { IfOk result (λ bytes. length bytes.items ≡ long) }
+    ensures stripe { IfOk result (λ bytes. EachStripeOf set.now size long blocks (λ stripe _. bytes.items ≡ stripe)) }
+{
+    if are_data(blocks.rows.as_slice()) {
+        let mut bytes = blocks.bytes;
+        bytes.truncate(long);
+        return Ok(bytes);
+    }
+    let mut bytes = Vec::with_capacity(alloc, blocks.bytes.len())?;
+    add_stripe(alloc, set, &blocks, size, long, &mut bytes)?;
+    Ok(bytes)
+}
+
+/// Whether each of these rows is that of the data block at its place.
+pub fn are_data(rows: &[u8]) -> bool
+    ensures { IsTrue result → (j : ℕ) → j < length rows.now → slice_index rows.now j ≡ j }
+{
+    for place in 0..rows.len() {
+        if rows[place] as usize != place {
+            return false;
+        }
+    }
+    true
+}
+
+/// Adds the bytes of a stripe of so many bytes to the body, from verified blocks of this size.
+pub fn add_stripe(
+    alloc: Global,
+    set: &SetPlan,
+    blocks: &Blocks,
+    size: usize,
+    long: usize,
+    body: &mut Vec<u8>,
+) -> Result<(), AllocError>
+    requires { MakeStripe set.now size long blocks.now }
+    ensures long { IsOk result → length body.new.items ≡ length body.old.items + long }
+    ensures kept { IsOk result → take (length body.old.items) body.new.items ≡ body.old.items }
+    ensures stripe { IsOk result → EachStripeOf set.now size long blocks.now (λ stripe _. body.new.items ≡ body.old.items ++ stripe) }
+{
+    let wanted = body.len() + long;
+    for which in 0..set.read_quorum() {
+        add_data_block(alloc, set, blocks, size, long, which, body)?;
+    }
+    body.truncate(wanted);
+    Ok(())
+}
+
+/// Adds a data block of a stripe of so many bytes, from verified blocks. Where it is at hand at its own place it is copied from there.
+fn add_data_block(
+    alloc: Global,
+    set: &SetPlan,
+    blocks: &Blocks,
+    size: usize,
+    long: usize,
+    which: u8,
+    body: &mut Vec<u8>,
+) -> Result<(), AllocError>
+    requires blocks { MakeStripe set.now size long blocks.now }
+    requires which { which < data_drives set.now.drives set.now.parity }
+    ensures long { IsOk result → length body.new.items ≡ length body.old.items + size }
+    ensures kept { IsOk result → take (length body.old.items) body.new.items ≡ body.old.items }
+    ensures block { IsOk result → EachStripeOf set.now size long blocks.now (λ _ shards. body.new.items ≡ body.old.items ++ slice_index_or shards which []) }
+{
+    let own = which as usize;
+    if blocks.rows.as_slice()[own] == which {
+        let from = own * size;
+        return body.extend_from_slice(&blocks.bytes.as_slice()[from..from + size]);
+    }
+    let mut out = vec![in alloc; 0; size]?;
+    rebuild(
+        *set,
+        blocks.rows.as_slice(),
+        blocks.bytes.as_slice(),
+        which,
+        out.as_mut_slice(),
+    );
+    body.extend_from_slice(out.as_slice())?;
+    Ok(())
 }

@@ -1,21 +1,51 @@
-//! Single calls of a drive, each as it was seen.
+//! Calls of drives, each as it was seen: which drive is next, and one call of it.
 
-ghost use Rattle.std.specs.Prelude.{◌≡◌, ◌<◌, ◌*◌, [], length, slice_index_or};
-ghost use Rattle.call_types.specs.declared.why.FileKind.TheVariants.{Shard};
+ghost use Rattle.std.specs.Prelude.{◌≡◌, ◌<◌, ◌≤◌, ◌+◌, ◌*◌, [], ℕ, length, slice_index_or};
+ghost use Rattle.call_types.specs.declared.why.Why.TheVariants.{Good};
 ghost use Rattle.drive_base.specs.Plan.{data_drives};
 ghost use Rattle.drive_base.specs.View.{OnlyRead, view};
+ghost use Rattle.field_reader.specs.Spelling.{IsBytes};
 ghost use Rattle.body_print.specs.Names.{shard_name};
 ghost use Rattle.shard_file.specs.Stripes.{stripe_count};
 ghost use Rattle.file_access.specs.Reading.{IdleWithout};
-ghost use Rattle.get_read.specs.Calling.{BlockCall, PieceCall, SizeCall, TableCall};
+ghost use Rattle.get_read.specs.Calls.{BlockCall, PieceCall, SizeCall, TableCall};
+ghost use Rattle.get_read.specs.Causes.{digest_in};
+ghost use Rattle.get_read.specs.PassedDrives.{PassesOver};
 
-use crate::tables::{Fetched, byte_law, digest_of};
-use call_types::{FileKind, Why};
+use call_types::{FileKind, Why, Whys};
 use drive_base::{Drive, SetPlan};
 use file_access::{FetchFault, piece_into, size_on};
 use manifest_file::ManifestPart;
 use shard_file::{STRIPE, check_block, layout};
 use std::alloc::Global;
+
+/// A block as its drive shows it, and the digest that the drive's table has for it. They are not compared yet.
+#[derive(Drop)]
+pub struct Fetched {
+    /// The digest in the table.
+    pub stored: [u8; 32],
+    /// The bytes of the block.
+    pub block: Vec<u8>,
+}
+
+/// The first drive from a place on that isn't out, or as many as there are. Those that are passed over lack their format
+/// file.
+pub fn past_out(set: &SetPlan, from: u8, whys: &mut Whys) -> u8
+    requires from { from ≤ set.now.drives }
+    requires letters { length whys.old ≡ set.now.drives }
+    requires untried { (k : ℕ) → from ≤ k → slice_index_or whys.old k Good ≡ Good }
+    ensures { PassesOver set.now from result whys.old whys.new }
+{
+    let mut next = from;
+    while next < set.drives {
+        if !set.is_out(next) {
+            return next;
+        }
+        whys.set(next as usize, Why::Lacks(FileKind::Format));
+        next += 1;
+    }
+    next
+}
 
 /// The length of a file.
 pub fn call_size<D: Drive>(drive: &mut D, kind: FileKind, name: &str) -> Result<u64, Why>
@@ -101,3 +131,19 @@ pub fn call_block<D: Drive>(
         Err(fault) => Err(fault),
     }
 }
+
+/// The digest that a table has for a stripe.
+fn digest_of(table: &[u8], stripe: u64) -> [u8; 32]
+    requires { 32 * stripe + 32 ≤ length table.now }
+    ensures { result ≡ digest_in table.now stripe }
+{
+    let at = 32 * stripe as usize;
+    let mut stored = [0; 32];
+    stored.copy_from_slice(&table[at..at + 32]);
+    stored
+}
+
+/// What the type of a slice says of its items: each is a byte. It does nothing.
+fn byte_law(bytes: &[u8])
+    ensures { IsBytes bytes.now }
+{}

@@ -9,9 +9,9 @@ use std::alloc::{AllocError, AllocFailed};
 /// Why a read was refused.
 #[derive(Clone, Copy, PartialEq, Eq)]
 pub enum BodyFault {
-    /// The range has no byte of a body of this length. No call asks for a range yet.
+    /// The range has no byte of a body of this length. No reader answers this.
     InvalidRange(u64),
-    /// All drives were tried, and too few gave what was asked: why, for each drive.
+    /// All drives were tried, and too few gave what was asked. It tells why, for each drive.
     ShardQuorum(Whys),
     /// There was not enough memory.
     NoMemory,

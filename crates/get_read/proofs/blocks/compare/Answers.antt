@@ -1,7 +1,7 @@
 use Rattle.std.proofs.Common.{rules, ◌≡◌, ◌≢◌, ◌∙◌, ℕ, List, [], slice_index_or, slice_set, ap}
 use Rattle.call_types.specs.declared.why.Why.TheVariants.{Damaged}
 use Rattle.seal_file.specs.declared.damage.Damage.TheVariants.{Digest}
-use Rattle.get_read.specs.Sifting.{row_at, stored_at}
+use Rattle.get_read.specs.Blocks.{row_at, stored_at}
 use Rattle.get_read.proofs.SiftLemmas.{sifted_kept, sifted_out}
 use Rattle.get_read.proofs.blocks.compare.Goals as goal
 

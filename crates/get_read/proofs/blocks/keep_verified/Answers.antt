@@ -1,5 +1,5 @@
 use Rattle.std.proofs.Common.{◌≡◌, ◌-◌, ◌+◌, ℕ, length, subst, arith}
-use Rattle.get_read.specs.Sifting.{AreSifted}
+use Rattle.get_read.specs.Blocks.{AreSifted}
 use Rattle.get_read.proofs.SiftLemmas.{digest_now, sifted_none}
 use Rattle.get_read.proofs.blocks.keep_verified.Goals as goal
 

@@ -1,5 +1,5 @@
 use Rattle.std.proofs.Common.{◌≤◌, length}
-use Rattle.get_read.specs.Sifting.{AreSifted}
+use Rattle.get_read.specs.Blocks.{AreSifted}
 use Rattle.get_read.proofs.blocks.keep_verified.Given as goal
 
 -- the blocks from the place on were compared

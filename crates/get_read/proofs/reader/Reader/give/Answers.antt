@@ -3,7 +3,7 @@ use Rattle.std.specs.Global.{Global}
 use Rattle.std.specs.Prelude.{Vec}
 use Rattle.std.proofs.lemmas.List.{drop-take}
 use Rattle.shard_file.specs.Stripes.{stripe_size}
-use Rattle.get_read.specs.Turning.{BeginsAt, IsPartOn}
+use Rattle.get_read.specs.Turns.{BeginsAt, IsPartOn}
 use Rattle.get_read.specs.declared.state.Asked.{Asked}
 use Rattle.get_read.proofs.GivingLemmas.{piece_wanted}
 use Rattle.get_read.proofs.reader.Reader.give.Goals as goal

@@ -1,5 +1,5 @@
 use Rattle.std.proofs.Common.{◌≡◌, ◌∙◌, length, ap, subst, sym, arith}
-use Rattle.get_read.specs.Sifting.{AreSifted}
+use Rattle.get_read.specs.Blocks.{AreSifted}
 use Rattle.get_read.specs.declared.blocks.Blocks.{Blocks}
 use Rattle.get_read.proofs.AtHandLemmas.{sifted_below, sifted_untried}
 use Rattle.get_read.proofs.state.StripeWork.judge.Goals as goal

@@ -20,8 +20,8 @@ loop-stripe-preserved c =
     sym (take-append-drop (length old) new) ∙ ap (λ (b : List ℕ). b ++ drop (length old) new) added.kept in
     record {
       long = omega (arith, added.long, inv.long, next);
-      are = λ s stripe shards low is blocks_are each. elim (cases_lt s i) [
-        | inl lower ↦ piece_of_before stripe_size i s old (drop (length old) new) new inv.long joined lower ∙ inv.are s stripe shards lower is blocks_are each
+      are = λ s low stripe shards is blocks_are each. elim (cases_lt s i) [
+        | inl lower ↦ piece_of_before stripe_size i s old (drop (length old) new) new inv.long joined lower ∙ inv.are s lower stripe shards is blocks_are each
         | inr past ↦
             let at : s ≡ i = omega (arith, low, past) in
             let gives : new ≡ old ++ stripe = added.stripe stripe shards is blocks_are (λ j inside. ap (run_block w j) (sym at) ∙ each j inside) in
