@@ -14,7 +14,7 @@ use Rattle.desk_base.specs.Telling.{Telling}
 use Rattle.serve_loop.specs.Deeds.{wires, IsFront, IsServed}
 use Rattle.serve_loop.specs.Intakes.{feed_of, unread_of}
 use Rattle.serve_loop.specs.Sending.{Sent}
-use Rattle.serve_loop.specs.Telling.{TakesText, Told}
+use Rattle.serve_loop.specs.Replies.{TakesText, Told}
 use Rattle.serve_loop.specs.Turns.{AskGoes, Asking, Finishes, asking_text}
 use Rattle.serve_loop.proofs.IntakeLemmas.{taken_of}
 use Rattle.serve_loop.proofs.MovedLemmas.{moved_of}

@@ -11,9 +11,8 @@ use Rattle.call_types.specs.declared.feed.Cut.TheVariants.{ReadFault, BodyCut, W
 use Rattle.desk_base.specs.Answering.{Task}
 use Rattle.desk_base.specs.Telling.{Telling}
 use Rattle.desk_base.specs.declared.call.Call.{Call}
-use Rattle.serve_loop.specs.Asks.{expects_continue}
+use Rattle.serve_loop.specs.Exchanges.{expects_continue, Ask, asked, closes, greeting}
 use Rattle.serve_loop.specs.Deeds.{Wires, wires, CutSo, IsFront, IsServed}
-use Rattle.serve_loop.specs.Exchanges.{Ask, asked, closes, greeting}
 use Rattle.serve_loop.specs.Intakes.{unread_of}
 use Rattle.serve_loop.specs.Sending.{Sent, SinkView}
 use Rattle.serve_loop.specs.Turns.{AskCutSo, AskGoes, Goes, IsReady, IsShort, asking_text, end_for, rest_of}

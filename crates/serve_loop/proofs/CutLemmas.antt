@@ -20,9 +20,9 @@ use Rattle.desk_base.specs.declared.call.Call.{Call}
 use Rattle.desk_base.specs.declared.call.Call.TheVariants as call
 use Rattle.serve_loop.specs.Deeds.{wires, IsCutBy, IsFront, IsServed}
 use Rattle.serve_loop.specs.Intakes.{feed_of, unread_of}
-use Rattle.serve_loop.specs.Sending.{Sent}
+use Rattle.serve_loop.specs.Sending.{Sent, SinkView}
 use Rattle.serve_loop.specs.Session.{CountsSo}
-use Rattle.serve_loop.specs.Telling.{BreaksText, Replying, TakesText, Told, tale_in, text_in}
+use Rattle.serve_loop.specs.Replies.{BreaksText, Replying, TakesText, Told, tale_in, text_in}
 use Rattle.serve_loop.specs.Turns.{AskCutSo, AskGoes, Asking, AsksShort, BreaksOff, Finishes, asking_text, end_for}
 use Rattle.serve_loop.proofs.AskLemmas.{asked_done, served_so, silent_so, taken_long, told_text}
 use Rattle.serve_loop.proofs.IntakeLemmas.{taken_of}
@@ -118,33 +118,44 @@ none_taken : (R : Type 0) (call : Call) (tale : List Telling) (whys : _) → Cal
 none_taken R call tale whys (told, pieces, less, are) = bytes_taken (length (concat pieces)) told call less
 
 module _ {M R : Type 0} (answers : Task → M → M → List ℕ → List Telling → Result R Cut → Type 0) where
+  -- a call was cut, and so much of its reply was given
+  short_gave : (why by : Cut) (asking : Asking) (old new : M) (body : List ℕ) (tale : List Telling) (stated stated_after : ℕ) (wire wire_after : Wired) (source after : SourceView)
+      (reads reads_after : ℕ) (sink sink_after : SinkView) (writes writes_after : ℕ) (out : List ℕ)
+      → asking.long ≡ wire.body_left → wire.body_left ≡ stated → wire_after.body_left ≤ stated_after
+      → Gave body (feed_of stated wire source) (feed_of stated_after wire_after after)
+      → CallTells asking.call (failed R by) tale → answers (record { call = asking.call; now = asking.now }) old new body tale (failed R by) → IsCutBy why by
+      → Sent out sink sink_after → (length body < asking.long → out ≡ []) → reads ≤ reads_after → writes ≤ writes_after
+      → AskCutSo why asking tale body out (wires (unread_of wire source) sink reads writes) (wires (unread_of wire_after after) sink_after reads_after writes_after)
+      → CountsSo (end_for why) (wires (unread_of wire source) sink reads writes) (wires (unread_of wire_after after) sink_after reads_after writes_after)
+      → AsksShort answers why asking old new (wires (unread_of wire source) sink reads writes) (wires (unread_of wire_after after) sink_after reads_after writes_after)
+  short_gave why by asking old new body tale stated stated_after wire wire_after source after reads reads_after sink sink_after writes writes_after out is fresh within gave whole did cut_by sent silent read wrote cause counts = record {
+    read = body;
+    tale = tale;
+    part = omega (arith, taken_long body asking.long stated stated_after wire wire_after source after is fresh within gave);
+    came = inr (by, cut_by, subst (λ l. IsServed answers asking.call asking.now l tale (failed R by) old new) (append-nil body) (served_so answers asking (failed R by) old new body [] tale whole did));
+    out = out;
+    silent = silent;
+    cause = cause;
+    moved = moved_of body out (unread_of wire source) (unread_of wire_after after) sink sink_after reads reads_after writes writes_after
+        (taken_of body stated stated_after wire wire_after source after gave) sent read wrote;
+    counts = counts;
+  }
+
   -- what all cuts but those of the sink share: what was told was given in part
-  short_told : (why : Cut) (asking : Asking) (waits : Bool) (old new : M) (taken : List ℕ) (tale : List Telling) (stated stated_after : ℕ) (wire wire_after : Wired) (source after : SourceView)
+  short_told : (why : Cut) (asking : Asking) (old new : M) (body : List ℕ) (tale : List Telling) (stated stated_after : ℕ) (wire wire_after : Wired) (source after : SourceView)
       (reads reads_after : ℕ) (told told_mid told_after : Told) (writes writes_after : ℕ)
       → asking.long ≡ wire.body_left → wire.body_left ≡ stated → wire_after.body_left ≤ stated_after
-      → Gave taken (feed_of stated wire source) (feed_of stated_after wire_after after)
-      → CallTells asking.call (failed R why) tale → answers (record { call = asking.call; now = asking.now }) old new taken tale (failed R why) → IsCutBy why why
-      → told.held ≡ [] → (told.reply.waits ≡ true) ⊎ (asking.long ≡ 0) → (takes : TakesText (asking_text asking tale) told told_mid)
+      → Gave body (feed_of stated wire source) (feed_of stated_after wire_after after)
+      → CallTells asking.call (failed R why) tale → answers (record { call = asking.call; now = asking.now }) old new body tale (failed R why) → IsCutBy why why
+      → (told.reply.waits ≡ true) ⊎ (asking.long ≡ 0) → (takes : TakesText (asking_text asking tale) told told_mid)
       → told_after.sink ≡ told_mid.sink → reads ≤ reads_after → writes ≤ writes_after
-      → AskCutSo why asking tale taken takes.more (wires (unread_of wire source) told.sink reads writes) (wires (unread_of wire_after after) told_after.sink reads_after writes_after)
+      → AskCutSo why asking tale body takes.more (wires (unread_of wire source) told.sink reads writes) (wires (unread_of wire_after after) told_after.sink reads_after writes_after)
       → CountsSo (end_for why) (wires (unread_of wire source) told.sink reads writes) (wires (unread_of wire_after after) told_after.sink reads_after writes_after)
       → AsksShort answers why asking old new (wires (unread_of wire source) told.sink reads writes) (wires (unread_of wire_after after) told_after.sink reads_after writes_after)
-  short_told why asking waits old new taken tale stated stated_after wire wire_after source after reads reads_after told told_mid told_after writes writes_after is fresh within gave whole did by none silent takes given read wrote cause counts =
-      let long = taken_long taken asking.long stated stated_after wire wire_after source after is fresh within gave in
-      let self : IsServed answers asking.call asking.now taken tale (failed R why) old new =
-      subst (λ l. IsServed answers asking.call asking.now l tale (failed R why) old new) (append-nil taken) (served_so answers asking (failed R why) old new taken [] tale whole did) in
-      record {
-        read = taken;
-        tale = tale;
-        part = omega (arith, long);
-        came = inr (why, by, self);
-        out = takes.more;
-        silent = silent_so (asking_text asking tale) taken asking.long told told_mid silent takes;
-        cause = cause;
-        moved = moved_of taken takes.more (unread_of wire source) (unread_of wire_after after) told.sink told_after.sink reads reads_after writes writes_after
-            (taken_of taken stated stated_after wire wire_after source after gave) (subst (Sent takes.more told.sink) (sym given) takes.gave) read wrote;
-        counts = counts;
-      }
+  short_told why asking old new body tale stated stated_after wire wire_after source after reads reads_after told told_mid told_after writes writes_after is fresh within gave whole did by silent takes given read wrote cause counts =
+      short_gave why why asking old new body tale stated stated_after wire wire_after source after reads reads_after told.sink told_after.sink writes writes_after takes.more
+      is fresh within gave whole did by (subst (Sent takes.more told.sink) (sym given) takes.gave)
+      (silent_so (asking_text asking tale) body asking.long told told_mid silent takes) read wrote cause counts
 
   -- the text that a teller was told is that of the reply
   takes_asked : (asking : Asking) (waits : Bool) (tale : List Telling) (told told_mid : Told) → told.reply ≡ replying asking waits
@@ -182,8 +193,8 @@ module _ {M R : Type 0} (answers : Task → M → M → List ℕ → List Tellin
     asked_cut ReadFault (Err e) asking waits old new body tale stated stated_after wire wire_after source after reads reads_after told told_mid told_after writes writes_mid writes_after is fresh within takes_body gave whole did tells reply none silent cause breaks =
         let takes = takes_asked asking waits tale (view told) (view told_mid) reply (was_so R view name ReadFault tale told told_mid tells).1 in
         subst (λ w. AsksShort answers w asking old new (wires (unread_of wire source) (view told).sink reads writes) (wires (unread_of wire_after after) (view told_after).sink reads_after writes_after)) (sym breaks.0)
-        (short_told ReadFault asking waits old new body tale stated stated_after wire wire_after source after reads reads_after (view told) (view told_mid) (view told_after) writes writes_after
-        is fresh within gave whole did refl none (all_waits asking waits (view told) reply silent) takes breaks.1 cause.0.0 (omega (arith, cause.1, breaks.2))
+        (short_told ReadFault asking old new body tale stated stated_after wire wire_after source after reads reads_after (view told) (view told_mid) (view told_after) writes writes_after
+        is fresh within gave whole did refl (all_waits asking waits (view told) reply silent) takes breaks.1 cause.0.0 (omega (arith, cause.1, breaks.2))
         (cause.0, subst (IsFront takes.more) (told_text (asking_text asking tale) (view told) (view told_mid) none takes) (front_all takes.more (view told_mid).held))
         (breaks.2 ∙ cause.1))
     asked_cut (BodyCut r s) (Ok _) asking waits old new body tale stated stated_after wire wire_after source after reads reads_after told told_mid told_after writes writes_mid writes_after is fresh within takes_body gave whole did tells reply none silent cause breaks = absurd breaks
@@ -193,16 +204,16 @@ module _ {M R : Type 0} (answers : Task → M → M → List ℕ → List Tellin
         let long = taken_long body asking.long stated stated_after wire wire_after source after is fresh within gave in
         let short : length body < asking.long = omega (arith, long, cause.2, within) in
         subst (λ w. AsksShort answers w asking old new (wires (unread_of wire source) (view told).sink reads writes) (wires (unread_of wire_after after) (view told_after).sink reads_after writes_after)) (sym breaks.0)
-        (short_told (BodyCut r s) asking waits old new body tale stated stated_after wire wire_after source after reads reads_after (view told) (view told_mid) (view told_after) writes writes_after
-        is fresh within gave whole did refl none waits_all takes breaks.1 (omega (arith, cause.4)) (omega (arith, cause.5, breaks.2))
+        (short_told (BodyCut r s) asking old new body tale stated stated_after wire wire_after source after reads reads_after (view told) (view told_mid) (view told_after) writes writes_after
+        is fresh within gave whole did refl waits_all takes breaks.1 (omega (arith, cause.4)) (omega (arith, cause.5, breaks.2))
         (short, record { left = cause.3.left; takes = cause.3.ended }, silent_so (asking_text asking tale) body asking.long (view told) (view told_mid) waits_all takes short)
         (cause.4, breaks.2 ∙ cause.5))
     asked_cut NoMemory (Ok _) asking waits old new body tale stated stated_after wire wire_after source after reads reads_after told told_mid told_after writes writes_mid writes_after is fresh within takes_body gave whole did tells reply none silent cause breaks = absurd breaks
     asked_cut NoMemory (Err e) asking waits old new body tale stated stated_after wire wire_after source after reads reads_after told told_mid told_after writes writes_mid writes_after is fresh within takes_body gave whole did tells reply none silent cause breaks =
         let takes = takes_asked asking waits tale (view told) (view told_mid) reply (was_so R view name NoMemory tale told told_mid tells).1 in
         subst (λ w. AsksShort answers w asking old new (wires (unread_of wire source) (view told).sink reads writes) (wires (unread_of wire_after after) (view told_after).sink reads_after writes_after)) (sym breaks.0)
-        (short_told NoMemory asking waits old new body tale stated stated_after wire wire_after source after reads reads_after (view told) (view told_mid) (view told_after) writes writes_after
-        is fresh within gave whole did refl none (all_waits asking waits (view told) reply silent) takes breaks.1 (omega (arith, cause.0)) (omega (arith, cause.1, breaks.2))
+        (short_told NoMemory asking old new body tale stated stated_after wire wire_after source after reads reads_after (view told) (view told_mid) (view told_after) writes writes_after
+        is fresh within gave whole did refl (all_waits asking waits (view told) reply silent) takes breaks.1 (omega (arith, cause.0)) (omega (arith, cause.1, breaks.2))
         (subst (IsFront takes.more) (told_text (asking_text asking tale) (view told) (view told_mid) none takes) (front_all takes.more (view told_mid).held))
         (cause.0, breaks.2 ∙ cause.1))
     asked_cut WriteFault (Ok _) asking waits old new body tale stated stated_after wire wire_after source after reads reads_after told told_mid told_after writes writes_mid writes_after is fresh within takes_body gave whole did tells reply none silent cause breaks = absurd breaks
@@ -213,67 +224,37 @@ module _ {M R : Type 0} (answers : Task → M → M → List ℕ → List Tellin
         let broke : BreaksText last so.mid (view told_mid) = subst (λ r. BreaksText (text_in r so.last) so.mid (view told_mid)) reply so.broke in
         let text : took.more ++ (so.mid.held ++ last) ≡ asking_text asking tale =
         sym (append_assoc took.more so.mid.held last) ∙ ap (λ l. l ++ last) (told_text (asking_text asking so.earlier) (view told) so.mid none took) ∙ tale_last (replying asking waits) tale so.earlier so.last so.are in
-        let long = taken_long body asking.long stated stated_after wire wire_after source after is fresh within gave in
+        let out = took.more ++ take broke.count (so.mid.held ++ last) in
         subst (λ w. AsksShort answers w asking old new (wires (unread_of wire source) (view told).sink reads writes) (wires (unread_of wire_after after) (view told_after).sink reads_after writes_after)) (sym breaks.0)
-        (record {
-          read = body;
-          tale = tale;
-          part = omega (arith, long);
-          came = inr (WriteFault, inl refl, subst (λ l. IsServed answers asking.call asking.now l tale (failed R WriteFault) old new) (append-nil body) (served_so answers asking (failed R WriteFault) old new body [] tale whole did));
-          out = took.more ++ take broke.count (so.mid.held ++ last);
-          silent = λ short. elim silent [ inl all ↦ absurd (broke.waits (ap (λ (r : Replying). r.waits) (so.same ∙ reply) ∙ all)) | inr nil ↦ absurd (omega (arith, nil, short)) ];
-          cause = (
-            subst (λ w. Rose writes w) (sym breaks.2) cause.1,
-            (length took.more + broke.count, sym (take-append-add took.more (so.mid.held ++ last) broke.count) ∙ ap (take (length took.more + broke.count)) text),
-          );
-          moved = moved_of body (took.more ++ take broke.count (so.mid.held ++ last)) (unread_of wire source) (unread_of wire_after after)
-              (view told).sink (view told_after).sink reads reads_after writes writes_after (taken_of body stated stated_after wire wire_after source after gave)
-              (subst (Sent (took.more ++ take broke.count (so.mid.held ++ last)) (view told).sink) (sym breaks.1)
-              (sent_both took.more (take broke.count (so.mid.held ++ last)) (view told).sink so.mid.sink (view told_mid).sink took.gave broke.front))
-              (omega (arith, cause.0)) (omega (arith, cause.1.0, breaks.2));
-          counts = cause.0;
-        })
+        (short_gave WriteFault WriteFault asking old new body tale stated stated_after wire wire_after source after reads reads_after (view told).sink (view told_after).sink writes writes_after out
+        is fresh within gave whole did (inl refl)
+        (subst (Sent out (view told).sink) (sym breaks.1) (sent_both took.more (take broke.count (so.mid.held ++ last)) (view told).sink so.mid.sink (view told_mid).sink took.gave broke.front))
+        (λ short. elim silent [ inl all ↦ absurd (broke.waits (ap (λ (r : Replying). r.waits) (so.same ∙ reply) ∙ all)) | inr nil ↦ absurd (omega (arith, nil, short)) ])
+        (omega (arith, cause.0)) (omega (arith, cause.1.0, breaks.2)) (
+          subst (λ w. Rose writes w) (sym breaks.2) cause.1,
+          (length took.more + broke.count, sym (take-append-add took.more (so.mid.held ++ last) broke.count) ∙ ap (take (length took.more + broke.count)) text),
+        )
+        cause.0)
     asked_cut (ShardCut whys) (Ok _) asking waits old new body tale stated stated_after wire wire_after source after reads reads_after told told_mid told_after writes writes_mid writes_after is fresh within takes_body gave whole did tells reply none silent cause breaks = absurd breaks
-    asked_cut (ShardCut whys) (Err e) asking waits old new body tale stated stated_after wire wire_after source after reads reads_after told told_mid told_after writes writes_mid writes_after is fresh within takes_body gave whole did tells reply none silent cause (inl (same, given, counted)) =
+    asked_cut (ShardCut whys) (Err e) asking waits old new body tale stated stated_after wire wire_after source after reads reads_after told told_mid told_after writes writes_mid writes_after is fresh within takes_body gave whole did tells reply none silent cause breaks =
         let takes = takes_asked asking waits tale (view told) (view told_mid) reply (was_so R view name (ShardCut whys) tale told told_mid tells).1 in
         let text = told_text (asking_text asking tale) (view told) (view told_mid) none takes in
         let long = taken_long body asking.long stated stated_after wire wire_after source after is fresh within gave in
         let nil = takes_body ∙ none_taken R asking.call tale whys whole in
-        subst (λ w. AsksShort answers w asking old new (wires (unread_of wire source) (view told).sink reads writes) (wires (unread_of wire_after after) (view told_after).sink reads_after writes_after)) (sym same)
-        (record {
-          read = body;
-          tale = tale;
-          part = omega (arith, long);
-          came = inr (ShardCut whys, refl, subst (λ l. IsServed answers asking.call asking.now l tale (failed R (ShardCut whys)) old new) (append-nil body) (served_so answers asking (failed R (ShardCut whys)) old new body [] tale whole did));
-          out = takes.more ++ (view told_mid).held;
-          silent = λ short. absurd (omega (arith, nil, short));
-          cause = (whole, omega (arith, long, nil), text);
-          moved = moved_of body (takes.more ++ (view told_mid).held) (unread_of wire source) (unread_of wire_after after)
-              (view told).sink (view told_after).sink reads reads_after writes writes_after (taken_of body stated stated_after wire wire_after source after gave)
+        elim breaks [
+          | inl (same, given, counted) ↦ subst (λ w. AsksShort answers w asking old new (wires (unread_of wire source) (view told).sink reads writes) (wires (unread_of wire_after after) (view told_after).sink reads_after writes_after)) (sym same)
+              (short_gave (ShardCut whys) (ShardCut whys) asking old new body tale stated stated_after wire wire_after source after reads reads_after (view told).sink (view told_after).sink writes writes_after
+              (takes.more ++ (view told_mid).held) is fresh within gave whole did refl
               (sent_both takes.more (view told_mid).held (view told).sink (view told_mid).sink (view told_after).sink takes.gave given)
-              (omega (arith, cause.0)) (omega (arith, cause.1, counted));
-          counts = (cause.0, counted ∙ cause.1);
-        })
-    asked_cut (ShardCut whys) (Err e) asking waits old new body tale stated stated_after wire wire_after source after reads reads_after told told_mid told_after writes writes_mid writes_after is fresh within takes_body gave whole did tells reply none silent cause (inr (same, front, rose)) =
-        let takes = takes_asked asking waits tale (view told) (view told_mid) reply (was_so R view name (ShardCut whys) tale told told_mid tells).1 in
-        let text = told_text (asking_text asking tale) (view told) (view told_mid) none takes in
-        let long = taken_long body asking.long stated stated_after wire wire_after source after is fresh within gave in
-        let nil = takes_body ∙ none_taken R asking.call tale whys whole in
-        subst (λ w. AsksShort answers w asking old new (wires (unread_of wire source) (view told).sink reads writes) (wires (unread_of wire_after after) (view told_after).sink reads_after writes_after)) (sym same)
-        (record {
-          read = body;
-          tale = tale;
-          part = omega (arith, long);
-          came = inr (ShardCut whys, inr (whys, refl), subst (λ l. IsServed answers asking.call asking.now l tale (failed R (ShardCut whys)) old new) (append-nil body) (served_so answers asking (failed R (ShardCut whys)) old new body [] tale whole did));
-          out = takes.more ++ take front.count (view told_mid).held;
-          silent = λ short. absurd (omega (arith, nil, short));
-          cause = (
-            subst (λ w. Rose w writes_after) cause.1 rose,
-            (length takes.more + front.count, sym (take-append-add takes.more (view told_mid).held front.count) ∙ ap (take (length takes.more + front.count)) text),
-          );
-          moved = moved_of body (takes.more ++ take front.count (view told_mid).held) (unread_of wire source) (unread_of wire_after after)
-              (view told).sink (view told_after).sink reads reads_after writes writes_after (taken_of body stated stated_after wire wire_after source after gave)
+              (λ short. absurd (omega (arith, nil, short))) (omega (arith, cause.0)) (omega (arith, cause.1, counted))
+              (whole, omega (arith, long, nil), text) (cause.0, counted ∙ cause.1))
+          | inr (same, front, rose) ↦ subst (λ w. AsksShort answers w asking old new (wires (unread_of wire source) (view told).sink reads writes) (wires (unread_of wire_after after) (view told_after).sink reads_after writes_after)) (sym same)
+              (short_gave WriteFault (ShardCut whys) asking old new body tale stated stated_after wire wire_after source after reads reads_after (view told).sink (view told_after).sink writes writes_after
+              (takes.more ++ take front.count (view told_mid).held) is fresh within gave whole did (inr (whys, refl))
               (sent_both takes.more (take front.count (view told_mid).held) (view told).sink (view told_mid).sink (view told_after).sink takes.gave front.front)
-              (omega (arith, cause.0)) (omega (arith, cause.1, rose.0));
-          counts = cause.0;
-        })
+              (λ short. absurd (omega (arith, nil, short))) (omega (arith, cause.0)) (omega (arith, cause.1, rose.0)) (
+                subst (λ w. Rose w writes_after) cause.1 rose,
+                (length takes.more + front.count, sym (take-append-add takes.more (view told_mid).held front.count) ∙ ap (take (length takes.more + front.count)) text),
+              )
+              cause.0)
+        ]

@@ -1,5 +1,5 @@
 -- The connections of a door, put together.
-use Rattle.std.proofs.Common.{◌≡◌, inl, inr, ◌≤◌, ◌<◌, ◌+◌, ℕ, Bool, true, false, List, [], ◌∷◌, ◌++◌, length, map, Option, Some, None, refl, sym, ap, ◌∙◌, subst, arith, append_assoc, append-nil, length-append}
+use Rattle.std.proofs.Common.{◌≡◌, ◌≤◌, ◌+◌, ℕ, true, false, List, [], ◌∷◌, ◌++◌, length, map, Option, Some, None, refl, sym, ap, ◌∙◌, subst, arith, append_assoc, append-nil, length-append}
 use Rattle.std.specs.Prelude.{Result}
 use Rattle.std.proofs.lemmas.List.{map-append, length-map}
 use Rattle.fault_base.specs.Counts.{Rose}
@@ -8,9 +8,8 @@ use Rattle.call_types.specs.declared.feed.Cut.{Cut}
 use Rattle.desk_base.specs.Answering.{Task}
 use Rattle.desk_base.specs.Telling.{Telling}
 use Rattle.serve_loop.specs.Doors.{AreVisited, DoorEndsSo, DoorServed, DoorView, GaveVisits, IsEven, IsVisited, ServedSince, ServesOne, Sight, Visit, capped, given_of, returned_of, told_all, want_in, wants_in}
-use Rattle.serve_loop.specs.declared.doors.DoorEnd.{DoorEnd}
-use Rattle.serve_loop.specs.declared.doors.DoorEnd.TheVariants.{Over, DoorFailed}
-use Rattle.serve_loop.specs.declared.ends.ConnectionEnd.{ConnectionEnd}
+use Rattle.serve_loop.specs.declared.ends.DoorEnd.{DoorEnd}
+use Rattle.serve_loop.specs.declared.ends.DoorEnd.TheVariants.{Over, DoorFailed}
 
 told_none : {X : Type 0} (known : Option (List X)) → known ≡ told_all known []
 told_none None = refl
@@ -129,29 +128,29 @@ module _ {M R S T : Type 0} (answers : Task → M → M → List ℕ → List Te
   }
 
   -- the same where no connection came any more
-  pub wanted_all : (old mid : M) (start here : DoorView S T) (first starved : ℕ) (so_far : DoorSoFar old mid start here first starved) (count : ℕ) → first ≡ capped count
+  wanted_all : (old mid : M) (start here : DoorView S T) (first starved : ℕ) (so_far : DoorSoFar old mid start here first starved) (count : ℕ) → first ≡ capped count
       → starved ≡ capped (count + wants_in (so_far.visits ++ []))
   wanted_all old mid start here first starved so_far count is =
       so_far.wanted count is ∙ ap (λ visits. capped (count + wants_in visits)) (sym (append-nil so_far.visits))
 
   -- no connection came any more, or the door failed
-  abbrev pub ends_over : (old mid : M) (start here there : DoorView S T) (first starved : ℕ) → DoorSoFar old mid start here first starved → there.gave ≡ here.gave → there.returned ≡ here.returned
-      → there.over ≡ true → there.faults ≡ here.faults → DoorServed answers clock seen Over old mid start there
-  ends_over old mid start here there first starved so_far gave returned shut counted = record {
+  abbrev pub door_ended : (old mid : M) (start here there : DoorView S T) (first starved : ℕ) (end : DoorEnd) → DoorSoFar old mid start here first starved
+      → there.gave ≡ here.gave → there.returned ≡ here.returned → DoorEndsSo end start there → DoorServed answers clock seen end old mid start there
+  door_ended old mid start here there first starved end so_far gave returned ends = record {
     visits = so_far.visits ++ [];
     visited = visited_more so_far.visits [] old mid mid so_far.visited refl;
     passed = visits_more so_far.visits [] start here there so_far.passed (λ over. so_far.over ∙ over) (visits_none here there gave returned);
-    ends = (shut, counted ∙ so_far.counted);
+    ends = ends;
   }
 
-  abbrev pub ends_failed : (old mid : M) (start here there : DoorView S T) (first starved : ℕ) → DoorSoFar old mid start here first starved → there.gave ≡ here.gave → there.returned ≡ here.returned
-      → there.over ≡ here.over → Rose here.faults there.faults → DoorServed answers clock seen (DoorFailed start.faults there.faults) old mid start there
-  ends_failed old mid start here there first starved so_far gave returned over rose = record {
-    visits = so_far.visits ++ [];
-    visited = visited_more so_far.visits [] old mid mid so_far.visited refl;
-    passed = visits_more so_far.visits [] start here there so_far.passed (λ shut. so_far.over ∙ shut) (visits_none here there gave returned);
-    ends = (over ∙ so_far.over, refl, refl, subst (λ n. Rose n there.faults) so_far.counted rose);
-  }
+  pub ends_over : (old mid : M) (start here there : DoorView S T) (first starved : ℕ) → DoorSoFar old mid start here first starved → there.over ≡ true → there.faults ≡ here.faults
+      → DoorEndsSo Over start there
+  ends_over old mid start here there first starved so_far shut counted = (shut, counted ∙ so_far.counted)
+
+  pub ends_failed : (old mid : M) (start here there : DoorView S T) (first starved : ℕ) → DoorSoFar old mid start here first starved → there.over ≡ here.over → Rose here.faults there.faults
+      → DoorEndsSo (DoorFailed start.faults there.faults) start there
+  ends_failed old mid start here there first starved so_far over rose =
+      (over ∙ so_far.over, refl, refl, subst (λ n. Rose n there.faults) so_far.counted rose)
 
   -- a door that was over is over when it was served
   stays_over : (end : DoorEnd) (old new : DoorView S T) → DoorEndsSo end old new → old.over ≡ true → new.over ≡ true
@@ -171,7 +170,7 @@ module _ {M R S T : Type 0} (answers : Task → M → M → List ℕ → List Te
     }
 
     -- a door was served once more
-    pub since_more : (old mid new : M) (start here there : DoorView S T) (first starved : ℕ) (end : DoorEnd) → ServedSince answers clock seen holds old mid start here first
+    since_more : (old mid new : M) (start here there : DoorView S T) (first starved : ℕ) (end : DoorEnd) → ServedSince answers clock seen holds old mid start here first
         → holds new ≡ holds mid → (served : DoorServed answers clock seen end mid new here there)
         → ((count : ℕ) → first ≡ capped count → starved ≡ capped (count + wants_in served.visits)) → ServedSince answers clock seen holds old new start there starved
     since_more old mid new start here there first starved end since stays served wanted = record {
@@ -182,3 +181,11 @@ module _ {M R S T : Type 0} (answers : Task → M → M → List ℕ → List Te
       shut = λ shut. stays_over end here there served.ends (since.shut shut);
       counted = wanted (wants_in since.visits) since.counted ∙ ap capped (sym (wants_both since.visits served.visits));
     }
+
+    -- it was served once more, to this end
+    pub since_ended : (old mid new : M) (start here now there : DoorView S T) (first starved : ℕ) (end : DoorEnd) → ServedSince answers clock seen holds old mid start here first
+        → holds new ≡ holds mid → DoorSoFar mid new here now first starved → there.gave ≡ now.gave → there.returned ≡ now.returned → DoorEndsSo end here there
+        → ServedSince answers clock seen holds old new start there starved
+    since_ended old mid new start here now there first starved end since stays so_far gave returned ends =
+        since_more old mid new start here there first starved end since stays (door_ended mid new here now there first starved end so_far gave returned ends)
+        (wanted_all mid new here now first starved so_far)

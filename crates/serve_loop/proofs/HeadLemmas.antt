@@ -3,11 +3,12 @@ use Rattle.std.proofs.Common.{◌≡◌, inl, inr, ◌≤◌, ◌<◌, ℕ, List
 use Rattle.std.specs.Prelude.{Result, Ok, Err, IfSome}
 use Rattle.fault_base.specs.Counts.{Rose}
 use Rattle.httparse.specs.Grammar.{print_request}
-use Rattle.http_wire.specs.Answers.{Answers, ReadsNext, Wired}
+use Rattle.http_wire.specs.Answers.{Answers, ReadsNext, Refuses, Wired}
 use Rattle.http_wire.specs.Heads.{IsOpen}
 use Rattle.http_wire.specs.Parts.{HeadParts}
 use Rattle.http_wire.specs.Taking.{HandsOn, HasEnded, SourceView, Taken}
 use Rattle.http_wire.specs.declared.fault.WireFault.{WireFault}
+use Rattle.http_wire.specs.declared.fault.WireFault.TheVariants as fault
 use Rattle.http_wire.specs.declared.reading.Reading.{Reading}
 use Rattle.http_wire.specs.declared.reading.Reading.TheVariants.{End, Whole, Refused as RefusedHead}
 use Rattle.call_types.specs.declared.feed.Cut.{Cut}
@@ -21,9 +22,9 @@ use Rattle.serve_loop.specs.Deeds.{Wires, wires, CountsStay, IsCutOff, IsExchang
 use Rattle.serve_loop.specs.Exchanges.{Exchange, IsHead, IsUnread, unread, text_of}
 use Rattle.serve_loop.specs.Intakes.{AreLast, with_waiting}
 use Rattle.serve_loop.specs.Sending.{Sent, SinkView}
-use Rattle.serve_loop.specs.Session.{Cuts, EndsSo}
-use Rattle.serve_loop.specs.Telling.{RefusesHead, refusal_text}
-use Rattle.serve_loop.specs.Turns.{TurnEnds, Turns}
+use Rattle.serve_loop.specs.Session.{CountsSo, Cuts, EndsSo}
+use Rattle.serve_loop.specs.Replies.{RefusesHead, refusal_text}
+use Rattle.serve_loop.specs.Turns.{TurnEnds, Turns, unread_for}
 use Rattle.serve_loop.specs.declared.ends.ConnectionEnd.{ConnectionEnd}
 use Rattle.serve_loop.specs.declared.ends.ConnectionEnd.TheVariants.{Over, Closed, InputCut, ReadFault, WriteFault, ReplyCut, NoMemory}
 use Rattle.serve_loop.specs.declared.ends.Turn.{Turn}
@@ -89,6 +90,26 @@ last_answered (Ok (Some head)) before source after new faults faults_after last 
 last_answered (Ok None) before source after new faults faults_after last answers = last_read End before new.waits source after faults faults_after last answers.0
 last_answered (Err fault) before source after new faults faults_after last answers =
     last_read (RefusedHead fault) before new.waits source after faults faults_after last answers.0
+
+-- what is known of a text for which a wire refuses
+abbrev UnreadBy : Result Refusal ConnectionEnd → List ℕ → SourceView → (faults faults_after : ℕ) → Type 0
+UnreadBy (Ok why) text after faults faults_after = IsUnread why text × (faults_after ≡ faults)
+UnreadBy (Err InputCut) text after faults faults_after = IsOpen text × HasEnded after × (0 < length text) × (faults_after ≡ faults)
+UnreadBy (Err ReadFault) text after faults faults_after = IsOpen text × Rose faults faults_after
+UnreadBy (Err NoMemory) text after faults faults_after = faults_after ≡ faults
+UnreadBy (Err Over) text after faults faults_after = ⊥
+UnreadBy (Err Closed) text after faults faults_after = ⊥
+UnreadBy (Err WriteFault) text after faults faults_after = ⊥
+UnreadBy (Err (ReplyCut whys)) text after faults faults_after = ⊥
+
+unread_so : (fault : WireFault) (text : List ℕ) (after : SourceView) (faults faults_after : ℕ) → Refuses fault text after faults faults_after
+    → UnreadBy (unread_for fault) text after faults faults_after
+unread_so fault.BadHead text after faults faults_after so = so
+unread_so fault.HeadTooLong text after faults faults_after so = so
+unread_so fault.ChunkedBody text after faults faults_after so = so
+unread_so (fault.BodyCut read stated) text after faults faults_after so = (so.0, so.1, so.2, so.5)
+unread_so fault.ReadFault text after faults faults_after so = so
+unread_so fault.NoMemory text after faults faults_after so = so
 
 -- ---- later wires
 
@@ -157,7 +178,7 @@ module _ {M R : Type 0} (answers : Task → M → M → List ℕ → List Tellin
   unread_is : (why : Refusal) (now number : ℕ) (text : List ℕ) → IsUnread why text → IfSome clock (λ told. now ≡ told) → now < 253402300800 → IsExchange clock number (unread_x why now text)
   unread_is why now number text asks moment range = record { asks = asks; moment = moment; range = range; manner = inr refl }
 
-  pub unread_turn : (turn : Turn) (why : Refusal) (now number : ℕ) (same : M) (text : List ℕ) (ahead source : SourceView) (sink sink_after : SinkView) (reads reads_after writes writes_after : ℕ) (going : Wires)
+  unread_turn : (turn : Turn) (why : Refusal) (now number : ℕ) (same : M) (text : List ℕ) (ahead source : SourceView) (sink sink_after : SinkView) (reads reads_after writes writes_after : ℕ) (going : Wires)
       → IsUnread why text → IfSome clock (λ told. now ≡ told) → now < 253402300800 → Taken text ahead source → reads_after ≡ reads
       → RefusesHead turn why now sink sink_after writes writes_after
       → Turns answers clock turn number [] same same (wires ahead sink reads writes) going (wires source sink_after reads_after writes_after)
@@ -217,59 +238,64 @@ module _ {M R : Type 0} (answers : Task → M → M → List ℕ → List Tellin
     ends = inl (refl, refl);
   }
 
-  -- the source ended in a head
-  pub head_cut : (number : ℕ) (same : M) (text : List ℕ) (ahead source : SourceView) (sink : SinkView) (reads reads_after writes : ℕ)
-      → IsOpen text → HasEnded source → 0 < length text → Taken text ahead source → reads_after ≡ reads
-      → TurnEnds answers clock InputCut number [] same same (wires ahead sink reads writes) (wires source sink reads_after writes)
-  head_cut number same text ahead source sink reads reads_after writes begun ended some took read = record {
+  -- ---- no request
+
+  -- nothing was given for the text that was read
+  nothing_given : (end : ConnectionEnd) (number : ℕ) (same : M) (text : List ℕ) (ahead source : SourceView) (sink : SinkView) (reads reads_after writes : ℕ)
+      → Taken text ahead source → reads ≤ reads_after → CountsSo end (wires ahead sink reads writes) (wires source sink reads_after writes)
+      → EndsSo answers clock end number same same text [] (wires ahead sink reads writes) (wires source sink reads_after writes)
+      → TurnEnds answers clock end number [] same same (wires ahead sink reads writes) (wires source sink reads_after writes)
+  nothing_given end number same text ahead source sink reads reads_after writes took low counts ends = record {
     taken = text;
     part = text;
     is = refl;
     out = [];
-    moved = moved_of text [] ahead source sink sink reads reads_after writes writes took (sent_none sink) (omega (arith, read)) (omega arith);
-    counts = (read, refl);
-    ends = inl (record { begun = begun; nothing = refl }, some, refl, record { left = ended.left; takes = ended.takes });
+    moved = moved_of text [] ahead source sink sink reads reads_after writes writes took (sent_none sink) low (omega arith);
+    counts = counts;
+    ends = ends;
   }
 
   -- the source ended between two requests
   pub head_over : (number : ℕ) (same : M) (text : List ℕ) (ahead source : SourceView) (sink : SinkView) (reads reads_after writes : ℕ)
       → text ≡ [] → HasEnded source → Taken text ahead source → reads_after ≡ reads
       → TurnEnds answers clock Over number [] same same (wires ahead sink reads writes) (wires source sink reads_after writes)
-  head_over number same text ahead source sink reads reads_after writes none ended took read = record {
-    taken = [];
-    part = [];
-    is = refl;
-    out = [];
-    moved = moved_of [] [] ahead source sink sink reads reads_after writes writes (subst (λ l. Taken l ahead source) none took) (sent_none sink)
-        (omega (arith, read)) (omega arith);
-    counts = (read, refl);
-    ends = inl (refl, refl, refl, record { left = ended.left; takes = ended.takes });
-  }
+  head_over number same text ahead source sink reads reads_after writes none ended took read =
+      nothing_given Over number same [] ahead source sink reads reads_after writes (subst (λ l. Taken l ahead source) none took) (omega (arith, read)) (read, refl)
+      (inl (refl, refl, refl, record { left = ended.left; takes = ended.takes }))
 
-  -- the source failed in a head, or before one
-  pub head_failed : (number : ℕ) (same : M) (text : List ℕ) (ahead source : SourceView) (sink : SinkView) (reads reads_after writes : ℕ)
-      → IsOpen text → Taken text ahead source → Rose reads reads_after
-      → TurnEnds answers clock ReadFault number [] same same (wires ahead sink reads writes) (wires source sink reads_after writes)
-  head_failed number same text ahead source sink reads reads_after writes begun took rose = record {
-    taken = text;
-    part = text;
-    is = refl;
-    out = [];
-    moved = moved_of text [] ahead source sink sink reads reads_after writes writes took (sent_none sink) rose.0 (omega arith);
-    counts = refl;
-    ends = inl (record { begun = begun; nothing = refl }, refl, rose);
-  }
+  -- a head can't be read: the source ended or failed in it, or no memory was found for it
+  head_ended : (end : ConnectionEnd) (number : ℕ) (same : M) (text : List ℕ) (ahead source : SourceView) (sink : SinkView) (reads reads_after writes : ℕ)
+      → Taken text ahead source → UnreadBy (Err end) text source reads reads_after
+      → TurnEnds answers clock end number [] same same (wires ahead sink reads writes) (wires source sink reads_after writes)
+  head_ended InputCut number same text ahead source sink reads reads_after writes took (begun, ended, some, read) =
+      nothing_given InputCut number same text ahead source sink reads reads_after writes took (omega (arith, read)) (read, refl)
+      (inl (record { begun = begun; nothing = refl }, some, refl, record { left = ended.left; takes = ended.takes }))
+  head_ended ReadFault number same text ahead source sink reads reads_after writes took (begun, rose) =
+      nothing_given ReadFault number same text ahead source sink reads reads_after writes took rose.0 refl (inl (record { begun = begun; nothing = refl }, refl, rose))
+  head_ended NoMemory number same text ahead source sink reads reads_after writes took read =
+      nothing_given NoMemory number same text ahead source sink reads reads_after writes took (omega (arith, read)) (read, refl) (inl (refl, refl))
+  head_ended Over number same text ahead source sink reads reads_after writes took so = absurd so
+  head_ended Closed number same text ahead source sink reads reads_after writes took so = absurd so
+  head_ended WriteFault number same text ahead source sink reads reads_after writes took so = absurd so
+  head_ended (ReplyCut whys) number same text ahead source sink reads reads_after writes took so = absurd so
 
-  -- no memory was found for a head
-  pub head_starved : (number : ℕ) (same : M) (text : List ℕ) (ahead source : SourceView) (sink : SinkView) (reads reads_after writes : ℕ)
-      → Taken text ahead source → reads_after ≡ reads
-      → TurnEnds answers clock NoMemory number [] same same (wires ahead sink reads writes) (wires source sink reads_after writes)
-  head_starved number same text ahead source sink reads reads_after writes took read = record {
-    taken = text;
-    part = text;
-    is = refl;
-    out = [];
-    moved = moved_of text [] ahead source sink sink reads reads_after writes writes took (sent_none sink) (omega (arith, read)) (omega arith);
-    counts = (read, refl);
-    ends = inl (refl, refl);
-  }
+  module _ (fault : WireFault) (before : List ℕ) (source after : SourceView) (new : Wired) (reads reads_after : ℕ) (last : AreLast before source.takes)
+      (answer : Answers (Err fault) before source after new reads reads_after) where
+    text_unread : (outcome : Result Refusal ConnectionEnd) → outcome ≡ unread_for fault → UnreadBy outcome answer.0.text after reads reads_after
+    text_unread outcome is = subst (λ r. UnreadBy r answer.0.text after reads reads_after) (sym is) (unread_so fault answer.0.text after reads reads_after answer.0.decides.0)
+
+    -- what was read is no head that is served, and its refusal was given, or cut
+    pub no_head : (turn : Turn) (why : Refusal) (now number : ℕ) (same : M) (sink sink_after : SinkView) (writes writes_after : ℕ) (going : Wires)
+        → Ok why ≡ unread_for fault → IfSome clock (λ told. now ≡ told) → now < 253402300800 → RefusesHead turn why now sink sink_after writes writes_after
+        → Turns answers clock turn number [] same same (wires (with_waiting before source) sink reads writes) going (wires after sink_after reads_after writes_after)
+    no_head turn why now number same sink sink_after writes writes_after going is moment range refuses =
+        let so = text_unread (Ok why) is in
+        unread_turn turn why now number same answer.0.text (with_waiting before source) after sink sink_after reads reads_after writes writes_after going so.0 moment range
+        (took_text fault before new.waits source after reads reads_after last answer.0) so.1 refuses
+
+    -- no head could be read
+    pub no_request : (end : ConnectionEnd) (number : ℕ) (same : M) (sink : SinkView) (writes : ℕ) → Err end ≡ unread_for fault
+        → TurnEnds answers clock end number [] same same (wires (with_waiting before source) sink reads writes) (wires after sink reads_after writes)
+    no_request end number same sink writes is =
+        head_ended end number same answer.0.text (with_waiting before source) after sink reads reads_after writes
+        (took_text fault before new.waits source after reads reads_after last answer.0) (text_unread (Err end) is)

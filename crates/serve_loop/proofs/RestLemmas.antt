@@ -15,14 +15,14 @@ use Rattle.call_types.specs.declared.reply.Reply.TheVariants.{Refused}
 use Rattle.desk_base.specs.Telling.{Telling}
 use Rattle.desk_base.specs.Telling.Telling.{Head}
 use Rattle.s3_reply.specs.Replies.{reply_bytes}
-use Rattle.serve_loop.specs.Deeds.{Wires, wires, IsFront}
+use Rattle.serve_loop.specs.Deeds.{CutSo, Wires, wires, IsFront}
 use Rattle.http_wire.specs.Parts.{HeadParts}
-use Rattle.serve_loop.specs.Asks.{expects_continue, leaves_body}
-use Rattle.serve_loop.specs.Exchanges.{Ask, refused, greeting, call_of, closes, continue_of, head_of, size_of, tale_text, text_of}
-use Rattle.serve_loop.specs.Intakes.{CutsOver, unread_of}
+use Rattle.serve_loop.specs.Exchanges.{expects_continue, leaves_body, Ask, refused, greeting, call_of, closes, continue_of, head_of, size_of, tale_text, text_of}
+use Rattle.serve_loop.specs.Intakes.{CutsOver, PassedPart, unread_of}
 use Rattle.serve_loop.specs.Sending.{Sent, SinkView}
-use Rattle.serve_loop.specs.Telling.{GivesFront, MakesText}
-use Rattle.serve_loop.specs.Turns.{IsShort, RefuseGoes, refusal_rest, rest_of}
+use Rattle.serve_loop.specs.Replies.{GivesFront, MakesText}
+use Rattle.serve_loop.specs.Session.{CountsSo}
+use Rattle.serve_loop.specs.Turns.{IsShort, RefuseGoes, end_for, refusal_rest, rest_of}
 use Rattle.serve_loop.specs.declared.manner.Manner.{Manner}
 use Rattle.serve_loop.proofs.MovedLemmas.{moved_of}
 use Rattle.serve_loop.proofs.SentLemmas.{sent_both}
@@ -92,38 +92,32 @@ greet_cut NoMemory ask now manner tale text source sink sink_after reads writes 
 
 -- ---- the body
 
+-- some of the body was read behind the greeting, and then the request was cut
+passed_short : (why : Cut) (ask : Ask) (now : ℕ) (manner : Manner) (tale : List Telling) (old new : Wired) (source after : SourceView) (sink sink_after : SinkView) (reads reads_after writes writes_after : ℕ)
+    (passed : PassedPart old new source after) → old.body_left ≡ size_of ask → Sent (continue_of ask) sink sink_after → reads ≤ reads_after → writes ≤ writes_after
+    → CutSo why (rest_of ask now manner passed.part tale) [] (continue_of ask) (wires (unread_of old source) sink reads writes) (wires (unread_of new after) sink_after reads_after writes_after)
+    → CountsSo (end_for why) (wires (unread_of old source) sink reads writes) (wires (unread_of new after) sink_after reads_after writes_after)
+    → (body : List ℕ) × IsShort why (rest_of ask now manner body tale) (wires (unread_of old source) sink reads writes) (wires (unread_of new after) sink_after reads_after writes_after)
+passed_short why ask now manner tale old new source after sink sink_after reads reads_after writes writes_after passed size gave read wrote cause counts = (
+  passed.part,
+  record {
+    out = continue_of ask;
+    cut_off = record { part = omega (arith, passed.long, size); silent = λ short. front_same (continue_of ask); cause = cause };
+    moved = moved_of passed.part (continue_of ask) (unread_of old source) (unread_of new after) sink sink_after reads reads_after writes writes_after passed.took gave read wrote;
+    counts = counts;
+  },
+)
+
 -- the source ended or failed in the body, behind the greeting
 pub pass_cut : (why : Cut) (ask : Ask) (now : ℕ) (manner : Manner) (tale : List Telling) (old new : Wired) (source after : SourceView) (sink sink_after : SinkView) (reads reads_after writes writes_after : ℕ)
     → old.body_left ≡ size_of ask → Sent (continue_of ask) sink sink_after → writes_after ≡ writes → CutsOver why old new source after reads reads_after
     → (body : List ℕ) × IsShort why (rest_of ask now manner body tale) (wires (unread_of old source) sink reads writes) (wires (unread_of new after) sink_after reads_after writes_after)
-pass_cut ReadFault ask now manner tale old new source after sink sink_after reads reads_after writes writes_after size gave same cut = (
-  cut.0.part,
-  record {
-    out = continue_of ask;
-    cut_off = record {
-      part = omega (arith, cut.0.long, size);
-      silent = λ short. front_same (continue_of ask);
-      cause = (cut.1, front_all (continue_of ask) (tale_text (head_of ask) (call_of ask) now (closes manner) tale));
-    };
-    moved = moved_of cut.0.part (continue_of ask) (unread_of old source) (unread_of new after) sink sink_after reads reads_after writes writes_after
-        cut.0.took gave cut.1.0 (omega (arith, same));
-    counts = same;
-  },
-)
-pass_cut (BodyCut read stated) ask now manner tale old new source after sink sink_after reads reads_after writes writes_after size gave same cut = (
-  cut.0.part,
-  record {
-    out = continue_of ask;
-    cut_off = record {
-      part = omega (arith, cut.0.long, size);
-      silent = λ short. front_same (continue_of ask);
-      cause = (omega (arith, cut.0.long, size), refl, record { left = cut.1.left; takes = cut.1.takes }, refl);
-    };
-    moved = moved_of cut.0.part (continue_of ask) (unread_of old source) (unread_of new after) sink sink_after reads reads_after writes writes_after
-        cut.0.took gave (omega (arith, cut.2)) (omega (arith, same));
-    counts = (cut.2, same);
-  },
-)
+pass_cut ReadFault ask now manner tale old new source after sink sink_after reads reads_after writes writes_after size gave same cut =
+    passed_short ReadFault ask now manner tale old new source after sink sink_after reads reads_after writes writes_after cut.0 size gave cut.1.0 (omega (arith, same))
+    (cut.1, front_all (continue_of ask) (tale_text (head_of ask) (call_of ask) now (closes manner) tale)) same
+pass_cut (BodyCut read stated) ask now manner tale old new source after sink sink_after reads reads_after writes writes_after size gave same cut =
+    passed_short (BodyCut read stated) ask now manner tale old new source after sink sink_after reads reads_after writes writes_after cut.0 size gave (omega (arith, cut.2)) (omega (arith, same))
+    (omega (arith, cut.0.long, size), refl, record { left = cut.1.left; takes = cut.1.takes }, refl) (cut.2, same)
 pass_cut WriteFault ask now manner tale old new source after sink sink_after reads reads_after writes writes_after size gave same cut = absurd cut
 pass_cut (ShardCut _) ask now manner tale old new source after sink sink_after reads reads_after writes writes_after size gave same cut = absurd cut
 pass_cut NoMemory ask now manner tale old new source after sink sink_after reads reads_after writes writes_after size gave same cut = absurd cut

@@ -7,7 +7,7 @@ use Rattle.call_types.specs.declared.feed.Cut.{Cut}
 use Rattle.call_types.specs.declared.feed.Cut.TheVariants.{ReadFault, BodyCut, WriteFault, ShardCut, NoMemory}
 use Rattle.desk_base.specs.Telling.{Telling, Tells, TellsAll}
 use Rattle.serve_loop.specs.Sending.{Sent, SentFront}
-use Rattle.serve_loop.specs.Telling.{BreaksText, FlushesText, GivesText, TakesText, Told, tale_in, text_in}
+use Rattle.serve_loop.specs.Replies.{BreaksText, FlushesText, GivesText, TakesText, Told, tale_in, text_in}
 use Rattle.serve_loop.proofs.SentLemmas.{sent_both, sent_none}
 
 not_true : {A : Type 0} (b : Bool) → b ≡ false → IsTrue b → A

@@ -13,13 +13,14 @@ use Rattle.call_types.specs.declared.reply.Reply.TheVariants.{Refused}
 use Rattle.desk_base.specs.Answering.{Task}
 use Rattle.desk_base.specs.Telling.{Telling}
 use Rattle.desk_base.specs.Telling.Telling.{Head}
-use Rattle.serve_loop.specs.Deeds.{Wires, wires, IsCutOff, MetEnd, Moved}
+use Rattle.serve_loop.specs.Deeds.{Answered, Wires, wires, IsCutOff, MetEnd, Moved}
 use Rattle.serve_loop.specs.Exchanges.{Ask, refused, Asks, Exchange, IsManner, text_of}
 use Rattle.serve_loop.specs.Intakes.{AreLast, handed, unread_of, with_waiting}
 use Rattle.serve_loop.specs.Sending.{SinkView}
-use Rattle.serve_loop.specs.Session.{Cuts, EndsSo}
+use Rattle.serve_loop.specs.Session.{CountsSo, Cuts, EndsSo, Parts}
 use Rattle.serve_loop.specs.Turns.{Goes, OnAnswered, RefuseGoes, TurnEnds, Turns, end_for, rest_of, turn_for}
-use Rattle.serve_loop.specs.declared.ends.ConnectionEnd.TheVariants.{NoMemory}
+use Rattle.serve_loop.specs.declared.ends.ConnectionEnd.{ConnectionEnd}
+use Rattle.serve_loop.specs.declared.ends.ConnectionEnd.TheVariants.{Closed, NoMemory, Over}
 use Rattle.serve_loop.specs.declared.ends.Turn.{Turn}
 use Rattle.serve_loop.specs.declared.manner.Manner.{Manner}
 use Rattle.serve_loop.specs.declared.manner.Manner.TheVariants.{Stays, ClientCloses, ServerCloses}
@@ -65,6 +66,33 @@ module _ {M R : Type 0} (answers : Task → M → M → List ℕ → List Tellin
   ends_cut (cut.ShardCut whys) number old new taken out before after cuts = cuts
   ends_cut cut.NoMemory number old new taken out before after cuts = inr cuts
 
+  -- the last exchange, behind which the connection closes, with what waits behind it
+  parts_so : (number : ℕ) (front : List ℕ) (old new : M) (x : Exchange) (wire : Wired) → Answered answers clock number old (with_front front x) new
+      → Parts answers clock x.manner number old new (front ++ (x.body ++ wire.waits)) (text_of x)
+  parts_so number front old new x wire answered = record {
+    x = with_front front x;
+    answered = answered;
+    manner_is = refl;
+    ahead = wire.waits;
+    took = sym (append_assoc front x.body wire.waits);
+    gave = refl;
+  }
+
+  -- the connection closes behind it
+  closes_so : (end : ConnectionEnd) (number : ℕ) (front body : List ℕ) (old new : M) (x : Exchange) (before : Wires) (wire : Wired) (source : SourceView) (sink : SinkView) (reads writes : ℕ)
+      → AreLast wire.waits source.takes → Moved body (text_of x) before (wires (unread_of wire source) sink reads writes) → CountsSo end before (wires source sink reads writes)
+      → EndsSo answers clock end number old new (front ++ (body ++ wire.waits)) (text_of x) before (wires source sink reads writes)
+      → TurnEnds answers clock end number front old new before (wires source sink reads writes)
+  closes_so end number front body old new x before wire source sink reads writes last moved counts ends = record {
+    taken = front ++ (body ++ wire.waits);
+    part = body ++ wire.waits;
+    is = refl;
+    out = text_of x;
+    moved = moved_shut body (text_of x) before wire source sink reads writes last moved;
+    counts = counts;
+    ends = ends;
+  }
+
   -- an exchange of which the rest went so
   pub turns_so : (result : Result (Unit {0}) Cut) (ask : Ask) (now : ℕ) (manner : Manner) (number : ℕ) (front : List ℕ) (old new : M) (before : Wires) (wire : Wired) (source : SourceView) (sink : SinkView) (reads writes : ℕ)
       → AreLast wire.waits source.takes → Asks ask front → IfSome clock (λ told. now ≡ told) → now < 253402300800 → IsManner number ask manner
@@ -79,38 +107,14 @@ module _ {M R : Type 0} (answers : Task → M → M → List ℕ → List Tellin
     moved = whole.moved;
     still = whole.still;
   }
-  turns_so (Ok _) ask now ClientCloses number front old new before wire source sink reads writes last asks moment range manner (body, tale, made, whole) = record {
-    taken = front ++ (body ++ wire.waits);
-    part = body ++ wire.waits;
-    is = refl;
-    out = text_of (rest_of ask now ClientCloses body tale);
-    moved = moved_shut body (text_of (rest_of ask now ClientCloses body tale)) before wire source sink reads writes last whole.moved;
-    counts = whole.still;
-    ends = inr (record {
-      x = with_front front (rest_of ask now ClientCloses body tale);
-      answered = record { is = record { asks = asks; moment = moment; range = range; manner = manner }; whole = whole.whole; made = made };
-      manner_is = refl;
-      ahead = wire.waits;
-      took = sym (append_assoc front body wire.waits);
-      gave = refl;
-    });
-  }
-  turns_so (Ok _) ask now ServerCloses number front old new before wire source sink reads writes last asks moment range manner (body, tale, made, whole) = record {
-    taken = front ++ (body ++ wire.waits);
-    part = body ++ wire.waits;
-    is = refl;
-    out = text_of (rest_of ask now ServerCloses body tale);
-    moved = moved_shut body (text_of (rest_of ask now ServerCloses body tale)) before wire source sink reads writes last whole.moved;
-    counts = whole.still;
-    ends = record {
-      x = with_front front (rest_of ask now ServerCloses body tale);
-      answered = record { is = record { asks = asks; moment = moment; range = range; manner = manner }; whole = whole.whole; made = made };
-      manner_is = refl;
-      ahead = wire.waits;
-      took = sym (append_assoc front body wire.waits);
-      gave = refl;
-    };
-  }
+  turns_so (Ok _) ask now ClientCloses number front old new before wire source sink reads writes last asks moment range manner (body, tale, made, whole) =
+      let x = rest_of ask now ClientCloses body tale in
+      closes_so Over number front body old new x before wire source sink reads writes last whole.moved whole.still
+      (inr (parts_so number front old new x wire (record { is = record { asks = asks; moment = moment; range = range; manner = manner }; whole = whole.whole; made = made })))
+  turns_so (Ok _) ask now ServerCloses number front old new before wire source sink reads writes last asks moment range manner (body, tale, made, whole) =
+      let x = rest_of ask now ServerCloses body tale in
+      closes_so Closed number front body old new x before wire source sink reads writes last whole.moved whole.still
+      (parts_so number front old new x wire (record { is = record { asks = asks; moment = moment; range = range; manner = manner }; whole = whole.whole; made = made }))
   turns_so (Err why) ask now manner number front old new before wire source sink reads writes last asks moment range is_manner (body, tale, came, short) =
       let x = rest_of ask now manner body tale in
       record {

@@ -4,14 +4,17 @@ use Rattle.fault_base.specs.Counts.{Rose}
 use Rattle.call_types.specs.declared.feed.Cut.{Cut}
 use Rattle.desk_base.specs.Answering.{Task}
 use Rattle.desk_base.specs.Telling.{Telling}
+use Rattle.desk_base.specs.declared.desk.Desk.{Ghosts as DeskGhosts}
+use Rattle.io_base.specs.declared.clock.Clock.{Ghosts as ClockGhosts}
+use Rattle.io_base.specs.declared.door.Door.{Ghosts as DoorGhosts}
 use Rattle.io_base.specs.declared.sink.Sink.{Ghosts as SinkGhosts}
 use Rattle.io_base.specs.declared.source.Source.{Ghosts as SourceGhosts}
 use Rattle.http_wire.specs.Taking.{SourceView, source_view}
 use Rattle.serve_loop.specs.Deeds.{Wires, wires}
 use Rattle.serve_loop.specs.Sending.{SinkView, sink_view}
 use Rattle.serve_loop.specs.Session.{Session}
-use Rattle.serve_loop.specs.declared.doors.DoorEnd.{DoorEnd}
-use Rattle.serve_loop.specs.declared.doors.DoorEnd.TheVariants.{Over, DoorFailed}
+use Rattle.serve_loop.specs.declared.ends.DoorEnd.{DoorEnd}
+use Rattle.serve_loop.specs.declared.ends.DoorEnd.TheVariants.{Over, DoorFailed}
 use Rattle.serve_loop.specs.declared.ends.ConnectionEnd.{ConnectionEnd}
 use Rattle.serve_loop.specs.declared.ends.ConnectionEnd.TheVariants.{NoMemory}
 
@@ -41,6 +44,10 @@ pub record DoorView (S T : Type 0) : Type 0 where
 -- a door's view, from its parts
 abbrev pub door_view : {O S T : Type 0} → (O → Bool) → (O → Option (List (S × T))) → (O → Option (List (S × T))) → (O → ℕ) → O → DoorView S T
 door_view over gave returned faults door = record { over = over door; gave = gave door; returned = returned door; faults = faults door }
+
+-- that of a door
+abbrev pub door_seen : {O S T : Type 0} → DoorGhosts O S T → O → DoorView S T
+door_seen ghosts door = door_view ghosts.over ghosts.gave ghosts.returned ghosts.faults door
 
 -- one connection of a door: its two ends as the door gave them, how it ended, and both ends as they came back
 pub record Visit (S T : Type 0) : Type 0 where
@@ -144,3 +151,9 @@ module _ {M R S T : Type 0} (answers : Task → M → M → List ℕ → List Te
     pub passed : GaveVisits (visit ∷ []) before after
     pub over : after.over ≡ before.over
     pub counted : after.faults ≡ before.faults
+
+module _ {K C O P X S T : Type 0} (desk : DeskGhosts K P X) (clock : ClockGhosts C) (door : DoorGhosts O S T) (source : SourceGhosts S) (sink : SinkGhosts T) where
+  -- what a work did since it was made with this desk, this clock, the first pass and the first door
+  abbrev pub WorkServed : K → C → (first now : P) → (entrance here : O) → (starved : ℕ) → Type 0
+  WorkServed of by first now entrance here starved =
+      ∥ ServedSince (desk.answers of) (clock.moment by) (sight source sink) desk.holds first now (door_seen door entrance) (door_seen door here) starved ∥₁

@@ -1,11 +1,11 @@
-pub mod Asks
 pub mod Deeds
 pub mod Doors
 pub mod Exchanges
 pub mod Intakes
+pub mod Replies
 pub mod Seen
 pub mod Sending
 pub mod Session
-pub mod Telling
+pub mod Steps
 pub mod Turns
 pub mod Works

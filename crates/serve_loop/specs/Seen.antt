@@ -7,9 +7,9 @@ use Rattle.http_wire.specs.Taking.{SourceView, source_view}
 use Rattle.serve_loop.specs.Deeds.{Wires, wires}
 use Rattle.serve_loop.specs.Intakes.{unread_of}
 use Rattle.serve_loop.specs.Sending.{sink_view}
-use Rattle.serve_loop.specs.Telling.{Told}
+use Rattle.serve_loop.specs.Replies.{Told}
 use Rattle.serve_loop.specs.declared.intake.Intake.{Intake}
-use Rattle.serve_loop.specs.declared.telling.ReplyTeller.{ReplyTeller}
+use Rattle.serve_loop.specs.declared.replies.ReplyTeller.{ReplyTeller}
 
 -- the wire of an intake, without its source
 abbrev pub wire_of : {S : Type 0} {source : SourceGhosts S} → Intake S source → Wired

@@ -3,21 +3,24 @@ use Rattle.std.specs.Prelude.{◌≡◌, ◌⊎◌, ◌+◌, ◌<◌, ◌≤◌,
 use Rattle.fault_base.specs.Counts.{Rose}
 use Rattle.call_types.specs.declared.feed.Cut.{Cut}
 use Rattle.call_types.specs.declared.feed.Cut.TheVariants as cut
-use Rattle.desk_base.specs.Answering.{Task}
 use Rattle.call_types.specs.declared.refusal.Refusal.{Refusal}
+use Rattle.call_types.specs.declared.refusal.Refusal.TheVariants as refusal
 use Rattle.call_types.specs.declared.reply.Reply.TheVariants.{Refused}
+use Rattle.desk_base.specs.Answering.{Task}
 use Rattle.desk_base.specs.Telling.{Telling}
 use Rattle.desk_base.specs.Telling.Telling.{Head}
 use Rattle.desk_base.specs.declared.call.Call.{Call}
 use Rattle.http_wire.specs.Answers.{Wired}
 use Rattle.http_wire.specs.Parts.{HeadParts}
 use Rattle.http_wire.specs.Taking.{HasEnded, SourceView, Taken}
+use Rattle.http_wire.specs.declared.fault.WireFault.{WireFault}
+use Rattle.http_wire.specs.declared.fault.WireFault.TheVariants as fault
 use Rattle.serve_loop.specs.Deeds.{Wires, CountsStay, Moved, Answered, CameTo, IsCutBy, IsCutOff, IsFront, IsMade, IsServed, MetEnd, TellsShort}
 use Rattle.serve_loop.specs.Exchanges.{Ask, asked, Exchange, bytes_of, size_of, tale_text, text_of}
 use Rattle.serve_loop.specs.Intakes.{PassedOver, PassedPart, CutsOver, unread_of}
 use Rattle.serve_loop.specs.Sending.{Sent, SentFront}
 use Rattle.serve_loop.specs.Session.{CountsSo, EndsSo}
-use Rattle.serve_loop.specs.Telling.{Told}
+use Rattle.serve_loop.specs.Replies.{Told}
 use Rattle.serve_loop.specs.declared.ends.ConnectionEnd.{ConnectionEnd}
 use Rattle.serve_loop.specs.declared.ends.ConnectionEnd.TheVariants.{Over, Closed, InputCut, ReadFault, WriteFault, ReplyCut, NoMemory}
 use Rattle.serve_loop.specs.declared.ends.Turn.{Turn}
@@ -32,6 +35,15 @@ end_for (cut.BodyCut read stated) = InputCut
 end_for cut.WriteFault = WriteFault
 end_for (cut.ShardCut whys) = ReplyCut whys
 end_for cut.NoMemory = NoMemory
+
+-- the refusal of bytes that are no head which is served, or else the end of a connection whose next head can't be read
+abbrev pub unread_for : WireFault → Result Refusal ConnectionEnd
+unread_for fault.BadHead = Ok refusal.BadHead
+unread_for fault.HeadTooLong = Ok refusal.HeadTooLong
+unread_for fault.ChunkedBody = Ok refusal.ChunkedBody
+unread_for (fault.BodyCut read stated) = Err InputCut
+unread_for fault.ReadFault = Err ReadFault
+unread_for fault.NoMemory = Err NoMemory
 
 -- what becomes of a connection behind a reply that was given
 abbrev pub turn_after : Manner → Turn

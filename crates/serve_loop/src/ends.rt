@@ -1,4 +1,4 @@
-//! How connections and turns end.
+//! How connections, the requests on them, and the serving of a door end.
 
 ghost use Rattle.std.specs.Prelude.{◌≡◌, ◌+◌};
 ghost use Rattle.serve_loop.specs.Doors.{capped, want_in};
@@ -20,10 +20,19 @@ pub enum ConnectionEnd {
     ReadFault,
     /// The sink failed, and counted it.
     WriteFault,
-    /// A reply's body was cut after its head, since too few drives had a shard of it: why, for each drive.
+    /// Too few drives had a shard of a reply's body, so it was cut after its head: why, for each drive.
     ReplyCut(Whys),
     /// There was not enough memory.
     NoMemory,
+}
+
+/// How the serving of a door ended.
+#[derive(Clone, Copy)]
+pub enum DoorEnd {
+    /// No connection will come any more.
+    Over,
+    /// The door failed: its count of faults before the serving and after it.
+    DoorFailed { before: u64, after: u64 },
 }
 
 /// What one request led to.
@@ -48,7 +57,7 @@ pub(crate) fn end_of(cut: Cut) -> ConnectionEnd
     }
 }
 
-/// A count of connections that ended for want of memory, behind one more connection. It stays at its greatest value.
+/// A count of connections that ended for want of memory, after one more connection. It stays at its greatest value.
 pub(crate) fn count_want(starved: u64, end: &ConnectionEnd) -> u64
     ensures { result ≡ capped (starved + want_in end.now) }
 {

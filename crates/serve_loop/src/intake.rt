@@ -69,7 +69,7 @@ impl<S: Source + Drop> Intake<S> {
         Ok(())
     }
 
-    /// The source, behind all that was taken from it.
+    /// The source, after all that was taken from it.
     pub(crate) fn into_source(self) -> S
         ensures { result ≡ self.wire.source }
     {

@@ -1,8 +1,7 @@
 //! A worker that serves a door.
 
 ghost use Rattle.std.specs.Prelude.{◌≡◌, ◌≤◌};
-ghost use Rattle.serve_loop.specs.Doors.{DoorServed, IsServedOut, ServedSince, WorkBegan, door_view, sight, work_began};
-ghost use Rattle.serve_loop.specs.declared.doors.DoorEnd.{DoorEnd};
+ghost use Rattle.serve_loop.specs.Doors.{WorkBegan, WorkServed, work_began};
 
 use crate::connection::serve_connection;
 use crate::ends::count_want;
@@ -13,8 +12,8 @@ use std::io::Eprint;
 use std::snapshot::Snapshot;
 use std::sync::Wait;
 
-/// The work of serving a door: a desk, which other workers may share, with a pass and a door of its own. It knows what it began with, so that what it did since
-/// is said of it.
+/// The work of serving a door: a desk, which other workers may share, with a pass and a door of its own.
+/// It knows what it began with, so that its contract can say what it did since.
 pub struct ServeWork<'a, R: Drop, K: Desk<Pass: Drop>, O: Door + Drop, C: Clock> {
     rt: R,
     alloc: Global,
@@ -31,8 +30,7 @@ pub struct ServeWork<'a, R: Drop, K: Desk<Pass: Drop>, O: Door + Drop, C: Clock>
     starved: u64,
     ghost begun: { before ≡ O.faults entrance.value },
     ghost counted: { before ≤ O.faults door },
-    ghost served: { ∥ ServedSince (K.answers desk.now) (C.moment clock.now) (sight O.In.Source O.Out.Sink) K.holds first.value pass
-        (door_view O.over O.gave O.returned O.faults entrance.value) (door_view O.over O.gave O.returned O.faults door) starved ∥₁ },
+    ghost served: { WorkServed K.Desk C.Clock O.Door O.In.Source O.Out.Sink desk.now clock.now first.value pass entrance.value door starved },
     ghost fits: { K.fits desk.now (K.holds pass) } by { K.fits_is_fact desk.now (K.holds pass) },
 }
 
@@ -41,7 +39,7 @@ impl<'a, R: Drop, K: Desk<Pass: Drop>, O: Door + Drop, C: Clock> ServeWork<'a, R
     ghost use Rattle.fault_base.specs.Counts.{Rose};
     ghost use Rattle.serve_loop.specs.Works.{began_of, desk_of, door_of, entrance_of, pass_of, starved_of};
 
-    /// A work that was not begun. It takes no memory.
+    /// A work that was not begun. It doesn't allocate.
     pub fn new(
         rt: R,
         alloc: Global,
@@ -118,26 +116,20 @@ impl<
     O: Door + Send + Drop,
     C: Clock + Sync,
 > Work for ServeWork<'_, R, K, O, C> {
+    ghost use Rattle.serve_loop.specs.Works.{IsWorked, ServesDoor, began_of};
+
     ghost Kept = { WorkBegan K C K.Pass O };
 
-    ghost kept = { λ w. work_began w.desk.now w.clock.now w.first.value w.entrance.value };
+    ghost kept = { λ w. began_of w };
 
-    ghost over = { λ w. IsServedOut (O.over w.door) (O.faults w.entrance.value) (O.faults w.door)
-        × ∥ ServedSince (K.answers w.desk.now) (C.moment w.clock.now) (sight O.In.Source O.Out.Sink) K.holds w.first.value w.pass
-        (door_view O.over O.gave O.returned O.faults w.entrance.value) (door_view O.over O.gave O.returned O.faults w.door) w.starved ∥₁ };
+    ghost over = { λ w. IsWorked w };
 
-    /// Serves the connections of the door one after another, and hands each of them back, however it ended, until no more will come or the door fails. It may wait
-    /// for connections without an end.
+    /// Serves the connections of the door one after another, until no more will come or the door fails.
+    /// It hands each of them back, however it ended. It may wait for connections without an end.
     fn work(&mut self)
-        ensures over { IsServedOut (O.over self.new.door) (O.faults self.new.entrance.value) (O.faults self.new.door)
-            × ∥ ServedSince (K.answers self.new.desk.now) (C.moment self.new.clock.now) (sight O.In.Source O.Out.Sink)
-            K.holds self.new.first.value self.new.pass
-            (door_view O.over O.gave O.returned O.faults self.new.entrance.value) (door_view O.over O.gave O.returned O.faults self.new.door) self.new.starved ∥₁ }
-        ensures kept { work_began self.new.desk.now self.new.clock.now self.new.first.value self.new.entrance.value
-            ≡ work_began self.old.desk.now self.old.clock.now self.old.first.value self.old.entrance.value }
-        ensures served { (end : DoorEnd) × DoorServed (K.answers self.old.desk.now) (C.moment self.old.clock.now)
-            (sight O.In.Source O.Out.Sink) end self.old.pass self.new.pass
-            (door_view O.over O.gave O.returned O.faults self.old.door) (door_view O.over O.gave O.returned O.faults self.new.door) }
+        ensures over { IsWorked self.new }
+        ensures kept { began_of self.new ≡ began_of self.old }
+        ensures served { ServesDoor self.old self.new }
     {
         let (alloc, desk, clock) = (self.alloc, self.desk, self.clock);
         let pass = &mut self.pass;

@@ -9,21 +9,21 @@ loop-number-init g c = record {
   rests = c.requires.rests;
   few = omega arith;
   holds = refl;
-  so_far = so_far_none (g.K.Desk.answers c.args.desk.now) (g.C.Clock.moment c.args.clock.now) c.args.pass.now (unread c.args.intake.now) (sink_view g.T.Sink c.args.sink.now) _ _;
+  so_far = so_far_none (g.K.Desk.answers c.args.server.now.desk.now) (g.C.Clock.moment c.args.server.now.clock.now) c.args.pass.now (unread c.args.intake.now) (sink_view g.T.Sink c.args.sink.now) _ _;
 }
 
 pub returns-in-Ended-clause-session : goal.returns-in-Ended-clause-session
 returns-in-Ended-clause-session g c =
-    session_ended (g.K.Desk.answers c.args.desk.now) (g.C.Clock.moment c.args.clock.now) c.in-Ended.end c.loop-number.number c.args.pass.now c.loop-number.pass c.serve_one.new.pass _ _ _
+    session_ended (g.K.Desk.answers c.args.server.now.desk.now) (g.C.Clock.moment c.args.server.now.clock.now) c.in-Ended.end c.loop-number.number c.args.pass.now c.loop-number.pass c.serve_one.new.pass _ _ _
     c.loop-number.invariant.so_far (c.in-Ended.ensures.turn c.loop-number.number c.is_last.ensures)
 
 pub loop-number-preserved : goal.loop-number-preserved
 loop-number-preserved g c = record {
   rests = c.in-Answered.ensures.rests;
-  few = few_more (g.K.Desk.answers c.args.desk.now) (g.C.Clock.moment c.args.clock.now) c.loop-number.number c.loop-number.pass c.serve_one.new.pass _ _ c.loop-number.invariant.few
+  few = few_more (g.K.Desk.answers c.args.server.now.desk.now) (g.C.Clock.moment c.args.server.now.clock.now) c.loop-number.number c.loop-number.pass c.serve_one.new.pass _ _ c.loop-number.invariant.few
       (c.in-Answered.ensures.turn c.loop-number.number c.is_last.ensures);
   holds = c.serve_one.ensures.holds ∙ c.loop-number.invariant.holds;
-  so_far = so_far_more (g.K.Desk.answers c.args.desk.now) (g.C.Clock.moment c.args.clock.now) c.loop-number.number c.args.pass.now c.loop-number.pass c.serve_one.new.pass _ _ _
+  so_far = so_far_more (g.K.Desk.answers c.args.server.now.desk.now) (g.C.Clock.moment c.args.server.now.clock.now) c.loop-number.number c.args.pass.now c.loop-number.pass c.serve_one.new.pass _ _ _
       c.loop-number.invariant.so_far (c.in-Answered.ensures.turn c.loop-number.number c.is_last.ensures);
 }
 

@@ -10,7 +10,7 @@ invariant-loop-number g l = record {
   rests : IsAtRest (wire_of l.intake);
   few : l.number ≤ 999999;
   holds : g.K.Desk.holds l.pass ≡ g.K.Desk.holds l.fn.pass;
-  so_far : SoFar (g.K.Desk.answers l.fn.desk) (g.C.Clock.moment l.fn.clock) l.number l.fn.pass l.pass
+  so_far : SoFar (g.K.Desk.answers l.fn.server.desk.now) (g.C.Clock.moment l.fn.server.clock.now) l.number l.fn.pass l.pass
       (open_wires g.S.Source g.T.Sink l.fn.intake l.fn.sink)
       (open_wires g.S.Source g.T.Sink l.intake l.sink);
 }

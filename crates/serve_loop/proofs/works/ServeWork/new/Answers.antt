@@ -1,5 +1,5 @@
 use Rattle.std.proofs.Common.{sym, subst}
-use Rattle.serve_loop.specs.Doors.{ServedSince, door_view, sight}
+use Rattle.serve_loop.specs.Doors.{ServedSince, door_seen, sight}
 use Rattle.serve_loop.proofs.DoorLemmas.{since_none}
 use Rattle.serve_loop.proofs.works.ServeWork.new.Goals as goal
 
@@ -8,7 +8,7 @@ invariant_of-result-clause-served g c =
     let answers = g.K.Desk.answers c.args.desk.now in
     let moment = g.C.Clock.moment c.args.clock.now in
     let seen = sight g.O.In.Source g.O.Out.Sink in
-    let view = door_view g.O.Door.over g.O.Door.gave g.O.Door.returned g.O.Door.faults in
+    let view = door_seen g.O.Door in
     ∣ subst (λ pass. ServedSince answers moment seen g.K.Desk.holds pass c.args.pass (view c.of-entrance.result.value) (view c.args.door) 0) (sym c.of-first.ensures)
     (subst (λ door. ServedSince answers moment seen g.K.Desk.holds c.args.pass c.args.pass (view door) (view c.args.door) 0) (sym c.of-entrance.ensures)
     (since_none answers moment seen g.K.Desk.holds c.args.pass (view c.args.door))) ∣₁

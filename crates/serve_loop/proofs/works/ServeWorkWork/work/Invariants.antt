@@ -1,5 +1,5 @@
 use Rattle.std.proofs.Common.{◌≡◌}
-use Rattle.serve_loop.specs.Doors.{door_view, sight}
+use Rattle.serve_loop.specs.Doors.{door_seen, sight}
 use Rattle.serve_loop.proofs.DoorLemmas.{DoorSoFar}
 use Rattle.serve_loop.proofs.works.ServeWorkWork.work.Given as goal
 
@@ -8,6 +8,6 @@ abbrev pub invariant-rounds : goal.invariant-rounds
 invariant-rounds g l = record {
   holds : g.K.Desk.holds l.pass ≡ g.K.Desk.holds l.fn.self.pass;
   so_far : DoorSoFar (g.K.Desk.answers l.fn.self.desk.now) (g.C.Clock.moment l.fn.self.clock.now) (sight g.O.In.Source g.O.Out.Sink) l.fn.self.pass l.pass
-      (door_view g.O.Door.over g.O.Door.gave g.O.Door.returned g.O.Door.faults l.fn.self.door)
-      (door_view g.O.Door.over g.O.Door.gave g.O.Door.returned g.O.Door.faults l.door) l.fn.self.starved l.starved;
+      (door_seen g.O.Door l.fn.self.door)
+      (door_seen g.O.Door l.door) l.fn.self.starved l.starved;
 }

@@ -1,6 +1,6 @@
 use Rattle.std.proofs.Common.{◌<◌, ℕ}
-use Rattle.serve_loop.specs.Asks.{ClosesAt}
-use Rattle.serve_loop.proofs.asks.lists_close.Given as goal
+use Rattle.serve_loop.specs.Exchanges.{ClosesAt}
+use Rattle.serve_loop.proofs.manner.lists_close.Given as goal
 
 -- the token stands at none of the places so far
 abbrev pub invariant-loop-i : goal.invariant-loop-i

@@ -1,6 +1,6 @@
 use Rattle.std.proofs.Common.{◌≡◌, drop}
-use Rattle.serve_loop.specs.Asks.{ends_token}
-use Rattle.serve_loop.proofs.asks.ends_token.Given as goal
+use Rattle.serve_loop.specs.Exchanges.{ends_token}
+use Rattle.serve_loop.proofs.manner.ends_token.Given as goal
 
 -- what the rest says is what the whole says
 abbrev pub invariant-loop-byte : goal.invariant-loop-byte

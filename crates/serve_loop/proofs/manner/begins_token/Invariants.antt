@@ -1,6 +1,6 @@
 use Rattle.std.proofs.Common.{◌≡◌, true, drop}
-use Rattle.serve_loop.specs.Asks.{is_fresh_after}
-use Rattle.serve_loop.proofs.asks.begins_token.Given as goal
+use Rattle.serve_loop.specs.Exchanges.{is_fresh_after}
+use Rattle.serve_loop.proofs.manner.begins_token.Given as goal
 
 -- what the rest leads to is what the whole leads to
 abbrev pub invariant-loop-byte : goal.invariant-loop-byte

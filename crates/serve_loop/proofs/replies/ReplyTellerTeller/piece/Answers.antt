@@ -1,7 +1,7 @@
 use Rattle.std.proofs.Common.{refl}
 use Rattle.serve_loop.specs.Seen.{told_of}
 use Rattle.serve_loop.proofs.TellingLemmas.{tells_given}
-use Rattle.serve_loop.proofs.telling.ReplyTellerTeller.piece.Goals as goal
+use Rattle.serve_loop.proofs.replies.ReplyTellerTeller.piece.Goals as goal
 
 -- src/telling.rt:89:5
 pub returns-clause-tells : goal.returns-clause-tells

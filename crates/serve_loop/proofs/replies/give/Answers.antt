@@ -1,7 +1,7 @@
 use Rattle.std.specs.Prelude.{Ok, Err}
 use Rattle.serve_loop.specs.Sending.{sink_view}
 use Rattle.serve_loop.proofs.SentLemmas.{one_give}
-use Rattle.serve_loop.proofs.giving.give.Goals as goal
+use Rattle.serve_loop.proofs.replies.give.Goals as goal
 
 -- src/giving.rt:22:1
 pub returns-in-Ok : goal.returns-in-Ok

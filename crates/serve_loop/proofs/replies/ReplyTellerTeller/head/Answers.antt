@@ -1,7 +1,7 @@
 use Rattle.std.proofs.Common.{refl, ap, ◌∙◌, ◌++◌}
 use Rattle.serve_loop.specs.Seen.{told_of}
 use Rattle.serve_loop.proofs.TellingLemmas.{takes_held, tells_flushed}
-use Rattle.serve_loop.proofs.telling.ReplyTellerTeller.head.Goals as goal
+use Rattle.serve_loop.proofs.replies.ReplyTellerTeller.head.Goals as goal
 
 -- src/telling.rt:84:13
 pub returns-then-self-clause-tells : goal.returns-then-self-clause-tells
