@@ -2,7 +2,6 @@
 use Rattle.std.proofs.Common.{◌≡◌, ◌∙◌, ℕ, [], ◌∷◌, ◌++◌, Option, Some, None, Result, Ok, Err, MatchOption, append-nil, length, inl, inr, refl, sym, ap, subst}
 use Rattle.call_types.specs.Refusals.{refusal_of}
 use Rattle.call_types.specs.declared.act.Act.{Act}
-use Rattle.call_types.specs.declared.act.Act.TheVariants as acts
 use Rattle.call_types.specs.declared.feed.Cut.{Cut}
 use Rattle.call_types.specs.declared.feed.Cut.TheVariants.{NoMemory}
 use Rattle.call_types.specs.declared.names.Key.{Key}
@@ -24,7 +23,7 @@ use Rattle.slot_core.specs.Views.{SlotNumbers}
 use Rattle.slot_core.specs.declared.slot.SlotFault.{SlotFault}
 use Rattle.slot_core.specs.declared.slot.SlotFault.TheVariants.{Key as KeyFault}
 use Rattle.slot_core.specs.declared.stub.Stub.{Stub}
-use Rattle.receipts.specs.Deleting.{DeedOwes}
+use Rattle.receipts.specs.Deeds.{DeedOwes}
 use Rattle.receipts.specs.Events.{IsQuiet, Log, Note, Shown, body_of}
 use Rattle.receipts.specs.Events.Event.{BarredFrom, Told as ToldEvent, Turned}
 use Rattle.receipts.specs.Events.Shown.{NoneShown}
@@ -44,10 +43,12 @@ use Rattle.op_steps.specs.declared.looking.Looked.{Looked}
 use Rattle.op_steps.specs.declared.looking.Looked.TheVariants.{LacksMemory, Refused as RefusedLook, There}
 use Rattle.op_steps.proofs.TellLemmas.{cuts_after, told_pays}
 use Rattle.object_ops.specs.Deeds.{AfterCommit, AfterLook, HasDone, barred_state, call_of, deed_task, key_deed}
-use Rattle.object_ops.specs.KeyDeeds.{IsServed}
+use Rattle.object_ops.specs.KeyDeeds.{act_of}
 use Rattle.object_ops.specs.Reading.{HasFound, IsFresh}
 use Rattle.object_ops.specs.declared.deed_op.DeedState.{DeedState}
 use Rattle.object_ops.specs.declared.deed_op.DeedState.TheVariants.{Committing, Looking, Telling, Told}
+use Rattle.object_ops.specs.declared.key_act.KeyAct.{KeyAct}
+use Rattle.object_ops.specs.declared.key_act.KeyAct.TheVariants as asks
 use Rattle.object_ops.proofs.DueLemmas.{DoneSo}
 use Rattle.object_ops.proofs.KeyCommitLemmas.{RefusedSo, changes_so, ends_so, looked_of, refused_commit}
 use Rattle.object_ops.proofs.ReadingBars.{bar_fresh, key_bars}
@@ -58,27 +59,27 @@ use Rattle.object_ops.proofs.TellingLemmas.{untold_after}
 -- ---- the call of a deed, by its act
 
 -- the reply that its deed owes is the one that it owes
-owes_of : (set : SetPlan) (at : Key) (act : Act) (now : ℕ) (reply : Reply) (log : Log) → IsServed act → body_of log ≡ [] → DeedOwes at act now reply log
-    → OwesReply set (deed_task at act now) reply log
-owes_of set at (acts.Put data_id print size md5 kind) now reply log served untaken owes = absurd cc
-owes_of set at (acts.Delete pick) now reply log served untaken owes = (ap length untaken, owes)
-owes_of set at (acts.Create kind) now reply log served untaken owes = absurd cc
-owes_of set at (acts.Complete upload parts data_id print size md5) now reply log served untaken owes = absurd cc
-owes_of set at (acts.Abort upload) now reply log served untaken owes = absurd cc
+owes_of : (set : SetPlan) (at : Key) (ask : KeyAct) (now : ℕ) (reply : Reply) (log : Log) → body_of log ≡ [] → DeedOwes at (act_of ask) now reply log
+    → OwesReply set (deed_task at ask now) reply log
+owes_of set at (asks.Delete pick) now reply log untaken owes = (ap length untaken, owes)
+owes_of set at (asks.Create kind) now reply log untaken owes = inr (ap length untaken, owes)
+owes_of set at (asks.Abort upload) now reply log untaken owes = inr (ap length untaken, owes)
 
 -- no bytes are told behind its reply
-gives_none : (set : SetPlan) (at : Key) (act : Act) (reply : Reply) (log : Log)
-    → GivesBytes set (call_of at act) reply [] log × (0 ≡ bytes_after reply (call_of at act))
-gives_none set at (acts.Put data_id print size md5 kind) (Found version span id) log = (refl, refl)
-gives_none set at (acts.Delete pick) (Found version span id) log = (refl, refl)
-gives_none set at (acts.Create kind) (Found version span id) log = (refl, refl)
-gives_none set at (acts.Complete upload parts data_id print size md5) (Found version span id) log = (refl, refl)
-gives_none set at (acts.Abort upload) (Found version span id) log = (refl, refl)
-gives_none set at act other log = (refl, refl)
+gives_none : (set : SetPlan) (at : Key) (ask : KeyAct) (reply : Reply) (log : Log)
+    → GivesBytes set (call_of at ask) reply [] log × (0 ≡ bytes_after reply (call_of at ask))
+gives_none set at (asks.Delete pick) (Found version span id) log = (refl, refl)
+gives_none set at (asks.Create kind) (Found version span id) log = (refl, refl)
+gives_none set at (asks.Abort upload) (Found version span id) log = (refl, refl)
+gives_none set at ask other log = (refl, refl)
 
-module _ (set : SetPlan) (at : Key) (act : Act) (now : ℕ) (served : IsServed act) where
+module _ (set : SetPlan) (at : Key) (ask : KeyAct) (now : ℕ) where
   abbrev task : Task
-  task = deed_task at act now
+  task = deed_task at ask now
+
+  -- what is done
+  abbrev act : Act
+  act = act_of ask
 
   -- ---- the bucket's look
 
@@ -103,7 +104,7 @@ module _ (set : SetPlan) (at : Key) (act : Act) (now : ℕ) (served : IsServed a
           record {
             untold = refused.0.untold;
             uncut = refused.0.uncut;
-            owed = subst (λ (r : Reply). OwesReply set task r log) (sym told) (owes_of set at act now (Refused why) log served refl (inl refused.1));
+            owed = subst (λ (r : Reply). OwesReply set task r log) (sym told) (owes_of set at ask now (Refused why) log refl (inl refused.1));
           }
       by (Told cut) (cut_is, inl is) = lacks cut cut_is (has LacksMemory is)
       by (Told cut) (cut_is, inr (mode, is)) = lacks cut cut_is (has (There mode) is).fresh
@@ -113,7 +114,7 @@ module _ (set : SetPlan) (at : Key) (act : Act) (now : ℕ) (served : IsServed a
   look_barred barred.Spent = record {
     untold = (bar_fresh (bucket_slot at.bucket) barred.Spent).untold;
     uncut = refl;
-    owed = owes_of set at act now (Refused SeqSpent) (BarredFrom (bucket_slot at.bucket) barred.Spent ∷ []) served refl (inl (bars at.bucket));
+    owed = owes_of set at ask now (Refused SeqSpent) (BarredFrom (bucket_slot at.bucket) barred.Spent ∷ []) refl (inl (bars at.bucket));
   }
   look_barred barred.NoMemory = fresh_pays set task (BarredFrom (bucket_slot at.bucket) barred.NoMemory ∷ []) (bar_fresh (bucket_slot at.bucket) barred.NoMemory)
 
@@ -125,7 +126,7 @@ module _ (set : SetPlan) (at : Key) (act : Act) (now : ℕ) (served : IsServed a
   ready_so mode reply log k note found owes = record {
     untold = untold_after log (Turned k note NoneShown) found.fresh.untold tt;
     uncut = cuts_after log (Turned k note NoneShown) found.fresh.uncut;
-    owed = owes_of set at act now reply (log ++ Turned k note NoneShown ∷ []) served
+    owed = owes_of set at ask now reply (log ++ Turned k note NoneShown ∷ [])
         (bodies_join log (Turned k note NoneShown ∷ []) ∙ (append-nil (body_of log) ∙ found.fresh.untaken)) owes;
   }
 
@@ -186,7 +187,7 @@ module _ (set : SetPlan) (at : Key) (act : Act) (now : ℕ) (served : IsServed a
       record {
         untold = bar.0.untold;
         uncut = bar.0.uncut;
-        owed = owes_of set at act now (Refused SeqSpent) (log ++ BarredFrom (key_slot at) barred.Spent ∷ []) served bar.0.untaken (inr (inr (bar.1 refl refl)));
+        owed = owes_of set at ask now (Refused SeqSpent) (log ++ BarredFrom (key_slot at) barred.Spent ∷ []) bar.0.untaken (inr (inr (bar.1 refl refl)));
       }
   commit_barred mode log barred.NoMemory found =
       fresh_pays set task (log ++ BarredFrom (key_slot at) barred.NoMemory ∷ []) (key_bars at mode log (key_slot at) barred.NoMemory found).0
@@ -197,4 +198,4 @@ module _ (set : SetPlan) (at : Key) (act : Act) (now : ℕ) (served : IsServed a
       → HasDone set at act task (Telling reply) log → TellMoves takes breaks (TheHead reply) cut old new
       → HasDone set at act task (Told cut) (log ++ ToldEvent (TheHead reply) cut ∷ [])
   tell_done takes breaks reply log cut old new ready moves =
-      told_pays takes breaks set task reply log cut old new (gives_none set at act reply []).1 (λ more. (gives_none set at act reply more).0) ready moves
+      told_pays takes breaks set task reply log cut old new (gives_none set at ask reply []).1 (λ more. (gives_none set at ask reply more).0) ready moves

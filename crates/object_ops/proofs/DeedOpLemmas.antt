@@ -37,13 +37,14 @@ use Rattle.op_steps.specs.declared.looking.Look.{Look}
 use Rattle.op_steps.proofs.CommitLemmas.{commit_is_turn}
 use Rattle.object_ops.specs.Clearing.{RemovesOne, TakesTrash, files_left, next_of, with_taken, AreDue, files_of, ids_of}
 use Rattle.object_ops.specs.Deeds.{AfterCommit, AfterLook, DeedStands, HasDone, IsNewDeed, StandsAt, barred_state, deed_task, key_deed, step_at}
-use Rattle.object_ops.specs.KeyDeeds.{IsServed}
+use Rattle.object_ops.specs.KeyDeeds.{act_of}
 use Rattle.object_ops.specs.declared.clearing.Clearing.{Clearing}
 use Rattle.object_ops.specs.declared.deed_op.DeedOp.{DeedOp}
 use Rattle.object_ops.specs.declared.deed_op.DeedState.{DeedState}
 use Rattle.object_ops.specs.declared.deed_op.DeedState.TheVariants.{Committing, Looking, Telling, Told}
 use Rattle.object_ops.specs.declared.deed_op.KeyDeed.{KeyDeed}
 use Rattle.object_ops.specs.declared.data_files.Removal.{Removal}
+use Rattle.object_ops.specs.declared.key_act.KeyAct.{KeyAct}
 use Rattle.object_ops.proofs.DeedLemmas.{CommitDue, commit_barred, commit_done, look_barred, look_done, tell_done}
 use Rattle.object_ops.proofs.DueLemmas.{done_so, refused_so}
 use Rattle.object_ops.proofs.LeftLemmas.{is_data}
@@ -51,13 +52,17 @@ use Rattle.object_ops.proofs.ReadingBars.{slot_in}
 use Rattle.object_ops.proofs.RemovalLemmas.{removal_is_call}
 use Rattle.object_ops.proofs.TellingLemmas.{pays_on}
 
-module _ (set : SetPlan) (at : Key) (act : Act) (now : ℕ) (served : IsServed act) where
+module _ (set : SetPlan) (at : Key) (ask : KeyAct) (now : ℕ) where
   abbrev task : Task
-  task = deed_task at act now
+  task = deed_task at ask now
+
+  -- what is done
+  abbrev act : Act
+  act = act_of ask
 
   -- an op in this state
   abbrev Stands : Clearing → DeedState → Claim → Log → Type 0
-  Stands clearing state claim log = StandsAt set at act now clearing state claim log
+  Stands clearing state claim log = StandsAt set at ask now clearing state claim log
 
   done_at : (state is : DeedState) (log : Log) → state ≡ is → HasDone set at act task state log → HasDone set at act task is log
   done_at state is log same x = subst (λ (s : DeedState). HasDone set at act task s log) same x
@@ -74,7 +79,7 @@ module _ (set : SetPlan) (at : Key) (act : Act) (now : ℕ) (served : IsServed a
         record {
           holds = x.holds;
           done = subst (λ (l : Log). HasDone set at act task later (l ++ Turned was.numbers.index (noted look.stub) looks.shown ∷ [])) (sym nothing)
-              (look_done set at act now served was.numbers.index look.stub looks.shown look.looked later next (looks.says at.bucket named index));
+              (look_done set at ask now was.numbers.index look.stub looks.shown look.looked later next (looks.says at.bucket named index));
         },
         looks.turns claim,
       )
@@ -82,7 +87,7 @@ module _ (set : SetPlan) (at : Key) (act : Act) (now : ℕ) (served : IsServed a
   -- the commit
   due_so : {D : Type 0} (ghosts : Ghosts D) (mode : Mode) (was after : SlotSeen D) (answer : Result Committed SlotFault) (stub : Option Stub) (old new disks disks_after : List D)
       → CommitCause ghosts was.numbers after.numbers (key_deed at act mode) None now answer (deed_in (entry_of stub)) old new disks disks_after
-      → CommitDue set at act now served mode was.numbers answer stub
+      → CommitDue set at ask now mode was.numbers answer stub
   due_so ghosts mode was after (Ok made) stub old new disks disks_after cause =
       done_so ghosts was.numbers after.numbers at mode act None now made (deed_in (entry_of stub)) old new disks disks_after cause
   due_so ghosts mode was after (Err fault) stub old new disks disks_after cause = λ why is.
@@ -102,7 +107,7 @@ module _ (set : SetPlan) (at : Key) (act : Act) (now : ℕ) (served : IsServed a
         NoneShown,
         record {
           holds = x.holds ∙ ap (λ (q : List Removal). with_taken (no_claim (key_slot at)) (ids_of (files_of q))) (sym same);
-          done = commit_done set at act now served done.0 was.numbers answer stub later log index done.2 mine.turns.stub_is mine.says due told;
+          done = commit_done set at ask now done.0 was.numbers answer stub later log index done.2 mine.turns.stub_is mine.says due told;
         },
         commit_is_turn ghosts was after deed.commit now answer stub old new claim says,
       )
@@ -154,12 +159,12 @@ module _ (set : SetPlan) (at : Key) (act : Act) (now : ℕ) (served : IsServed a
   barred_so clearing Looking why untold claim log k step x = record {
     holds = x.holds;
     done = subst (λ (l : Log). HasDone set at act task (barred_state why) (l ++ BarredFrom k why ∷ [])) (sym x.done)
-        (subst (λ i. HasDone set at act task (barred_state why) (BarredFrom i why ∷ [])) (ap slot_in step) (look_barred set at act now served why));
+        (subst (λ i. HasDone set at act task (barred_state why) (BarredFrom i why ∷ [])) (ap slot_in step) (look_barred set at ask now why));
   }
   barred_so clearing (Committing deed) why untold claim log k step x = record {
     holds = x.holds;
     done = subst (λ i. HasDone set at act task (barred_state why) (log ++ BarredFrom i why ∷ [])) (ap slot_in step)
-        (commit_barred set at act now served x.done.0 log why x.done.2);
+        (commit_barred set at ask now x.done.0 log why x.done.2);
   }
   barred_so clearing (Telling reply) why untold claim log k step x = absurd (subst IsSection (sym step) tt)
   barred_so clearing (Told cut) why untold claim log k step x = absurd (untold cut refl)
@@ -180,7 +185,7 @@ module _ (set : SetPlan) (at : Key) (act : Act) (now : ℕ) (served : IsServed a
     cut,
     record {
       holds = x.holds;
-      done = tell_done set at act now served takes breaks reply log cut old new (done_at state (Telling reply) log is x.done) moves;
+      done = tell_done set at ask now takes breaks reply log cut old new (done_at state (Telling reply) log is x.done) moves;
     },
     moves,
   )
@@ -211,14 +216,14 @@ pub told_trash : (at : Key) (clearing : Clearing) (state : DeedState) (cut : Opt
 told_trash at clearing state cut k is step = at_trash (key_slot at) k clearing (subst (λ s. step_at at clearing s ≡ next.Section k) is step)
 
 -- an op that has done nothing yet stands for the empty log
-pub begins : (set : SetPlan) (at : Key) (act : Act) (now : ℕ) (result : Result DeedOp NoMemory) → IfOk result (IsNewDeed set at act now)
+pub begins : (set : SetPlan) (at : Key) (ask : KeyAct) (now : ℕ) (result : Result DeedOp NoMemory) → IfOk result (IsNewDeed set at ask now)
     → IfOk result (λ op. (slot : ℕ) × (slot < 64) × DeedStands op (no_claim slot) [])
-begins set at act now (Ok op) is = (
+begins set at ask now (Ok op) is = (
   key_slot op.at,
   key_slot_below op.at,
   record {
     holds = ap (λ (q : List Removal). with_taken (no_claim (key_slot op.at)) (ids_of (files_of q))) (sym is.none.queue);
-    done = subst (λ (s : DeedState). HasDone op.set op.at op.act (deed_task op.at op.act op.now) s []) (sym is.state_is) refl;
+    done = subst (λ (s : DeedState). HasDone op.set op.at (act_of op.ask) (deed_task op.at op.ask op.now) s []) (sym is.state_is) refl;
   },
 )
-begins set at act now (Err fault) is = tt
+begins set at ask now (Err fault) is = tt

@@ -7,8 +7,16 @@ use Rattle.slot_rules.specs.Deeds.{IsLawfulDeed, IsNamedDeed}
 use Rattle.slot_rules.specs.declared.commit.Commit.TheVariants.{Key, MakeBucket, SetMode}
 use Rattle.slot_rules.specs.declared.commit.Commit.{Commit}
 use Rattle.slot_core.specs.Commits.{FitsFlight}
-use Rattle.object_ops.specs.KeyDeeds.{bucket_in, deed_needs_none, key_in, kind_in}
+use Rattle.object_ops.specs.KeyDeeds.{act_of, bucket_in, deed_needs_none, key_in, kind_in, needs_no_body}
 use Rattle.object_ops.specs.declared.deed_op.KeyDeed.{KeyDeed}
+use Rattle.object_ops.specs.declared.key_act.KeyAct.{KeyAct}
+use Rattle.object_ops.specs.declared.key_act.KeyAct.TheVariants as asks
+
+-- no act that is asked brings data
+pub brings_none : (ask : KeyAct) → needs_no_body (act_of ask) ≡ true
+brings_none (asks.Delete pick) = refl
+brings_none (asks.Create kind) = refl
+brings_none (asks.Abort upload) = refl
 
 pub by_act : (deed : Commit) → deed_needs_none deed ≡ true → IsKind (kind_in deed) → IsUtf8 (bucket_in deed) → IsUtf8 (key_in deed)
     → IsLawfulDeed deed × IsNamedDeed deed × FitsFlight deed None

@@ -1,7 +1,6 @@
 -- What a call does that commits an act to a key and has no body.
-use Rattle.std.specs.Prelude.{◌≡◌, ◌⊎◌, ℕ, ◌+◌, ◌*◌, [], MatchOption, Option, Some, None, Result, Ok, Err}
+use Rattle.std.specs.Prelude.{◌≡◌, ◌⊎◌, ℕ, ◌+◌, ◌*◌, ◌≤◌, [], length, MatchOption, Option, Some, None, Result, Ok, Err}
 use Rattle.call_types.specs.declared.act.Act.{Act}
-use Rattle.call_types.specs.declared.act.Act.TheVariants as acts
 use Rattle.call_types.specs.declared.feed.Cut.{Cut}
 use Rattle.call_types.specs.declared.feed.Cut.TheVariants.{NoMemory}
 use Rattle.call_types.specs.declared.names.Key.{Key}
@@ -10,9 +9,9 @@ use Rattle.call_types.specs.declared.refusal.Refusal.{Refusal}
 use Rattle.call_types.specs.declared.refusal.Refusal.TheVariants.{SeqSpent}
 use Rattle.call_types.specs.declared.reply.Reply.TheVariants.{Refused as RefusedReply}
 use Rattle.desk_base.specs.Answering.{Task}
-use Rattle.desk_base.specs.Calls.{IsKey}
+use Rattle.desk_base.specs.Calls.{IsKey, longest_kind}
 use Rattle.desk_base.specs.declared.call.Call.{Call}
-use Rattle.desk_base.specs.declared.call.Call.TheVariants.{Abort, Create, Delete, ListBuckets}
+use Rattle.desk_base.specs.declared.call.Call.TheVariants.{Abort, Create, Delete}
 use Rattle.drive_base.specs.declared.plan.SetPlan.{SetPlan}
 use Rattle.slot_rules.specs.declared.commit.Commit.TheVariants.{Key as KeyCommit}
 use Rattle.slot_rules.specs.declared.commit.Commit.{Commit}
@@ -31,34 +30,37 @@ use Rattle.op_steps.specs.declared.next.OpNext.TheVariants as next
 use Rattle.op_steps.specs.declared.looking.Looked.{Looked}
 use Rattle.op_steps.specs.declared.looking.Looked.TheVariants.{LacksMemory, Refused, There}
 use Rattle.object_ops.specs.Clearing.{HasNone, files_left, left_of as left_to_clear, next_of, with_taken, ids_of}
+use Rattle.object_ops.specs.KeyDeeds.{act_of}
 use Rattle.object_ops.specs.Reading.{HasFound}
 use Rattle.object_ops.specs.declared.clearing.Clearing.{Clearing}
 use Rattle.object_ops.specs.declared.deed_op.DeedOp.{DeedOp}
 use Rattle.object_ops.specs.declared.deed_op.DeedState.{DeedState}
 use Rattle.object_ops.specs.declared.deed_op.DeedState.TheVariants.{Committing, Looking, Telling, Told}
+use Rattle.object_ops.specs.declared.key_act.KeyAct.{KeyAct}
+use Rattle.object_ops.specs.declared.key_act.KeyAct.TheVariants as asks
 
--- a call that is served so
+-- a call that a deed serves, which is lawful
 abbrev pub IsDeed : Call → Type 0
 IsDeed (Delete at pick) = IsKey at
+IsDeed (Create at kind) = IsKey at × (length kind ≤ longest_kind)
+IsDeed (Abort at upload) = IsKey at
 IsDeed other = ⊥
 
--- the call of an act: that of one which brings data is never asked so
-abbrev pub call_of : Key → Act → Call
-call_of at (acts.Put data_id print size md5 kind) = ListBuckets
-call_of at (acts.Delete pick) = Delete at pick
-call_of at (acts.Create kind) = Create at kind
-call_of at (acts.Complete upload parts data_id print size md5) = ListBuckets
-call_of at (acts.Abort upload) = Abort at (Some upload)
+-- the call that asks it
+abbrev pub call_of : Key → KeyAct → Call
+call_of at (asks.Delete pick) = Delete at pick
+call_of at (asks.Create kind) = Create at kind
+call_of at (asks.Abort upload) = Abort at upload
 
 -- what is asked
-abbrev pub deed_task : Key → Act → ℕ → Task
-deed_task at act now = record { call = call_of at act; now = now }
+abbrev pub deed_task : Key → KeyAct → ℕ → Task
+deed_task at ask now = record { call = call_of at ask; now = now }
 
 -- an op that has done nothing yet
-pub record IsNewDeed (set : SetPlan) (at : Key) (act : Act) (now : ℕ) (op : DeedOp) : Type 0 where
+pub record IsNewDeed (set : SetPlan) (at : Key) (ask : KeyAct) (now : ℕ) (op : DeedOp) : Type 0 where
   pub set_is : op.set ≡ set
   pub at_is : op.at ≡ at
-  pub act_is : op.act ≡ act
+  pub ask_is : op.ask ≡ ask
   pub now_is : op.now ≡ now
   pub state_is : op.state ≡ Looking
   pub none : HasNone op.clearing
@@ -67,7 +69,7 @@ pub record IsNewDeed (set : SetPlan) (at : Key) (act : Act) (now : ℕ) (op : De
 pub record IsSameDeed (old new : DeedOp) : Type 0 where
   pub set : new.set ≡ old.set
   pub at : new.at ≡ old.at
-  pub act : new.act ≡ old.act
+  pub ask : new.ask ≡ old.ask
   pub now : new.now ≡ old.now
 
 -- the deed that does an act, in a bucket of this mode
@@ -126,9 +128,9 @@ HasDone set at act task (Telling reply) log = IsReady set task reply log
 HasDone set at act task (Told cut) log = Pays set task cut log
 
 -- what it holds, the ids of the files that are left, and its log
-pub record StandsAt (set : SetPlan) (at : Key) (act : Act) (now : ℕ) (clearing : Clearing) (state : DeedState) (claim : Claim) (log : Log) : Type 0 where
+pub record StandsAt (set : SetPlan) (at : Key) (ask : KeyAct) (now : ℕ) (clearing : Clearing) (state : DeedState) (claim : Claim) (log : Log) : Type 0 where
   pub holds : claim ≡ with_taken (no_claim (key_slot at)) (ids_of (files_left clearing))
-  pub done : HasDone set at act (deed_task at act now) state log
+  pub done : HasDone set at (act_of ask) (deed_task at ask now) state log
 
 abbrev pub DeedStands : DeedOp → Claim → Log → Type 0
-DeedStands op claim log = StandsAt op.set op.at op.act op.now op.clearing op.state claim log
+DeedStands op claim log = StandsAt op.set op.at op.ask op.now op.clearing op.state claim log

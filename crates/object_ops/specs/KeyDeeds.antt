@@ -1,18 +1,19 @@
 -- Acts on keys that need no body, and the deeds that do them.
-use Rattle.std.specs.Prelude.{◌≡◌, ℕ, true, false, Bool, List, [], is_none}
+use Rattle.std.specs.Prelude.{ℕ, false, Bool, List, [], is_none}
 use Rattle.call_types.specs.declared.act.Act.{Act}
 use Rattle.call_types.specs.declared.act.Act.TheVariants as act
 use Rattle.slot_rules.specs.Deeds.{act_brings}
 use Rattle.slot_rules.specs.declared.commit.Commit.TheVariants.{Key, MakeBucket, SetMode}
 use Rattle.slot_rules.specs.declared.commit.Commit.{Commit}
+use Rattle.receipts.specs.Uploads.{upload_of}
+use Rattle.object_ops.specs.declared.key_act.KeyAct.{KeyAct}
+use Rattle.object_ops.specs.declared.key_act.KeyAct.TheVariants.{Abort, Create, Delete}
 
--- an act that is served, as the one change of a call
-abbrev pub is_served : Act → Bool
-is_served (act.Delete pick) = true
-is_served other = false
-
-abbrev pub IsServed : Act → Type 0
-IsServed done = is_served done ≡ true
+-- the act that is asked
+abbrev pub act_of : KeyAct → Act
+act_of (Delete pick) = act.Delete pick
+act_of (Create kind) = act.Create kind
+act_of (Abort upload) = act.Abort (upload_of upload)
 
 -- an act needs no body: it brings no data. A deed does one
 abbrev pub needs_no_body : Act → Bool

@@ -1,11 +1,11 @@
 //! How the op of a deed begins, its steps, and what it does after each of them.
 
-ghost use Rattle.std.specs.Prelude.{◌≡◌, ◌<◌, ℕ, [], IfOk, true, ◌≤◌, IsUtf8, length, Option};
+ghost use Rattle.std.specs.Prelude.{◌≡◌, ◌<◌, ℕ, [], IfOk, ◌≤◌, IsUtf8, length, Option};
 ghost use Rattle.desk_base.specs.Calls.{IsKey, stated_length};
 ghost use Rattle.version_list.specs.State.{IsKind, IsMoment};
 ghost use Rattle.op_steps.specs.Claims.{no_claim};
 ghost use Rattle.object_ops.specs.Deeds.{IsDeed, IsNewDeed, AfterCommit, AfterLook, barred_state, key_deed, DeedStands, cut_of, deed_task, left_of, step_of};
-ghost use Rattle.object_ops.specs.KeyDeeds.{IsServed, kind_of, needs_no_body};
+ghost use Rattle.object_ops.specs.KeyDeeds.{act_of, kind_of};
 ghost use Rattle.slot_history.specs.Names.{key_name, bucket_slot, key_slot};
 ghost use Rattle.drive_base.specs.declared.drive.TheConstants.{LONGEST_NAME};
 ghost use Rattle.desk_base.specs.Answering.{Task};
@@ -14,9 +14,10 @@ ghost use Rattle.object_ops.specs.declared.deed_op.DeedState.TheVariants as stat
 
 use crate::clearing::Clearing;
 use crate::deed_op::{DeedOp, DeedState, KeyDeed};
+use crate::key_act::KeyAct;
 use crate::telling::tell_head;
 use audit_trail::Audit;
-use call_types::{Act, Cut, Feed, Key, Mode, Refusal, Reply};
+use call_types::{Cut, Feed, Key, Mode, Refusal, Reply};
 use desk_base::{Call, Teller};
 use drive_base::{Drive, SetPlan};
 use fault_base::NoMemory;
@@ -37,26 +38,32 @@ impl DeedOp {
         ensures begins { IfOk result (λ op. (slot : ℕ) × (slot < 64) × ⟦<DeedOp as Op>⟧.stands op (no_claim slot) []) }
     {
         match call {
-            Call::Delete { at, pick } => DeedOp::of(alloc, set, at, Act::Delete(*pick), now),
+            Call::Delete { at, pick } => DeedOp::of(alloc, set, at, KeyAct::Delete(*pick), now),
+            Call::Create { at, kind } => {
+                let own = kind.clone()?;
+                DeedOp::of(alloc, set, at, KeyAct::Create(own), now)
+            }
+            Call::Abort { at, upload } => {
+                DeedOp::of(alloc, set, at, KeyAct::Abort(*upload), now)
+            }
+            // The premise has no other call.
             _ => Err(NoMemory),
         }
     }
 
     /// The op that does this to this key.
-    fn of(alloc: Global, set: SetPlan, at: &Key, act: Act, now: u64) -> Result<DeedOp, NoMemory>
+    fn of(alloc: Global, set: SetPlan, at: &Key, ask: KeyAct, now: u64) -> Result<DeedOp, NoMemory>
         requires key { IsKey at.now }
-        requires served { IsServed act }
-        requires bodyless { needs_no_body act ≡ true }
-        requires kind { IsKind (kind_of act) }
+        requires kind { IsKind (kind_of (act_of ask)) }
         requires moment { IsMoment now }
-        ensures { IfOk result (IsNewDeed set at.now act now) }
+        ensures { IfOk result (IsNewDeed set at.now ask now) }
     {
         let name = bucket_name(alloc, &at.bucket)?;
         let key = at.clone()?;
         Ok(DeedOp {
             set,
             at: key,
-            act,
+            ask,
             name,
             now,
             state: DeedState::Looking,
@@ -66,35 +73,29 @@ impl DeedOp {
 }
 
 /// The deed that does this to a key, in a bucket of this mode.
-fn deed_of(alloc: Global, at: &Key, mode: Mode, act: &Act) -> Result<KeyDeed, NoMemory>
+fn deed_of(alloc: Global, at: &Key, mode: Mode, ask: &KeyAct) -> Result<KeyDeed, NoMemory>
     requires bucket { IsUtf8 at.now.bucket }
     requires key { IsUtf8 at.now.key }
     requires short { length (key_name at.now) ≤ LONGEST_NAME }
-    requires bodyless { needs_no_body act.now ≡ true }
-    requires kind { IsKind (kind_of act.now) }
-    ensures { IfOk result (λ deed. deed.commit ≡ key_deed at.now act.now mode) }
+    requires kind { IsKind (kind_of (act_of ask.now)) }
+    ensures { IfOk result (λ deed. deed.commit ≡ key_deed at.now (act_of ask.now) mode) }
 {
     let key = at.clone()?;
-    let done = act.clone()?;
-    let commit = Commit::Key {
-        at: key,
-        mode,
-        act: done,
-    };
+    let act = ask.act()?;
+    let commit = Commit::Key { at: key, mode, act };
     Ok(KeyDeed { commit })
 }
 
 /// How far it is after the look at its bucket.
-pub(crate) fn after_look(alloc: Global, at: &Key, act: &Act, looked: Looked) -> DeedState
+pub(crate) fn after_look(alloc: Global, at: &Key, ask: &KeyAct, looked: Looked) -> DeedState
     requires bucket { IsUtf8 at.now.bucket }
     requires key { IsUtf8 at.now.key }
     requires short { length (key_name at.now) ≤ LONGEST_NAME }
-    requires bodyless { needs_no_body act.now ≡ true }
-    requires kind { IsKind (kind_of act.now) }
-    ensures { AfterLook at.now act.now looked result }
+    requires kind { IsKind (kind_of (act_of ask.now)) }
+    ensures { AfterLook at.now (act_of ask.now) looked result }
 {
     match looked {
-        Looked::There(mode) => match deed_of(alloc, at, mode, act) {
+        Looked::There(mode) => match deed_of(alloc, at, mode, ask) {
             Ok(deed) => DeedState::Committing(deed),
             Err(_) => DeedState::Told(Some(Cut::NoMemory)),
         },
@@ -131,7 +132,7 @@ impl Op for DeedOp {
 
     ghost Asked = { Task };
 
-    ghost asked = { λ op. deed_task op.at op.act op.now };
+    ghost asked = { λ op. deed_task op.at op.ask op.now };
 
     ghost owed = { λ set task cut log. Pays set task cut log };
 
@@ -165,7 +166,7 @@ impl Op for DeedOp {
         match &self.state {
             DeedState::Looking => {
                 let look = look_at_bucket(alloc, slot, disks, self.name.as_str());
-                self.state = after_look(alloc, &self.at, &self.act, look.looked);
+                self.state = after_look(alloc, &self.at, &self.ask, look.looked);
                 look.stub
             }
             DeedState::Committing(deed) => {

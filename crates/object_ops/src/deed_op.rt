@@ -4,12 +4,13 @@ ghost use Rattle.std.specs.Prelude.{◌≡◌, ◌≤◌, IsUtf8, length, string
 ghost use Rattle.slot_history.specs.Names.{bucket_name, key_name, key_slot};
 ghost use Rattle.version_list.specs.State.{IsKind, IsMoment};
 ghost use Rattle.object_ops.specs.Clearing.{files_left, AreDue};
-ghost use Rattle.object_ops.specs.KeyDeeds.{IsServed, kind_of, needs_no_body, bucket_in, deed_needs_none, key_in, kind_in};
+ghost use Rattle.object_ops.specs.KeyDeeds.{act_of, kind_of, bucket_in, deed_needs_none, key_in, kind_in};
 ghost use Rattle.drive_base.specs.declared.drive.TheConstants.{LONGEST_NAME};
 ghost use Rattle.slot_rules.specs.Deeds.{name_of};
 
 use crate::clearing::Clearing;
-use call_types::{Act, Cut, Key, Reply};
+use crate::key_act::KeyAct;
+use call_types::{Cut, Key, Reply};
 use drive_base::SetPlan;
 use slot_core::Commit;
 
@@ -21,8 +22,8 @@ pub struct DeedOp {
     pub(crate) set: SetPlan,
     /// The key.
     pub(crate) at: Key,
-    /// What is done.
-    pub(crate) act: Act,
+    /// What is done to it.
+    pub(crate) ask: KeyAct,
     /// The name of the bucket's register.
     pub(crate) name: String,
     /// The Unix second of the call.
@@ -31,9 +32,7 @@ pub struct DeedOp {
     pub(crate) state: DeedState,
     /// What is left of the trash.
     pub(crate) clearing: Clearing,
-    pub ghost served: { IsServed act },
-    pub ghost bodyless: { needs_no_body act ≡ true },
-    pub ghost kind_short: { IsKind (kind_of act) },
+    pub ghost kind_short: { IsKind (kind_of (act_of ask)) },
     pub ghost named: { string_bytes name ≡ bucket_name at.bucket },
     pub ghost short: { length (string_bytes name) ≤ LONGEST_NAME },
     pub ghost bucket_text: { ∥ IsUtf8 at.bucket ∥₁ },

@@ -7,7 +7,7 @@
 //!
 //! An op's type and its states stand in `*_op` and `put_state`, its steps in `read`, `put` and `deed`, and what it does after each step in `*_outcome`. A read
 //! calls data drives in `read_pieces` over `reading`. A put has its sections in `put_sections`, the calls of its stage in `put_stage_calls`, and what its body
-//! is of in `put_target`.
+//! is of in `put_target`. What is asked of a deed is in `key_act`.
 //!
 //! The crate stands on `op_steps` for steps and what they owe, on `header_values` for the entity tags that a condition names, on `slot_core` for sections of
 //! slots, on `put_stage` for the data of a put, on `get_read` for that of a read, on `bucket_book` for the records of buckets, on `slot_history` for the names
@@ -18,6 +18,7 @@ mod clearing;
 mod data_files;
 mod deed;
 mod deed_op;
+mod key_act;
 mod put;
 mod put_op;
 mod put_outcome;

@@ -23,6 +23,7 @@ use Rattle.version_list.specs.Answers.{IsServed}
 use Rattle.receipts.specs.BucketLists.{FindsRow}
 use Rattle.receipts.specs.Bucketing.{BucketActOwes, bucket_target}
 use Rattle.receipts.specs.Committing.{EndsAtCommit, KeyIsCommitted, Target, act_target}
+use Rattle.receipts.specs.Deeds.{DeedOwes}
 use Rattle.receipts.specs.Events.{Log, Note, Section, body_of, notes_of, sections_of}
 use Rattle.receipts.specs.Events.Event.{Told}
 use Rattle.receipts.specs.Laws.{IsDoneIn, IsLookedAtIn, NotesAreOwed, ReceiptShowsAct, ShowsAct, ShowsPage}
@@ -33,6 +34,7 @@ use Rattle.receipts.specs.Pages.{Candidate, PageRule, keys_rule, versions_rule}
 use Rattle.receipts.specs.Putting.{PutsBody}
 use Rattle.receipts.specs.Reading.{EndsBeforeRead, ReadsKey, TellsHead, TellsRead}
 use Rattle.receipts.specs.Registers.{bucket_register, bucket_slot, key_register, key_slot}
+use Rattle.receipts.specs.Uploads.{upload_of}
 use Rattle.receipts.proofs.JoinLemmas.{bodies_join, notes_join}
 
 -- a refusal serves nothing
@@ -97,6 +99,13 @@ shows_deed at act now reply log x served =
     let change = shows_change at now (λ done. done ≡ act) reply log x served in
     subst (λ done. IsDoneIn (key_slot at) (key_register at)
     (λ call. (mode : Mode) × (change : Option ChangeId) × (call ≡ brief.Change at mode done change now)) reply (notes_of log)) change.1 change.2
+
+-- what a call shows that does just this act
+shows_owed : (at : Key) (act : Act) (now : ℕ) (reply : Reply) (log : Log) → DeedOwes at act now reply log → IsServed reply
+    → IsDoneIn (key_slot at) (key_register at) (λ call. (mode : Mode) × (change : Option ChangeId) × (call ≡ brief.Change at mode act change now)) reply (notes_of log)
+shows_owed at act now reply log (inl ended) served = absurd (at_look at.bucket reply log ended served)
+shows_owed at act now reply log (inr (inl made)) served = shows_deed at act now reply log made served
+shows_owed at act now reply log (inr (inr barred)) served = absurd (unserved reply _ barred.barred.told served)
 
 -- what a read of a key shows
 shows_read : (at : Key) (pick : Pick) (whole : Reply) (log : Log) → ReadsKey at pick whole log
@@ -224,17 +233,15 @@ shows set (call_of.Head at pick matches) now reply log x served = elim x.1 [
   | inl ended ↦ absurd (before_read at reply log ended served)
   | inr told ↦ shows_head at pick matches told.whole reply log told.reads told.tells served
 ]
-shows set (call_of.Delete at pick) now reply log x served = elim x.1 [
-  | inl ended ↦ absurd (at_look at.bucket reply log ended served)
-  | inr (inl made) ↦ shows_deed at (act_of.Delete pick) now reply log made served
-  | inr (inr barred) ↦ absurd (unserved reply _ barred.barred.told served)
-]
+shows set (call_of.Delete at pick) now reply log x served = shows_owed at (act_of.Delete pick) now reply log x.1 served
 shows set (call_of.List2 bucket page) now reply log x served = shows_page (keys_rule page) bucket reply log x.1 served
 shows set (call_of.ListVersions bucket page) now reply log x served = shows_page (versions_rule page) bucket reply log x.1 served
-shows set (call_of.Create at kinds) now reply log x served = absurd (unserved reply _ x.0 served)
+shows set (call_of.Create at kinds) now reply log (inl x) served = absurd (unserved reply _ x.0 served)
+shows set (call_of.Create at kinds) now reply log (inr x) served = shows_owed at (act_of.Create kinds) now reply log x.1 served
 shows set (call_of.Part at upload number stated long) now reply log x served = absurd (unserved reply _ x.0 served)
 shows set (call_of.Complete at upload long) now reply log x served = absurd (unserved reply _ x.0 served)
-shows set (call_of.Abort at upload) now reply log x served = absurd (unserved reply _ x.0 served)
+shows set (call_of.Abort at upload) now reply log (inl x) served = absurd (unserved reply _ x.0 served)
+shows set (call_of.Abort at upload) now reply log (inr x) served = shows_owed at (act_of.Abort (upload_of upload)) now reply log x.1 served
 
 -- what a part of the notes shows all of them show
 more_done : (slot : ℕ) (name : List ℕ) (IsCall : Brief → Type 0) (told : Reply) (notes more : List Note)
@@ -263,10 +270,10 @@ more_shows set (call_of.Head at pick matches) now body reply notes more x = more
 more_shows set (call_of.Delete at pick) now body reply notes more x = more_done _ _ _ reply notes more x
 more_shows set (call_of.List2 bucket page) now body reply notes more x = (x.0, x.1, λ k d l. more_looked _ _ notes more (x.2 k d l))
 more_shows set (call_of.ListVersions bucket page) now body reply notes more x = (x.0, x.1, λ k d l. more_looked _ _ notes more (x.2 k d l))
-more_shows set (call_of.Create at kinds) now body reply notes more x = x
+more_shows set (call_of.Create at kinds) now body reply notes more x = more_done _ _ _ reply notes more x
 more_shows set (call_of.Part at upload number stated long) now body reply notes more x = x
 more_shows set (call_of.Complete at upload long) now body reply notes more x = x
-more_shows set (call_of.Abort at upload) now body reply notes more x = x
+more_shows set (call_of.Abort at upload) now body reply notes more x = more_done _ _ _ reply notes more x
 
 pub receipt_shows_act : ReceiptShowsAct
 receipt_shows_act set task body reply bytes notes x served =

@@ -1,5 +1,6 @@
 pub mod ActLemmas
 pub mod AskingLemmas
+pub mod CommitOweLemmas
 pub mod GrowLemmas
 pub mod JoinLemmas
 pub mod ListOweLemmas

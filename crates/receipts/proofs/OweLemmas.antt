@@ -1,6 +1,6 @@
 -- What is owed stays owed while a log grows.
 use Rattle.std.proofs.Common.{◌≡◌, ◌≢◌, ◌∙◌, ℕ, List, [], ◌∷◌, ◌++◌, Some, Option, Contains, length, slice_index_or, append_assoc, inl, inr, sym, ap, subst, ◌≤◌, ◌*◌}
-use Rattle.call_types.specs.declared.act.Act.{Act}
+use Rattle.call_types.specs.declared.act.Act.TheVariants as act_of
 use Rattle.call_types.specs.declared.act.Brief.{Brief}
 use Rattle.call_types.specs.declared.names.Key.{Key}
 use Rattle.call_types.specs.declared.names.Pick.{Pick}
@@ -21,8 +21,7 @@ use Rattle.std.specs.List.{flat_map}
 use Rattle.desk_base.specs.declared.call.Call.{Call}
 use Rattle.desk_base.specs.declared.call.Call.TheVariants as call_of
 use Rattle.receipts.specs.Bucketing.{BucketActOwes, BucketIsThere, GetVersioningOwes, HeadBucketOwes, PutVersioningOwes, bucket_target}
-use Rattle.receipts.specs.Committing.{EndsAtCommit, HasLooked, KeyIsBarred, KeyIsCommitted, Target, act_target}
-use Rattle.receipts.specs.Deleting.{DeleteOwes}
+use Rattle.receipts.specs.Committing.{KeyIsCommitted}
 use Rattle.md5.specs.Md5.{md5}
 use Rattle.call_types.specs.declared.refusal.Refusal.TheVariants.{BadDigest}
 use Rattle.call_types.specs.declared.names.Mode.{Mode}
@@ -30,7 +29,7 @@ use Rattle.call_types.specs.declared.names.VersionName.{VersionName}
 use Rattle.s3_docs.specs.Documents.{IsDocument, IsPlace}
 use Rattle.s3_docs.specs.Machine.Value.{Versioning}
 use Rattle.s3_docs.specs.declared.prologue.Root.TheVariants.{VersioningConfiguration}
-use Rattle.receipts.specs.Events.{Event, Log, Section, body_of}
+use Rattle.receipts.specs.Events.{Event, Log, body_of}
 use Rattle.receipts.specs.Events.Event.{Turned}
 use Rattle.receipts.specs.Letters.{BlockLetter, CannotRead, FewBlocks, FewTook, IsBadManifest, IsBadShard, IsGoodBlock, ManifestLetter, NoneServes, ShowedAt, ShowedBlock, ShowedTable, StageLetter, Wanted, Wants, bytes_in}
 use Rattle.receipts.specs.Owes.{IsWhole, OwesCall}
@@ -39,6 +38,8 @@ use Rattle.receipts.specs.Reading.{BodyIsLost, EndsBeforeRead, GetOwes, HeadOwes
 use Rattle.receipts.specs.Registers.{key_slot}
 use Rattle.receipts.specs.Pages.{keys_rule, versions_rule}
 use Rattle.receipts.specs.Staging.{IsStaged}
+use Rattle.receipts.specs.Uploads.{upload_of}
+use Rattle.receipts.proofs.CommitOweLemmas.{deed_owes, ends_at_commit, has_looked, key_barred, key_committed}
 use Rattle.receipts.proofs.GrowLemmas.{Grows, saw_grows}
 use Rattle.receipts.proofs.ListOweLemmas.{ends_at_look, list_buckets_owes, page_owes, spent}
 
@@ -176,28 +177,7 @@ pub body_lost : (set : SetPlan) (version : Version) (span : Span) (next : ℕ) (
 body_lost set version span next whys log later g x =
     record { wanted = x.wanted; is_wanted = x.is_wanted; some = x.some; cause = cannot_read set x.wanted next whys log later g x.cause }
 
--- the looks
-has_looked : (bucket : List ℕ) (log later : Log) → Grows log later → HasLooked bucket log → HasLooked bucket later
-has_looked bucket log later g x = record { look = x.look; sections = g.sections ∙ x.sections; mode = x.mode; finds = x.finds }
-
-key_barred : (at : Key) (reply : Reply) (log later : Log) → Grows log later → KeyIsBarred at reply log → KeyIsBarred at reply later
-key_barred at reply log later g x = record { looked = has_looked at.bucket log later g x.looked; barred = spent _ reply log later g x.barred }
-
--- commits
-ends_at_commit : (target : Target) (before : List Section) (reply : Reply) (log later : Log) → Grows log later
-    → EndsAtCommit target before reply log → EndsAtCommit target before reply later
-ends_at_commit target before reply log later g x = record { own = x.own; sections = g.sections ∙ x.sections; ends = x.ends }
-
-key_committed : (at : Key) (now : ℕ) (IsAct : Act → Type 0) (reply : Reply) (log later : Log) → Grows log later
-    → KeyIsCommitted at now IsAct reply log → KeyIsCommitted at now IsAct reply later
-key_committed at now IsAct reply log later g x = record {
-  look = x.look;
-  mode = x.mode;
-  bucket = x.bucket;
-  commit = ends_at_commit (act_target at x.mode now IsAct) (x.look ∷ []) reply log later g x.commit;
-}
-
--- puts and deletes
+-- puts
 put_committed : (set : SetPlan) (at : Key) (kinds : List ℕ) (stated : Option (List ℕ)) (now : ℕ) (reply : Reply) (log later : Log) → Grows log later
     → PutIsCommitted set at kinds stated now reply log → PutIsCommitted set at kinds stated now reply later
 put_committed set at kinds stated now reply log later g x =
@@ -265,12 +245,6 @@ put_owes set at kinds stated now reply log later g (inr (inr (inl x))) = inr (in
 put_owes set at kinds stated now reply log later g (inr (inr (inr (inl x)))) = inr (inr (inr (inl (put_not_begun at reply log later g x))))
 put_owes set at kinds stated now reply log later g (inr (inr (inr (inr (inl x))))) = inr (inr (inr (inr (inl (digest_differs at stated reply log later g x)))))
 put_owes set at kinds stated now reply log later g (inr (inr (inr (inr (inr x))))) = inr (inr (inr (inr (inr (not_taken set at stated reply log later g x)))))
-
-delete_owes : (at : Key) (pick : Pick) (now : ℕ) (reply : Reply) (log later : Log) → Grows log later
-    → DeleteOwes at pick now reply log → DeleteOwes at pick now reply later
-delete_owes at pick now reply log later g (inl x) = inl (ends_at_look at.bucket reply log later g x)
-delete_owes at pick now reply log later g (inr (inl x)) = inr (inl (key_committed at now _ reply log later g x))
-delete_owes at pick now reply log later g (inr (inr x)) = inr (inr (key_barred at reply log later g x))
 
 -- reads
 reads_key : (at : Key) (pick : Pick) (whole : Reply) (log later : Log) → Grows log later → ReadsKey at pick whole log → ReadsKey at pick whole later
@@ -387,12 +361,16 @@ call_owes set (call_of.Get at pick ask matches) now reply log later g x =
 call_owes set (call_of.Head at pick matches) now reply log later g x =
     (whole (call_of.Head at pick matches) log later g x.0, head_owes at pick matches reply log later g x.1)
 call_owes set (call_of.Delete at pick) now reply log later g x =
-    (whole (call_of.Delete at pick) log later g x.0, delete_owes at pick now reply log later g x.1)
+    (whole (call_of.Delete at pick) log later g x.0, deed_owes at (act_of.Delete pick) now reply log later g x.1)
 call_owes set (call_of.List2 bucket page) now reply log later g x =
     (whole (call_of.List2 bucket page) log later g x.0, page_owes (keys_rule page) bucket reply log later g x.1)
 call_owes set (call_of.ListVersions bucket page) now reply log later g x =
     (whole (call_of.ListVersions bucket page) log later g x.0, page_owes (versions_rule page) bucket reply log later g x.1)
-call_owes set (call_of.Create at kinds) now reply log later g x = (x.0, g.sections ∙ x.1)
+call_owes set (call_of.Create at kinds) now reply log later g (inl x) = inl (x.0, g.sections ∙ x.1)
+call_owes set (call_of.Create at kinds) now reply log later g (inr x) =
+    inr (whole (call_of.Create at kinds) log later g x.0, deed_owes at (act_of.Create kinds) now reply log later g x.1)
 call_owes set (call_of.Part at upload number stated long) now reply log later g x = (x.0, g.sections ∙ x.1)
 call_owes set (call_of.Complete at upload long) now reply log later g x = (x.0, g.sections ∙ x.1)
-call_owes set (call_of.Abort at upload) now reply log later g x = (x.0, g.sections ∙ x.1)
+call_owes set (call_of.Abort at upload) now reply log later g (inl x) = inl (x.0, g.sections ∙ x.1)
+call_owes set (call_of.Abort at upload) now reply log later g (inr x) =
+    inr (whole (call_of.Abort at upload) log later g x.0, deed_owes at (act_of.Abort (upload_of upload)) now reply log later g x.1)

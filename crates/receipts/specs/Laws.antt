@@ -32,6 +32,7 @@ use Rattle.receipts.specs.Paying.{ChangesNothing, EndsAs, Outcome, Pays, Receipt
 use Rattle.receipts.specs.Paying.Outcome.{Replied}
 use Rattle.receipts.specs.Putting.{PutsBody}
 use Rattle.receipts.specs.Registers.{bucket_register, bucket_slot, key_register, key_slot}
+use Rattle.receipts.specs.Uploads.{upload_of}
 use Rattle.stamp_id.specs.declared.version.VersionId.{VersionId}
 
 -- each reading of two logs in a row is that of the first and then that of the second
@@ -122,10 +123,12 @@ ShowsAct set (Delete at pick) now body reply notes = IsDoneIn (key_slot at) (key
     (λ call. (mode : Mode) × (change : Option ChangeId) × (call ≡ brief.Change at mode (act.Delete pick) change now)) reply notes
 ShowsAct set (List2 bucket page) now body reply notes = ShowsPage (keys_rule page) bucket reply notes
 ShowsAct set (ListVersions bucket page) now body reply notes = ShowsPage (versions_rule page) bucket reply notes
-ShowsAct set (Create at kind) now body reply notes = ⊥
+ShowsAct set (Create at kind) now body reply notes = IsDoneIn (key_slot at) (key_register at)
+    (λ call. (mode : Mode) × (change : Option ChangeId) × (call ≡ brief.Change at mode (act.Create kind) change now)) reply notes
 ShowsAct set (Part at upload number md5 long) now body reply notes = ⊥
 ShowsAct set (Complete at upload long) now body reply notes = ⊥
-ShowsAct set (Abort at upload) now body reply notes = ⊥
+ShowsAct set (Abort at upload) now body reply notes = IsDoneIn (key_slot at) (key_register at)
+    (λ call. (mode : Mode) × (change : Option ChangeId) × (call ≡ brief.Change at mode (act.Abort (upload_of upload)) change now)) reply notes
 
 -- the act of a receipt is the call's, where the reply isn't a refusal
 abbrev pub ReceiptShowsAct : Type 0

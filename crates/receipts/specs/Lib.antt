@@ -3,7 +3,7 @@ pub mod BucketLists
 pub mod Bucketing
 pub mod Clashes
 pub mod Committing
-pub mod Deleting
+pub mod Deeds
 pub mod Dues
 pub mod Events
 pub mod Laws
@@ -19,3 +19,4 @@ pub mod Reading
 pub mod Registers
 pub mod Spans
 pub mod Staging
+pub mod Uploads

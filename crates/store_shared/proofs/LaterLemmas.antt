@@ -1,5 +1,5 @@
 -- A call that is not served yet is told so.
-use Rattle.std.proofs.Common.{◌<◌, ℕ, [], ◌∷◌, Option, ap, refl, arith}
+use Rattle.std.proofs.Common.{◌<◌, ℕ, [], ◌∷◌, Option, ap, inl, refl, arith}
 use Rattle.std.specs.Prelude.{Result, Ok, Err}
 use Rattle.call_types.specs.declared.feed.Cut.{Cut}
 use Rattle.call_types.specs.declared.refusal.Refusal.TheVariants.{NotImplemented}
@@ -36,10 +36,10 @@ later_owed set (Head at pick matches) now later = absurd later
 later_owed set (Delete at pick) now later = absurd later
 later_owed set (List2 bucket page) now later = absurd later
 later_owed set (ListVersions bucket page) now later = absurd later
-later_owed set (Create at content) now later = (refl, refl)
+later_owed set (Create at content) now later = inl (refl, refl)
 later_owed set (Part at upload number md5 long) now later = (refl, refl)
 later_owed set (Complete at upload long) now later = (refl, refl)
-later_owed set (Abort at upload) now later = (refl, refl)
+later_owed set (Abort at upload) now later = inl (refl, refl)
 
 is_ready : (set : SetPlan) (task : Task) → IsLater task.call → IsReady set task (Refused NotImplemented) []
 is_ready set task later = record {

@@ -1,6 +1,6 @@
 //! One type for the ops of several calls, so that who holds many of them needs one type alone.
 
-ghost use Rattle.trial_ops.specs.declared.any_op.AnyOp.TheVariants.{Delete, Get, Put};
+ghost use Rattle.trial_ops.specs.declared.any_op.AnyOp.TheVariants.{Deed, Get, Put};
 
 use audit_trail::Audit;
 use call_types::{Cut, Feed};
@@ -12,15 +12,15 @@ use receipts::Barred;
 use slot_core::{Slot, Stub};
 use std::alloc::Global;
 
-/// The op of a PutObject, a GetObject or a DeleteObject.
+/// The op of a PutObject, a GetObject, or a call that is a deed.
 #[derive(Drop)]
 pub enum AnyOp {
     /// Of a PutObject.
     Put(PutOp),
     /// Of a GetObject.
     Get(ReadOp),
-    /// Of a DeleteObject.
-    Delete(DeedOp),
+    /// Of a DeleteObject, a CreateMultipartUpload or an AbortMultipartUpload.
+    Deed(DeedOp),
 }
 
 impl Op for AnyOp {
@@ -28,31 +28,31 @@ impl Op for AnyOp {
     ghost use Rattle.desk_base.specs.Calls.{stated_length};
     ghost use Rattle.receipts.specs.Paying.{Pays};
 
-    ghost set = { elim [ Put op ↦ ⟦<PutOp as Op>⟧.set op | Get op ↦ ⟦<ReadOp as Op>⟧.set op | Delete op ↦ ⟦<DeedOp as Op>⟧.set op ] };
+    ghost set = { elim [ Put op ↦ ⟦<PutOp as Op>⟧.set op | Get op ↦ ⟦<ReadOp as Op>⟧.set op | Deed op ↦ ⟦<DeedOp as Op>⟧.set op ] };
 
     ghost Asked = { Task };
 
-    ghost asked = { elim [ Put op ↦ ⟦<PutOp as Op>⟧.asked op | Get op ↦ ⟦<ReadOp as Op>⟧.asked op | Delete op ↦ ⟦<DeedOp as Op>⟧.asked op ] };
+    ghost asked = { elim [ Put op ↦ ⟦<PutOp as Op>⟧.asked op | Get op ↦ ⟦<ReadOp as Op>⟧.asked op | Deed op ↦ ⟦<DeedOp as Op>⟧.asked op ] };
 
     ghost owed = { λ set task cut log. Pays set task cut log };
 
     ghost stated = { λ task. stated_length task.call };
 
-    ghost step = { elim [ Put op ↦ ⟦<PutOp as Op>⟧.step op | Get op ↦ ⟦<ReadOp as Op>⟧.step op | Delete op ↦ ⟦<DeedOp as Op>⟧.step op ] };
+    ghost step = { elim [ Put op ↦ ⟦<PutOp as Op>⟧.step op | Get op ↦ ⟦<ReadOp as Op>⟧.step op | Deed op ↦ ⟦<DeedOp as Op>⟧.step op ] };
 
-    ghost left = { elim [ Put op ↦ ⟦<PutOp as Op>⟧.left op | Get op ↦ ⟦<ReadOp as Op>⟧.left op | Delete op ↦ ⟦<DeedOp as Op>⟧.left op ] };
+    ghost left = { elim [ Put op ↦ ⟦<PutOp as Op>⟧.left op | Get op ↦ ⟦<ReadOp as Op>⟧.left op | Deed op ↦ ⟦<DeedOp as Op>⟧.left op ] };
 
-    ghost taken = { elim [ Put op ↦ ⟦<PutOp as Op>⟧.taken op | Get op ↦ ⟦<ReadOp as Op>⟧.taken op | Delete op ↦ ⟦<DeedOp as Op>⟧.taken op ] };
+    ghost taken = { elim [ Put op ↦ ⟦<PutOp as Op>⟧.taken op | Get op ↦ ⟦<ReadOp as Op>⟧.taken op | Deed op ↦ ⟦<DeedOp as Op>⟧.taken op ] };
 
-    ghost stands = { elim [ Put op ↦ ⟦<PutOp as Op>⟧.stands op | Get op ↦ ⟦<ReadOp as Op>⟧.stands op | Delete op ↦ ⟦<DeedOp as Op>⟧.stands op ] };
+    ghost stands = { elim [ Put op ↦ ⟦<PutOp as Op>⟧.stands op | Get op ↦ ⟦<ReadOp as Op>⟧.stands op | Deed op ↦ ⟦<DeedOp as Op>⟧.stands op ] };
 
-    ghost cut_at = { elim [ Put op ↦ ⟦<PutOp as Op>⟧.cut_at op | Get op ↦ ⟦<ReadOp as Op>⟧.cut_at op | Delete op ↦ ⟦<DeedOp as Op>⟧.cut_at op ] };
+    ghost cut_at = { elim [ Put op ↦ ⟦<PutOp as Op>⟧.cut_at op | Get op ↦ ⟦<ReadOp as Op>⟧.cut_at op | Deed op ↦ ⟦<DeedOp as Op>⟧.cut_at op ] };
 
     fn next(&self) -> OpNext {
         match self {
             AnyOp::Put(op) => op.next(),
             AnyOp::Get(op) => op.next(),
-            AnyOp::Delete(op) => op.next(),
+            AnyOp::Deed(op) => op.next(),
         }
     }
 
@@ -65,7 +65,7 @@ impl Op for AnyOp {
         match self {
             AnyOp::Put(op) => op.section(alloc, slot, disks),
             AnyOp::Get(op) => op.section(alloc, slot, disks),
-            AnyOp::Delete(op) => op.section(alloc, slot, disks),
+            AnyOp::Deed(op) => op.section(alloc, slot, disks),
         }
     }
 
@@ -73,7 +73,7 @@ impl Op for AnyOp {
         match self {
             AnyOp::Put(op) => op.barred(why),
             AnyOp::Get(op) => op.barred(why),
-            AnyOp::Delete(op) => op.barred(why),
+            AnyOp::Deed(op) => op.barred(why),
         }
     }
 
@@ -81,7 +81,7 @@ impl Op for AnyOp {
         match self {
             AnyOp::Put(op) => op.data(alloc, disks),
             AnyOp::Get(op) => op.data(alloc, disks),
-            AnyOp::Delete(op) => op.data(alloc, disks),
+            AnyOp::Deed(op) => op.data(alloc, disks),
         }
     }
 
@@ -89,7 +89,7 @@ impl Op for AnyOp {
         match self {
             AnyOp::Put(op) => op.feed(alloc, feed),
             AnyOp::Get(op) => op.feed(alloc, feed),
-            AnyOp::Delete(op) => op.feed(alloc, feed),
+            AnyOp::Deed(op) => op.feed(alloc, feed),
         }
     }
 
@@ -97,7 +97,7 @@ impl Op for AnyOp {
         match self {
             AnyOp::Put(op) => op.tell(alloc, teller),
             AnyOp::Get(op) => op.tell(alloc, teller),
-            AnyOp::Delete(op) => op.tell(alloc, teller),
+            AnyOp::Deed(op) => op.tell(alloc, teller),
         }
     }
 
@@ -105,7 +105,7 @@ impl Op for AnyOp {
         match self {
             AnyOp::Put(op) => op.cut(),
             AnyOp::Get(op) => op.cut(),
-            AnyOp::Delete(op) => op.cut(),
+            AnyOp::Deed(op) => op.cut(),
         }
     }
 }

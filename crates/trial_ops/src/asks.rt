@@ -8,6 +8,7 @@ use bucket_book::check_name;
 use call_types::{Key, Pick, RangeAsk};
 use desk_base::Call;
 use seal_file::Text;
+use stamp_id::VersionId;
 use std::alloc::Global;
 use trial_base::{Names, NoAnswer, bytes, first, number, word};
 use trial_rig::Source;
@@ -115,7 +116,8 @@ fn condition(alloc: Global, names: &Names, words: &str) -> Result<Option<Text>, 
     }
 }
 
-/// The call of these words: `buckets`, `bucket`, `put KEY BODY STATED MD5`, `get KEY FROM TO if VALUE`, `head KEY if VALUE`, `delete KEY`, or `create KEY`.
+/// The call of these words: `buckets`, `bucket`, `put KEY BODY STATED MD5`, `get KEY FROM TO if VALUE`, `head KEY if VALUE`, `delete KEY`, `create KEY`, or
+/// `abort KEY UPLOAD`.
 pub fn call(alloc: Global, names: &Names, words: &str) -> Result<Call, NoAnswer>
     ensures { IfOk result IsLawful }
 {
@@ -151,6 +153,10 @@ pub fn call(alloc: Global, names: &Names, words: &str) -> Result<Call, NoAnswer>
         "create" => Ok(Call::Create {
             at: key(alloc, name)?,
             kind: Text::empty(alloc),
+        }),
+        "abort" => Ok(Call::Abort {
+            at: key(alloc, name)?,
+            upload: VersionId::parse(more).ok(),
         }),
         _ => Err(NoAnswer),
     }

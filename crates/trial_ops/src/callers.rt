@@ -23,7 +23,7 @@ pub struct Callers {
     pub head: Option<Caller<ReadOp>>,
     pub get: Option<Caller<AnyOp>>,
     pub put: Option<Caller<AnyOp>>,
-    pub delete: Option<Caller<AnyOp>>,
+    pub deed: Option<Caller<AnyOp>>,
 }
 
 impl Callers {
@@ -33,7 +33,7 @@ impl Callers {
             head: None,
             get: None,
             put: None,
-            delete: None,
+            deed: None,
         }
     }
 
@@ -62,9 +62,9 @@ impl Callers {
                 let op = AnyOp::Put(PutOp::new(alloc, *set, call, NOW)?);
                 self.put = Some(Caller::new(alloc, op, *set, source));
             }
-            Call::Delete { .. } => {
-                let op = AnyOp::Delete(DeedOp::new(alloc, *set, call, NOW)?);
-                self.delete = Some(Caller::new(alloc, op, *set, source));
+            Call::Delete { .. } | Call::Create { .. } | Call::Abort { .. } => {
+                let op = AnyOp::Deed(DeedOp::new(alloc, *set, call, NOW)?);
+                self.deed = Some(Caller::new(alloc, op, *set, source));
             }
             _ => return Err(NoAnswer),
         }
@@ -101,7 +101,7 @@ impl Callers {
             "head" => go(alloc, store, &mut self.head, step, count),
             "get" => go(alloc, store, &mut self.get, step, count),
             "put" => go(alloc, store, &mut self.put, step, count),
-            "delete" => go(alloc, store, &mut self.delete, step, count),
+            "delete" | "create" | "abort" => go(alloc, store, &mut self.deed, step, count),
             _ => said(alloc, "no such kind"),
         }
     }
@@ -138,7 +138,7 @@ impl Callers {
 fn at_commit(op: &AnyOp) -> bool {
     match op {
         AnyOp::Put(op) => op.at_commit(),
-        AnyOp::Get(_) | AnyOp::Delete(_) => false,
+        AnyOp::Get(_) | AnyOp::Deed(_) => false,
     }
 }
 

@@ -163,7 +163,10 @@ pub fn say_reply(line: &mut Line, reply: &Reply) {
         Reply::Refused(why) => say_refusal(line, why),
         Reply::Page(..) => line.say("a page of keys"),
         Reply::Versions(..) => line.say("a page of versions"),
-        Reply::Opened(_) => line.say("an upload is open"),
+        Reply::Opened(id) => {
+            line.say("opened ");
+            say_id(line, *id);
+        }
         Reply::Completed { .. } => line.say("completed"),
     }
 }
@@ -195,7 +198,7 @@ fn act_word(act: &Act) -> &'static str {
     }
 }
 
-/// Of a put the length of the body, and of a deletion which version is deleted.
+/// Of a put the length of the body, of a deletion which version is deleted, and of an abort which upload.
 fn say_act(line: &mut Line, act: &Act) {
     match act {
         Act::Put { length, .. } => say_count(line, " length ", *length),
@@ -203,7 +206,11 @@ fn say_act(line: &mut Line, act: &Act) {
             line.say(" ");
             say_pick(line, pick);
         }
-        Act::Create { .. } | Act::Complete { .. } | Act::Abort { .. } => {}
+        Act::Abort { upload } => {
+            line.say(" ");
+            say_id(line, *upload);
+        }
+        Act::Create { .. } | Act::Complete { .. } => {}
     }
 }
 

@@ -23,7 +23,7 @@ returns-clause-left g c next =
 pub returns-clause-calls : goal.returns-clause-calls
 returns-clause-calls g c next =
     let op = c.args.self.now in
-    data_so op.set op.at op.act op.now op.served op.clearing c.remove.new.self op.state (views g.D.Drive c.args.disks.now) (views g.D.Drive c.remove.new.disks) next op.due
+    data_so op.set op.at op.ask op.now op.clearing c.remove.new.self op.state (views g.D.Drive c.args.disks.now) (views g.D.Drive c.remove.new.disks) next op.due
     c.remove.ensures.removes
 
 pub invariant_of-self-clause-due : goal.invariant_of-self-clause-due

@@ -2,6 +2,7 @@ use Rattle.std.proofs.Common.{◌∙◌}
 use Rattle.std.proofs.lemmas.Str.{IsUtf8-had}
 use Rattle.drive_base.specs.View.{views}
 use Rattle.op_steps.specs.Store.{slot_seen}
+use Rattle.object_ops.specs.KeyDeeds.{act_of}
 use Rattle.object_ops.proofs.DeedOpLemmas.{at_bucket, at_key, clear_so, commit_so, look_so, told_trash}
 use Rattle.object_ops.proofs.KeyDeedLemmas.{can_commit}
 use Rattle.object_ops.proofs.LeftLemmas.{clear_left, commit_left, look_left}
@@ -11,7 +12,7 @@ use Rattle.object_ops.proofs.deed.DeedOpOp.section.Goals as goal
 pub returns-in-Looking-clause-turns : goal.returns-in-Looking-clause-turns
 returns-in-Looking-clause-turns g c =
     let op = c.args.self.now in
-    look_so op.set op.at op.act op.now op.served g.D.Drive op.clearing op.state c.after_look.result c.as_str.result.now
+    look_so op.set op.at op.ask op.now g.D.Drive op.clearing op.state c.after_look.result c.as_str.result.now
     (slot_seen g.A.Audit.entries g.A.Audit.count c.args.slot.now) (slot_seen g.A.Audit.entries g.A.Audit.count c.look_at_bucket-look.new.slot)
     c.look_at_bucket-look.result (views g.D.Drive c.args.disks.now) (views g.D.Drive c.look_at_bucket-look.new.disks) c.in-Looking.is
     (c.as_str.ensures.value ∙ op.named) (at_bucket op.at op.clearing op.state _ c.in-Looking.is c.requires.next) c.look_at_bucket-look.ensures.looks
@@ -20,7 +21,7 @@ returns-in-Looking-clause-turns g c =
 pub returns-in-Looking-clause-left : goal.returns-in-Looking-clause-left
 returns-in-Looking-clause-left g c =
     let op = c.args.self.now in
-    look_left op.set op.at op.act op.clearing op.state c.after_look.result c.look_at_bucket-look.result.looked c.in-Looking.is c.after_look.ensures
+    look_left op.set op.at (act_of op.ask) op.clearing op.state c.after_look.result c.look_at_bucket-look.result.looked c.in-Looking.is c.after_look.ensures
 
 pub look_at_bucket-look-requires-clause-named : goal.look_at_bucket-look-requires-clause-named
 look_at_bucket-look-requires-clause-named g c = (c.args.self.now.at.bucket, c.as_str.ensures.value ∙ c.args.self.now.named)
@@ -37,7 +38,7 @@ returns-in-Committing-clause-turns g c =
     let op = c.args.self.now in
     let commit = c.commit-turn.ensures in
     let fits = (can_commit c.in-Committing.deed).2 in
-    commit_so op.set op.at op.act op.now op.served g.D.Drive op.clearing c.begin.new.self op.state c.after_commit.result c.in-Committing.deed
+    commit_so op.set op.at op.ask op.now g.D.Drive op.clearing c.begin.new.self op.state c.after_commit.result c.in-Committing.deed
     (slot_seen g.A.Audit.entries g.A.Audit.count c.args.slot.now) (slot_seen g.A.Audit.entries g.A.Audit.count c.commit-turn.new.self)
     c.commit-turn.result.answer c.commit-turn.result.stub c.args.disks.now c.commit-turn.new.disks c.in-Committing.is c.begin.ensures.queue
     (at_key op.at op.clearing op.state c.in-Committing.deed _ c.in-Committing.is c.requires.next)
@@ -69,7 +70,7 @@ commit-turn-requires-clause-named g c = (can_commit c.in-Committing.deed).1
 pub returns-in-Told-clause-turns : goal.returns-in-Told-clause-turns
 returns-in-Told-clause-turns g c =
     let op = c.args.self.now in
-    clear_so op.set op.at op.act op.now op.served g.D.Drive op.clearing c.take.new.self op.state c.in-Told.field-0
+    clear_so op.set op.at op.ask op.now g.D.Drive op.clearing c.take.new.self op.state c.in-Told.field-0
     (slot_seen g.A.Audit.entries g.A.Audit.count c.args.slot.now) (slot_seen g.A.Audit.entries g.A.Audit.count c.take.new.slot) (views g.D.Drive c.args.disks.now)
     c.in-Told.is (told_trash op.at op.clearing op.state c.in-Told.field-0 _ c.in-Told.is c.requires.next).1 c.take.ensures.trash
 

@@ -2,10 +2,10 @@ use Rattle.std.proofs.Common.{subst, sym}
 use Rattle.op_steps.specs.Words.{BarredSo}
 use Rattle.trial_ops.specs.contracts.any_op.AnyOpOp.TheImpl.{stands-value, step-value}
 use Rattle.trial_ops.specs.declared.any_op.AnyOp.{AnyOp}
-use Rattle.trial_ops.specs.declared.any_op.AnyOp.TheVariants.{Delete}
+use Rattle.trial_ops.specs.declared.any_op.AnyOp.TheVariants.{Deed}
 use Rattle.trial_ops.proofs.any_op.AnyOpOp.barred.Goals as goal
 
-pub returns-in-Delete-clause-barred : goal.returns-in-Delete-clause-barred
-returns-in-Delete-clause-barred c =
-    subst (λ (was : AnyOp). BarredSo (stands-value.it was) (stands-value.it (Delete c.barred-in-Delete.new.self)) (step-value.it was) c.args.why)
-    (sym c.in-Delete.is) c.barred-in-Delete.ensures.barred
+pub returns-in-Deed-clause-barred : goal.returns-in-Deed-clause-barred
+returns-in-Deed-clause-barred c =
+    subst (λ (was : AnyOp). BarredSo (stands-value.it was) (stands-value.it (Deed c.barred-in-Deed.new.self)) (step-value.it was) c.args.why)
+    (sym c.in-Deed.is) c.barred-in-Deed.ensures.barred
