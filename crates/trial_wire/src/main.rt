@@ -1,5 +1,5 @@
 //! Rows over what comes and goes on a connection: heads, the calls that they state, the documents that follow them, and
-//! replies; and over command lines.
+//! replies; and over command lines and drill scripts.
 //!
 //! A row is `CRATE CALL WORDS = ANSWER`. The program does the call with the words, and prints the row with what it
 //! answered, so that `stdout` is `stdin` again where each answer is the one that the row wants. A line that begins with
@@ -15,6 +15,7 @@ mod replies;
 mod reply_rows;
 mod request_rows;
 mod requests;
+mod script_rows;
 mod sources;
 mod texts;
 mod value_rows;
@@ -46,6 +47,7 @@ impl Rows for Wires {
             "s3_docs" => document_rows::answer(alloc, &self.kept, words),
             "desk_base" => desk_rows::answer(alloc, &self.kept, words),
             "command_line" => line_rows::answer(alloc, words),
+            "drill_script" => script_rows::answer(alloc, &self.kept, words),
             _ => said(alloc, "no such crate"),
         }
     }
