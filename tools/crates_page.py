@@ -6,7 +6,7 @@
 
 What a crate is says the first sentence of the head of `src/lib.rt` (of `src/main.rt` in a program).
 A layer of `crates.txt` is a line `# NAME: WHAT` and the lines of its crates. A crate stands below those that name it, also in its layer.
-The page of a crate is `crates/NAME/README.md`, with the parts `Proved`, `Only tested` and `Neither`.
+The page of a crate is `crates/NAME/README.md`, with the parts `Proved`, `Only tested` and `Neither`, and maybe `Files`.
 """
 
 import itertools
@@ -58,8 +58,8 @@ def stop_unless_whole(name):
     page = (TOP / "crates" / name / "README.md").read_text()
     if not page.startswith(f"# `{name}`\n"):
         sys.exit(f"crates_page: crates/{name}/README.md has another title")
-    # How a row of a trial program is written stands on its page, too.
-    titles = tuple(it for it in re.findall(r"^## (.+)$", page, re.M) if it != "A row")
+    # How a row of a trial program is written stands on its page, too, and in a larger crate what its files have.
+    titles = tuple(it for it in re.findall(r"^## (.+)$", page, re.M) if it not in ("A row", "Files"))
     if titles != PARTS:
         sys.exit(f"crates_page: crates/{name}/README.md has not the parts {', '.join(PARTS)}")
 
