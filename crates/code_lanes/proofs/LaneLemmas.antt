@@ -1,7 +1,7 @@
 -- What the operations on vectors hold at each lane.
-use Rattle.std.proofs.Common.{◌≡◌, ℕ, ◌+◌, ◌-◌, ◌*◌, ◌/◌, ◌%◌, ◌<◌, ◌≤◌, ◌⊎◌, inl, inr, List, length, get_or, replicate, refl, sym, ap, ◌∙◌, arith, w8}
-use Rattle.std.specs.Simd.Lanes.{zip2, put_chunk}
-use Rattle.std.proofs.lemmas.Simd.{length-zip2, get_or-zip2, get_or-replicate, length-swz_l, get_or-swz_l_below, swz_l, SwzOk, SwzOk-from_below, Each1-from_get_or, get_or-put_chunk_at, get_or-put_chunk_below, get_or-put_chunk_above}
+use Rattle.std.proofs.Common.{◌≡◌, ℕ, ◌+◌, ◌-◌, ◌*◌, ◌/◌, ◌%◌, ◌<◌, ◌≤◌, ◌⊎◌, inl, inr, List, length, get_or, replicate, refl, sym, ap, ◌∙◌, arith, w8, Fits}
+use Rattle.std.specs.Simd.Lanes.{Each1, zip2, put_chunk}
+use Rattle.std.proofs.lemmas.Simd.{length-zip2, get_or-zip2, get_or-replicate, length-swz_l, get_or-swz_l_below, swz_l, SwzOk, SwzOk-from_below, Each1-from_get_or, get_or-put_chunk_at, get_or-put_chunk_below, get_or-put_chunk_above, Each1-get_or}
 use Rattle.code_lanes.specs.Lanes.{HasLanes}
 
 -- an operator on two vectors
@@ -17,10 +17,6 @@ HasLanes-splat f a x p =
     let h = HasLanes-zip2 f a (replicate 32 x) p refl in
     record { long = h.long; each = λ k l. h.each k l ∙ ap (f (get_or a k 0)) (get_or-replicate 32 k x 0 l) }
 
--- a splat
-pub HasLanes-replicate : (x : ℕ) → HasLanes (replicate 32 x) (λ _. x)
-HasLanes-replicate x = record { long = refl; each = λ k l. get_or-replicate 32 k x 0 l }
-
 -- the lanes by another account of them
 pub HasLanes-is : {v : List ℕ} (f g : ℕ → ℕ) → HasLanes v f → ((k : ℕ) → k < 32 → f k ≡ g k) → HasLanes v g
 HasLanes-is f g h same = record { long = h.long; each = λ k l. h.each k l ∙ same k l }
@@ -30,6 +26,10 @@ pub HasLanes-of : (op : ℕ → ℕ → ℕ) {a b : List ℕ} (f g : ℕ → ℕ
 HasLanes-of op {a} {b} f g first second =
     let both = HasLanes-zip2 op a b first.long second.long in
     HasLanes-is _ (λ k. op (f k) (g k)) both (λ k l. ap (λ x. op x (get_or b k 0)) (first.each k l) ∙ ap (λ x. op (f k) x) (second.each k l))
+
+-- each lane of a vector is a byte
+pub lane_byte : (v : List ℕ) → length v ≡ 32 → Each1 (Fits w8) v → (k : ℕ) → k < 32 → get_or v k 0 < 256
+lane_byte v long fits k l = (Each1-get_or (Fits w8) v k 0 (omega arith) fits).fits
 
 module _ (js : List ℕ) (f : ℕ → ℕ) (h : HasLanes js f) (small : (k : ℕ) → k < 32 → f k < 16) where
   -- positions below 16 may be looked up

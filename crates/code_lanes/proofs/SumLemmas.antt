@@ -1,11 +1,13 @@
 -- Steps of a sum of products.
-use Rattle.std.proofs.Common.{◌≡◌, ℕ, ◌+◌, ◌-◌, ◌*◌, ◌<◌, ◌≤◌, List, length, get_or, suc, refl, ap, sym, ◌∙◌, arith, inl, inr}
+use Rattle.std.proofs.Common.{◌≡◌, ℕ, ◌+◌, ◌-◌, ◌*◌, ◌<◌, ◌≤◌, List, length, get_or, zero, suc, refl, ap, sym, ◌∙◌, arith, inl, inr}
 use Rattle.std.specs.Simd.Lanes.{put_chunk}
 use Rattle.std.proofs.lemmas.Bool.{cases_lt}
-use Rattle.std.specs.Int.Bits.{bit_xor}
+use Rattle.std.specs.Int.Bits.{bit_xor, xor_assoc, xor_self, xor_zero_l, xor_zero_r}
 use Rattle.gf256.specs.Field.{product}
+use Rattle.gf256.proofs.BitSums.{xor_interchange, xor_twice}
+use Rattle.gf256.proofs.Products.{product-xor_right, product-zero_right}
 use Rattle.code_lanes.specs.Lanes.{HasLanes}
-use Rattle.code_lanes.specs.Sums.{AreAdded, byte_of_block, sum_of_products}
+use Rattle.code_lanes.specs.Sums.{AreAdded, IsTotal, byte_of_block, sum_at, sum_of_products}
 use Rattle.code_lanes.proofs.LaneLemmas.{HasLanes-is, stored_at, stored_beside}
 
 -- of no products the sum is 0
@@ -21,28 +23,81 @@ sum-next factors values i =
     let next : suc i ≡ i + 1 = omega arith in
     ap (λ n. sum_of_products factors values n) next
 
--- the sums of the first n blocks, at the 32 places from `at` on
-abbrev pub StripOf : List ℕ → ℕ → List ℕ → ℕ → ℕ → List ℕ → Type 0
-StripOf weights width blocks at n sums = HasLanes sums (λ k. sum_of_products (λ i. get_or weights i 0) (byte_of_block width (at + k) blocks) n)
+-- what the values make with the first one
+abbrev pub moved : (ℕ → ℕ) → ℕ → ℕ
+moved values i = bit_xor (values 0) (values i)
 
--- of no block
-pub strip-none : (weights : List ℕ) (width : ℕ) (blocks : List ℕ) (at : ℕ) {sums : List ℕ} → HasLanes sums (λ _. 0) → StripOf weights width blocks at 0 sums
-strip-none weights width blocks at zeros =
-    HasLanes-is _ _ zeros (λ k l. sym (sum-none (λ i. get_or weights i 0) (byte_of_block width (at + k) blocks)))
+-- the sum over sums of values
+sum-values : (factors a b : ℕ → ℕ) (n : ℕ)
+    → sum_of_products factors (λ i. bit_xor (a i) (b i)) n ≡ bit_xor (sum_of_products factors a n) (sum_of_products factors b n)
+unfolding sum_of_products
+sum-values factors a b zero = refl
+sum-values factors a b (suc i) =
+    ap (λ x. bit_xor x (product (factors i) (bit_xor (a i) (b i)))) (sum-values factors a b i)
+    ∙ ap (λ x. bit_xor (bit_xor (sum_of_products factors a i) (sum_of_products factors b i)) x) (product-xor_right (factors i) (a i) (b i))
+    ∙ xor_interchange (sum_of_products factors a i) (sum_of_products factors b i) (product (factors i) (a i)) (product (factors i) (b i))
 
--- of one block more
-pub strip-next : (weights : List ℕ) (width : ℕ) (blocks : List ℕ) (at i : ℕ) {block multiples sums next : List ℕ}
-    → HasLanes block (λ k. get_or blocks (i * width + at + k) 0) → HasLanes multiples (λ k. product (get_or weights i 0) (get_or block k 0))
-    → StripOf weights width blocks at i sums → HasLanes next (λ k. bit_xor (get_or sums k 0) (get_or multiples k 0))
-    → StripOf weights width blocks at (i + 1) next
-strip-next weights width blocks at i {block} {multiples} {sums} {next} loaded multiplied before added =
-    let values : ℕ → ℕ → ℕ = λ k. byte_of_block width (at + k) blocks in
-    let weight : ℕ = get_or weights i 0 in
-    HasLanes-is _ _ added (λ k l.
-    ap (λ x. bit_xor x (get_or multiples k 0)) (before.each k l)
-    ∙ ap (λ x. bit_xor (sum_of_products (λ j. get_or weights j 0) (values k) i) x)
-    (multiplied.each k l ∙ ap (λ x. product weight x) (loaded.each k l ∙ ap (λ p. get_or blocks p 0) (omega arith)))
-    ∙ sum-next (λ j. get_or weights j 0) (values k) i)
+-- the first value makes nothing with itself
+moved-none : (factors values : ℕ → ℕ) → sum_of_products factors (moved values) 1 ≡ 0
+moved-none factors values =
+    sym (sum-next factors (moved values) 0) ∙ ap (λ x. bit_xor x (product (factors 0) (moved values 0))) (sum-none factors (moved values))
+    ∙ xor_zero_l (product (factors 0) (moved values 0)) ∙ ap (λ x. product (factors 0) x) (xor_self (values 0)) ∙ product-zero_right (factors 0)
+
+-- the product of the total with the first value, and the sum over what the others make with it
+moved-all : (weights : List ℕ) (total n : ℕ) (values : ℕ → ℕ) → IsTotal weights total → length weights ≡ n
+    → bit_xor (product total (values 0)) (sum_of_products (λ i. get_or weights i 0) (moved values) n)
+    ≡ sum_of_products (λ i. get_or weights i 0) values (length weights)
+moved-all weights total n values is many =
+    let w : ℕ → ℕ = λ i. get_or weights i 0 in
+    let same : ℕ = sum_of_products w (λ _. values 0) n in
+    ap (λ x. bit_xor x (sum_of_products w (moved values) n)) (is (values 0) ∙ ap (λ m. sum_of_products w (λ _. values 0) m) many)
+    ∙ ap (λ x. bit_xor same x) (sum-values w (λ _. values 0) values n) ∙ xor_twice same (sum_of_products w values n)
+    ∙ ap (λ m. sum_of_products w values m) (sym many)
+
+-- the total's products with the first block, and the sums over what the blocks below n make with it, at the 32 places from `at` on
+abbrev pub StripOf : List ℕ → ℕ → ℕ → List ℕ → ℕ → ℕ → List ℕ → Type 0
+StripOf weights total width blocks at n sums =
+    HasLanes sums (λ k. bit_xor (product total (byte_of_block width (at + k) blocks 0))
+    (sum_of_products (λ i. get_or weights i 0) (moved (byte_of_block width (at + k) blocks)) n))
+
+module _ (weights : List ℕ) (total width : ℕ) (blocks : List ℕ) (at : ℕ) {first : List ℕ}
+    (loaded : HasLanes first (λ k. get_or blocks (at + k) 0)) where
+  -- lane k of the first block
+  at_first : (k : ℕ) → k < 32 → get_or first k 0 ≡ byte_of_block width (at + k) blocks 0
+  at_first k l = loaded.each k l ∙ ap (λ p. get_or blocks p 0) (omega arith)
+
+  -- of the first block alone
+  pub strip-first : {sums : List ℕ} → HasLanes sums (λ k. product total (get_or first k 0)) → StripOf weights total width blocks at 1 sums
+  strip-first {sums} lanes =
+      let w : ℕ → ℕ = λ i. get_or weights i 0 in
+      HasLanes-is _ _ lanes (λ k l.
+      let values : ℕ → ℕ = byte_of_block width (at + k) blocks in
+      ap (λ x. product total x) (at_first k l) ∙ sym (xor_zero_r (product total (values 0)))
+      ∙ ap (λ x. bit_xor (product total (values 0)) x) (sym (moved-none w values)))
+
+  -- of one block more
+  pub strip-next : (i : ℕ) {block both multiples sums next : List ℕ}
+      → HasLanes block (λ k. get_or blocks (i * width + at + k) 0) → HasLanes both (λ k. bit_xor (get_or first k 0) (get_or block k 0))
+      → HasLanes multiples (λ k. product (get_or weights i 0) (get_or both k 0)) → StripOf weights total width blocks at i sums
+      → HasLanes next (λ k. bit_xor (get_or sums k 0) (get_or multiples k 0)) → StripOf weights total width blocks at (i + 1) next
+  strip-next i {block} {both} {multiples} {sums} {next} here added multiplied before more =
+      let w : ℕ → ℕ = λ j. get_or weights j 0 in
+      HasLanes-is _ _ more (λ k l.
+      let values : ℕ → ℕ = byte_of_block width (at + k) blocks in
+      let begun : ℕ = product total (values 0) in
+      let joined : get_or both k 0 ≡ moved values i =
+      added.each k l ∙ ap (λ x. bit_xor x (get_or block k 0)) (at_first k l)
+      ∙ ap (λ x. bit_xor (values 0) x) (here.each k l ∙ ap (λ p. get_or blocks p 0) (omega arith)) in
+      ap (λ x. bit_xor x (get_or multiples k 0)) (before.each k l)
+      ∙ ap (λ x. bit_xor (bit_xor begun (sum_of_products w (moved values) i)) x) (multiplied.each k l ∙ ap (λ x. product (w i) x) joined)
+      ∙ xor_assoc begun (sum_of_products w (moved values) i) (product (w i) (moved values i))
+      ∙ ap (λ x. bit_xor begun x) (sum-next w (moved values) i))
+
+-- of all blocks
+pub strip-all : (weights : List ℕ) (total width : ℕ) (blocks : List ℕ) (at n : ℕ) {sums : List ℕ} → IsTotal weights total → length weights ≡ n
+    → StripOf weights total width blocks at n sums → HasLanes sums (λ k. sum_at weights width blocks (at + k))
+strip-all weights total width blocks at n is many lanes =
+    HasLanes-is _ _ lanes (λ k l. moved-all weights total n (byte_of_block width (at + k) blocks) is many)
 
 -- a walk down over the places of a block, 32 at a time and the last time to the front: what is done after one vector more
 pub stored_next : (width i at : ℕ) (out v : List ℕ) (f : ℕ → ℕ) → 32 ≤ width → length out ≡ width → at ≡ width - 32 * i - 32

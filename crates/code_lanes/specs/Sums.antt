@@ -16,6 +16,10 @@ byte_of_block width k blocks i = slice_index blocks (i * width + k)
 abbrev pub sum_at : List ℕ → ℕ → List ℕ → ℕ → ℕ
 sum_at weights width blocks k = sum_of_products (slice_index weights) (byte_of_block width k blocks) (length weights)
 
+-- an element is the sum of the weights: its product with any other is the sum of theirs
+abbrev pub IsTotal : List ℕ → ℕ → Type 0
+IsTotal weights total = (x : ℕ) → product total x ≡ sum_of_products (slice_index weights) (λ _. x) (length weights)
+
 -- each byte of a block is the sum at its place
 abbrev pub AreSums : List ℕ → List ℕ → List ℕ → Type 0
 AreSums weights blocks sums = (k : ℕ) → k < length sums → slice_index sums k ≡ sum_at weights (length sums) blocks k

@@ -28,13 +28,6 @@ pub(crate) fn store(out: &mut [u8], at: usize, v: u8x32)
 }
 
 #[inline(always)]
-pub(crate) fn zeros() -> u8x32
-    ensures { HasLanes result (λ _. 0) }
-{
-    u8x32::splat(0)
-}
-
-#[inline(always)]
 pub(crate) fn add(a: u8x32, b: u8x32) -> u8x32
     ensures { HasLanes result (λ k. bit_xor (slice_index a k) (slice_index b k)) }
 {
@@ -49,6 +42,17 @@ pub(crate) fn times(table: &[u8; 32], v: u8x32) -> u8x32
     let low = half(table, 0).swizzle_dyn_within::<16>(v & u8x32::splat(15));
     let high = half(table, 16).swizzle_dyn_within::<16>(v >> u8x32::splat(4));
     low ^ high
+}
+
+/// The products of the sum of the weights with each lane. With the sum 1 the lanes stay.
+#[inline(always)]
+pub(crate) fn times_total(total: u8, table: &[u8; 32], v: u8x32) -> u8x32
+    ensures { IsTable total table.now → HasLanes result (λ k. product total (slice_index v k)) }
+{
+    if total == 1 {
+        return v;
+    }
+    times(table, v)
 }
 
 /// Sixteen bytes of a table, twice.

@@ -1,12 +1,15 @@
 //! Sums of products over several blocks, in one pass over the target.
+//!
+//! With t the sum of the weights w_0, w_1, .. the sum over v_0, v_1, .. is t v_0 + w_1 (v_0 + v_1) + w_2 (v_0 + v_2) + ..,
+//! so there is one product fewer where t is 1. The weights of interpolation are such.
 
 ghost use Rattle.std.specs.Prelude.{◌≡◌, ℕ, ◌+◌, ◌*◌, ◌<◌, ◌≤◌, List, length, slice_index};
 ghost use Rattle.code_lanes.specs.Lanes.{HasLanes};
 ghost use Rattle.code_lanes.specs.Sums.{AreSums, byte_of_block, sum_at};
-ghost use Rattle.code_lanes.specs.Tables.{AreTables};
+ghost use Rattle.code_lanes.specs.Tables.{AreSumTables};
 
-use crate::lanes::{LANES, add, load, store, times, zeros};
-use crate::tables::tables_of;
+use crate::lanes::{LANES, add, load, store, times, times_total};
+use crate::tables::{SumTables, sum_tables_of};
 use gf256::mul;
 use std::simd::u8x32;
 
@@ -17,34 +20,53 @@ pub fn sum_into(weights: &[u8], blocks: &[u8], out: &mut [u8])
     requires blocks { length blocks.now ≡ length weights.now * length out.old }
     ensures { AreSums weights.now blocks.now out.new }
 {
-    let width = out.len();
-    if width < LANES {
+    if out.len() < LANES || weights.is_empty() {
         sum_bytes(weights, blocks, out);
         return;
     }
-    let tables = tables_of(weights);
+    let tables = sum_tables_of(weights);
+    // Where the count is written down the loop over the blocks is unrolled.
+    match weights.len() {
+        2 => sum_strips(&tables, 2, blocks, out),
+        4 => sum_strips(&tables, 4, blocks, out),
+        8 => sum_strips(&tables, 8, blocks, out),
+        count => sum_strips(&tables, count, blocks, out),
+    }
+}
+
+/// Fills `out` with the sums over so many blocks.
+#[inline(always)]
+fn sum_strips(tables: &SumTables, count: usize, blocks: &[u8], out: &mut [u8])
+    requires some { 0 < count }
+    requires few { count ≤ 16 }
+    requires wide { 32 ≤ length out.old }
+    requires blocks { length blocks.now ≡ count * length out.old }
+    ensures { (weights : List ℕ) → AreSumTables weights tables.now.total tables.now.whole tables.now.each → length weights ≡ count →
+        AreSums weights blocks.now out.new }
+{
+    let width = out.len();
     for index in 0..width / LANES + 1 {
         let end = width - LANES * index;
         let at = end.saturating_sub(LANES);
-        store(out, at, strip(&tables, weights.len(), blocks, width, at));
+        store(out, at, strip(tables, count, blocks, width, at));
     }
 }
 
 /// The sums at 32 places from `at` on.
 #[inline(always)]
-fn strip(tables: &[[u8; 32]; 16], count: usize, blocks: &[u8], width: usize, at: usize) -> u8x32
+fn strip(tables: &SumTables, count: usize, blocks: &[u8], width: usize, at: usize) -> u8x32
+    requires some { 0 < count }
     requires few { count ≤ 16 }
     requires blocks { length blocks.now ≡ count * width }
     requires within { at + 32 ≤ width }
-    ensures { (weights : List ℕ) → AreTables weights tables.now → length weights ≡ count →
+    ensures { (weights : List ℕ) → AreSumTables weights tables.now.total tables.now.whole tables.now.each → length weights ≡ count →
         HasLanes result (λ k. sum_at weights width blocks.now (at + k)) }
 {
-    let mut sums = zeros();
-    for index in 0..count {
-        sums = add(
-            sums,
-            times(&tables[index], load(blocks, index * width + at)),
-        );
+    let first = load(blocks, at);
+    let mut sums = times_total(tables.total, &tables.whole, first);
+    for index in 1..count {
+        let moved = add(first, load(blocks, index * width + at));
+        sums = add(sums, times(&tables.each[index], moved));
     }
     sums
 }

@@ -1,13 +1,13 @@
 //! Two sums over the same blocks, each of which is read once.
 
-ghost use Rattle.std.specs.Prelude.{◌≡◌, ℕ, ◌+◌, ◌*◌, ◌≤◌, List, length};
+ghost use Rattle.std.specs.Prelude.{◌≡◌, ℕ, ◌+◌, ◌*◌, ◌<◌, ◌≤◌, List, length};
 ghost use Rattle.code_lanes.specs.Lanes.{HasLanes};
 ghost use Rattle.code_lanes.specs.Sums.{AreSums, sum_at};
-ghost use Rattle.code_lanes.specs.Tables.{AreTables};
+ghost use Rattle.code_lanes.specs.Tables.{AreSumTables};
 
-use crate::lanes::{LANES, add, load, store, times, zeros};
+use crate::lanes::{LANES, add, load, store, times, times_total};
 use crate::sums::sum_bytes;
-use crate::tables::tables_of;
+use crate::tables::{SumTables, sum_tables_of};
 use std::simd::u8x32;
 
 /// Does what [`sum_into`](crate::sum_into) does with the weights `first` and the target `out`, and with the weights
@@ -21,12 +21,12 @@ pub fn two_sums_into(first: &[u8], second: &[u8], blocks: &[u8], out: &mut [u8],
     ensures second { AreSums second.now blocks.now other.new }
 {
     let width = out.len();
-    if width < LANES {
+    if width < LANES || first.is_empty() {
         sum_bytes(first, blocks, out);
         sum_bytes(second, blocks, other);
         return;
     }
-    let (tables, others) = (tables_of(first), tables_of(second));
+    let (tables, others) = (sum_tables_of(first), sum_tables_of(second));
     for index in 0..width / LANES + 1 {
         let end = width - LANES * index;
         let at = end.saturating_sub(LANES);
@@ -39,27 +39,29 @@ pub fn two_sums_into(first: &[u8], second: &[u8], blocks: &[u8], out: &mut [u8],
 /// Both sums at 32 places from `at` on.
 #[inline(always)]
 fn two_strips(
-    first: &[[u8; 32]; 16],
-    second: &[[u8; 32]; 16],
+    first: &SumTables,
+    second: &SumTables,
     count: usize,
     blocks: &[u8],
     width: usize,
     at: usize,
 ) -> (u8x32, u8x32)
+    requires some { 0 < count }
     requires few { count ≤ 16 }
     requires blocks { length blocks.now ≡ count * width }
     requires within { at + 32 ≤ width }
-    ensures first { (weights : List ℕ) → AreTables weights first.now → length weights ≡ count →
+    ensures first { (weights : List ℕ) → AreSumTables weights first.now.total first.now.whole first.now.each → length weights ≡ count →
         HasLanes result.0 (λ k. sum_at weights width blocks.now (at + k)) }
-    ensures second { (weights : List ℕ) → AreTables weights second.now → length weights ≡ count →
+    ensures second { (weights : List ℕ) → AreSumTables weights second.now.total second.now.whole second.now.each → length weights ≡ count →
         HasLanes result.1 (λ k. sum_at weights width blocks.now (at + k)) }
 {
-    let mut sums = zeros();
-    let mut others = zeros();
-    for index in 0..count {
-        let block = load(blocks, index * width + at);
-        sums = add(sums, times(&first[index], block));
-        others = add(others, times(&second[index], block));
+    let begin = load(blocks, at);
+    let mut sums = times_total(first.total, &first.whole, begin);
+    let mut others = times_total(second.total, &second.whole, begin);
+    for index in 1..count {
+        let moved = add(begin, load(blocks, index * width + at));
+        sums = add(sums, times(&first.each[index], moved));
+        others = add(others, times(&second.each[index], moved));
     }
     (sums, others)
 }
