@@ -7,7 +7,8 @@
 //!
 //! The product of a byte is looked up by its two halves, in two tables of sixteen bytes for each weight. A target of sums
 //! is walked down in steps of the 32 bytes of a vector, and the last step begins at its front, however far it overlaps
-//! the one before. The sums of a step stay in vectors over all blocks and are written once.
+//! the one before. The sums of a step stay in vectors over all blocks and are written once. Where the weights of a sum
+//! add up to 1, as those of interpolation do, it takes one product fewer than it has weights.
 //!
 //! The crate stands on `gf256` alone, and knows of no plans and codewords. It promises that each byte of a target is the
 //! sum, by the field's product, of the bytes at its place. It takes no memory, and can't fail.

@@ -1,7 +1,7 @@
 //! Sums of products over several blocks, in one pass over the target.
 //!
 //! With t the sum of the weights w_0, w_1, .. the sum over v_0, v_1, .. is t v_0 + w_1 (v_0 + v_1) + w_2 (v_0 + v_2) + ..,
-//! so there is one product fewer where t is 1. The weights of interpolation are such.
+//! so there is one product fewer where t is 1. The weights of interpolation add up to 1.
 
 ghost use Rattle.std.specs.Prelude.{◌≡◌, ℕ, ◌+◌, ◌*◌, ◌<◌, ◌≤◌, List, length, slice_index};
 ghost use Rattle.code_lanes.specs.Lanes.{HasLanes};
@@ -28,7 +28,9 @@ pub fn sum_into(weights: &[u8], blocks: &[u8], out: &mut [u8])
     // Where the count is written down the loop over the blocks is unrolled.
     match weights.len() {
         2 => sum_strips(&tables, 2, blocks, out),
+        3 => sum_strips(&tables, 3, blocks, out),
         4 => sum_strips(&tables, 4, blocks, out),
+        6 => sum_strips(&tables, 6, blocks, out),
         8 => sum_strips(&tables, 8, blocks, out),
         count => sum_strips(&tables, count, blocks, out),
     }

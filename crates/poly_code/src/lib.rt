@@ -9,8 +9,9 @@
 //! [`rebuild`] gives the block of the one codeword through the D blocks that it is given, and that this codeword is one
 //! ([`codeword_laws`]). It takes no memory and refuses nothing.
 //!
-//! Where D is 2, 4 or 8 the parity comes of the transform of `code_lanes`, else of weighted sums. The weights are worked
-//! out once a call. A block that is at hand is copied.
+//! Where D is 2, 4 or 8 the parity comes of the transform of `code_lanes`, else of weighted sums. A lost block is one such
+//! sum of the D blocks at hand, and one that is at hand is copied. The weights are Lagrange's: a row of the inverse of the
+//! code's matrix at the rows at hand. They are worked out once a call, and add up to 1, so a byte takes D - 1 products.
 #![tactic(auto)]
 
 mod block;
