@@ -1,7 +1,6 @@
 pub mod AccountLemmas
 pub mod AtHandLemmas
 pub mod CallLemmas
-pub mod ClashLemmas
 pub mod DataLemmas
 pub mod FetchLemmas
 pub mod GivingLemmas

@@ -24,8 +24,8 @@ use Rattle.get_read.specs.PassedDrives.{PassesDrive}
 use Rattle.get_read.specs.Readers.{AreCalls, IsSearchOf, set_of, wants}
 use Rattle.get_read.specs.Refusing.{NoneServesIn}
 use Rattle.get_read.specs.declared.faults.BodyFault.TheVariants.{ShardQuorum, NoMemory}
-use Rattle.get_read.specs.declared.search.Looked.{Looked}
-use Rattle.get_read.specs.declared.search.Looked.TheVariants.{Size, File}
+use Rattle.get_read.specs.declared.search.SearchFind.{SearchFind}
+use Rattle.get_read.specs.declared.search.SearchFind.TheVariants.{Size, File}
 use Rattle.get_read.specs.declared.search.Search.{Search}
 use Rattle.get_read.proofs.OneCallLemmas.{called_once, none_called}
 use Rattle.get_read.proofs.SearchLemmas.{none_serves, search_found, search_passed, search_sized}
@@ -65,7 +65,7 @@ look_served old name file m was now same long seen served = (
 
 -- one call was made before the memory was short
 pub look_without : {D : Type 0} (ghosts : Ghosts D) (file name : List ℕ) (fault : FetchFault) (was now : D) → WasSeen (Showed name 0 file) (view ghosts was) (view ghosts now)
-    → IdleOrCalled {T = Looked} ghosts (Err fault) was now
+    → IdleOrCalled {T = SearchFind} ghosts (Err fault) was now
 look_without ghosts file name NoRoom was now seen = inr (Showed name 0 file, seen)
 look_without ghosts file name (Because why) was now seen = tt
 

@@ -31,7 +31,7 @@ use Rattle.get_read.specs.declared.fetch.Fetching.{Fetching as FetchingRecord}
 use Rattle.get_read.specs.declared.fetch.StripeFind.TheVariants.{Table, Block}
 use Rattle.get_read.specs.declared.state.PartWork.{PartWork}
 use Rattle.get_read.specs.declared.state.StripeWork.{StripeWork}
-use Rattle.get_read.specs.declared.calls.Fetched.{Fetched}
+use Rattle.get_read.specs.declared.calls.ShownBlock.{ShownBlock}
 use Rattle.get_read.proofs.FetchLemmas.{block_now, judged_so, stripe_added, stripe_on, stripe_passed, table_now, tables_more, tables_on}
 use Rattle.get_read.proofs.OneCallLemmas.{called_once, none_called, shown_bytes}
 
@@ -209,7 +209,7 @@ module _ {D : Type 0} (ghosts : Ghosts D) (old new : FetchingRecord) where
       }
 
   -- its block is at hand, and the stripe is judged
-  pub fetch_added : (fetched : Fetched) (mid : StripeWork) (result : Result (Option (Vec ℕ Global)) BodyFault) (drives : List D) (e now : D)
+  pub fetch_added : (fetched : ShownBlock) (mid : StripeWork) (result : Result (Option (Vec ℕ Global)) BodyFault) (drives : List D) (e now : D)
       → old.work.tried < length drives → old.work.tried < (set_of old.asked).drives → StaysFor
       → FetchCall old (Ok (Block fetched)) (view ghosts (slice_index_or drives old.work.tried e)) (view ghosts now)
       → PassesDrive (set_of old.asked) Good old.work.tried mid.tried old.work.whys mid.whys
@@ -278,7 +278,7 @@ module _ {D : Type 0} (ghosts : Ghosts D) (old new : FetchingRecord) where
   }
 
   -- there was not enough memory, after a block was shown
-  pub fetch_unkept : (fetched : Fetched) (drives : List D) (e now : D) → old.work.tried < length drives
+  pub fetch_unkept : (fetched : ShownBlock) (drives : List D) (e now : D) → old.work.tried < length drives
       → old.work.tried < (set_of old.asked).drives → StaysFor → FetchCall old (Ok (Block fetched)) (view ghosts (slice_index_or drives old.work.tried e)) (view ghosts now)
       → FetchSteps {Z = Global} ghosts old new (Err NoMemory) drives (slice_set drives old.work.tried now)
   fetch_unkept fetched drives e now low inside stays call =

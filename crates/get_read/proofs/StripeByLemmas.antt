@@ -1,12 +1,14 @@
 -- A stripe that is rebuilt from blocks that were shown and verify is a body's, or there is a clash.
-use Rattle.std.proofs.Common.{◌≡◌, ◌⊎◌, ℕ, ◌<◌, ◌∙◌, List, [], length, slice_index, slice_index_or, map, sym, ap, refl, inl, inr, arith}
+use Rattle.std.proofs.Common.{◌≡◌, ◌⊎◌, ℕ, ◌+◌, ◌*◌, ◌<◌, ◌∙◌, List, [], length, slice_index, slice_index_or, take, drop, map, sym, ap, refl, inl, inr, arith}
 use Rattle.std.specs.Prelude.{All}
-use Rattle.std.proofs.lemmas.List.{get_or-map}
+use Rattle.std.proofs.lemmas.List.{drop_at, drop_more, get_or-map, length-take-le, take_at}
+use Rattle.sha2.proofs.Facts256.{length-sha256}
 use Rattle.sha2.specs.Sha256.{sha256}
 use Rattle.drive_base.specs.Plan.{data_drives}
 use Rattle.drive_base.specs.declared.plan.SetPlan.{SetPlan}
 use Rattle.manifest_file.specs.declared.manifest.ManifestPart.{ManifestPart}
 use Rattle.shard_file.proofs.Pieces.{length-piece}
+use Rattle.shard_file.proofs.ShardLemmas.{length-table_of, table_around}
 use Rattle.shard_file.specs.Shards.{root_of, table_of}
 use Rattle.shard_file.specs.Stripes.{piece, stripe_size, stripe_count, stripe_length, block_size}
 use Rattle.body_print.proofs.ByteLemmas.{table_or_block_is_bytes}
@@ -17,11 +19,21 @@ use Rattle.get_read.specs.Account.{Account}
 use Rattle.get_read.specs.Progress.{IsStripeBy, PartClashIn}
 use Rattle.get_read.specs.Causes.{digest_in}
 use Rattle.get_read.specs.Given.{MetIn}
-use Rattle.get_read.specs.Stripes.{IsRebuilt}
+use Rattle.get_read.specs.Stripes.{EachStripe, IsRebuilt}
 use Rattle.get_read.specs.Letters.{GaveBlockIn, ShowedAt}
 use Rattle.get_read.specs.Blocks.{row_at}
 use Rattle.get_read.specs.declared.blocks.Blocks.{Blocks}
-use Rattle.get_read.proofs.ClashLemmas.{digest_of_block}
+
+-- the digest of a block in the digest table
+digest_of_block : (blocks : List (List ℕ)) (i : ℕ) → i < length blocks → digest_in (table_of blocks) i ≡ sha256 (slice_index_or blocks i [])
+digest_of_block blocks i low =
+    let block = slice_index_or blocks i [] in
+    let before : length (table_of (take i blocks)) ≡ 32 * i =
+    length-table_of (take i blocks) ∙ ap (λ (m : ℕ). 32 * m) (length-take-le i blocks (omega arith)) in
+    ap (λ (table : List ℕ). take 32 (drop (32 * i) table)) (table_around blocks i)
+    ∙ ap (take 32) (drop_at (table_of (take i blocks)) (table_of (drop i blocks)) (32 * i) before)
+    ∙ ap (λ (rest : List (List ℕ)). take 32 (table_of rest)) (drop_more blocks i [] low)
+    ∙ take_at (sha256 block) (table_of (drop (i + 1) blocks)) 32 (length-sha256 block)
 
 -- bytes that were shown were met
 pub shown_is_met : (calls : Account) (k : ℕ) (name : List ℕ) (at : ℕ) (bytes : List ℕ) → ShowedAt calls k name at bytes → MetIn calls bytes
@@ -93,9 +105,7 @@ pub rebuilt_from : (set : SetPlan) (part : ManifestPart) (i : ℕ) (rows : List 
     → ((j : ℕ) → j < length rows → GaveBlockIn (data_drives set.drives set.parity) part i (slice_index_or part.roots (slice_index rows j) []) calls calls
     (slice_index rows j) (block j))
     → length stripe ≡ stripe_length part.length i
-    → ((other : List ℕ) (shards : List (List ℕ)) → length other ≡ stripe_length part.length i
-    → AreStripeBlocks set.drives (data_drives set.drives set.parity) other shards
-    → ((j : ℕ) → j < length rows → block j ≡ slice_index_or shards (slice_index rows j) []) → stripe ≡ other)
+    → EachStripe set (stripe_length part.length i) rows block (λ other _. stripe ≡ other)
     → IsStripeBy set part i stripe calls
 rebuilt_from set part i rows block stripe calls within below each long rebuilt = record {
   long = long;

@@ -16,7 +16,7 @@ use Rattle.body_print.specs.Names.{shard_name}
 use Rattle.get_read.specs.Account.{WasSeen}
 use Rattle.get_read.specs.Causes.{digest_in}
 use Rattle.get_read.specs.Letters.{TellsNoBytes, TellsNoPiece, TellsNoSize, TellsNoTable}
-use Rattle.get_read.specs.declared.calls.Fetched.{Fetched}
+use Rattle.get_read.specs.declared.calls.ShownBlock.{ShownBlock}
 
 -- a call was seen that tells so
 abbrev pub WasSeenSo : (Seen → Type 0) → DriveView → DriveView → Type 0
@@ -41,7 +41,7 @@ TableCall d part root (Err (Because why)) old new = (is_good why ≡ false) × W
 TableCall d part root (Err NoMemory) old new = Unit {0}
 
 -- a call for the block of a stripe, whose digest a table has
-abbrev pub BlockCall : ℕ → ManifestPart → ℕ → List ℕ → Result Fetched FetchFault → DriveView → DriveView → Type 0
+abbrev pub BlockCall : ℕ → ManifestPart → ℕ → List ℕ → Result ShownBlock FetchFault → DriveView → DriveView → Type 0
 BlockCall d part i table (Ok fetched) old new = (length fetched.block.items ≡ block_size d (stripe_length part.length i))
     × (fetched.stored ≡ digest_in table i) × WasSeen (Showed (shard_name part.id) (block_place d i) fetched.block.items) old new
 BlockCall d part i table (Err (Because why)) old new = (is_good why ≡ false) × WasSeenSo (TellsNoBytes d part i why) old new

@@ -31,11 +31,11 @@ use Rattle.get_read.specs.Refusing.{FewGiveIn, NoneServesIn}
 use Rattle.get_read.specs.Windows.{AreAhead, AreRuns, WindowCall, digests_in}
 use Rattle.get_read.specs.declared.faults.BodyFault.{BodyFault}
 use Rattle.get_read.specs.declared.faults.BodyFault.TheVariants.{InvalidRange, ShardQuorum, NoMemory as NoRoom}
-use Rattle.get_read.specs.declared.calls.Fetched.{Fetched}
+use Rattle.get_read.specs.declared.calls.ShownBlock.{ShownBlock}
 use Rattle.get_read.specs.declared.state.Asked.{Asked}
 use Rattle.get_read.specs.declared.search.Search.{Search}
-use Rattle.get_read.specs.declared.search.Looked.{Looked}
-use Rattle.get_read.specs.declared.search.Looked.TheVariants.{Size, File}
+use Rattle.get_read.specs.declared.search.SearchFind.{SearchFind}
+use Rattle.get_read.specs.declared.search.SearchFind.TheVariants.{Size, File}
 use Rattle.get_read.specs.declared.fetch.StripeFind.{StripeFind}
 use Rattle.get_read.specs.declared.fetch.StripeFind.TheVariants.{Table, Block}
 use Rattle.get_read.specs.declared.fetch.Fetching.{Fetching}
@@ -44,7 +44,7 @@ use Rattle.get_read.specs.declared.window.Window.{Window}
 use Rattle.get_read.specs.declared.window.WindowFind.{WindowFind}
 
 -- a call of the next drive of a search gives the length of its file, or the manifest, which serves, or why there is none
-abbrev pub LookCall : Search → Result Looked FetchFault → DriveView → DriveView → Type 0
+abbrev pub LookCall : Search → Result SearchFind FetchFault → DriveView → DriveView → Type 0
 LookCall old (Ok (Size n)) before after = (n ≤ LONGEST_FILE) × WasSeen (Sized (manifest_name old.asked.id) n) before after × (old.size ≡ None)
 LookCall old (Ok (File m)) before after = (old.size ≡ Some (length (file_of m))) × IsCanonical m × Serves (wants old.asked) m
     × WasSeen (Showed (manifest_name old.asked.id) 0 (file_of m)) before after
@@ -131,7 +131,7 @@ pub record ShowsTableNow (old : Fetching) (part : ManifestPart) (table : List �
   pub was : WasSeen (Showed (shard_name part.id) (table_place (data_of old) part.length) table) before after
 
 -- a block was shown now, and the table that is held has this digest for it
-pub record FetchesBlock (old : Fetching) (part : ManifestPart) (fetched : Fetched) (before after : DriveView) : Type 0 where
+pub record FetchesBlock (old : Fetching) (part : ManifestPart) (fetched : ShownBlock) (before after : DriveView) : Type 0 where
   pub some : 0 < length (next_table old)
   pub size : length fetched.block.items ≡ old.work.size
   pub stored : fetched.stored ≡ digest_in (next_table old) old.work.stripe

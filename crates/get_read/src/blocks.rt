@@ -10,7 +10,7 @@ ghost use Rattle.get_read.specs.Stripes.{EachStripeOf, MakeStripe};
 ghost use Rattle.get_read.specs.Blocks.{AreAtHand, AreSifted, block_at};
 ghost use Rattle.get_read.specs.declared.blocks.Blocks.{Blocks};
 
-use crate::calls::Fetched;
+use crate::calls::ShownBlock;
 use call_types::{Why, Whys};
 use drive_base::{MOST_DRIVES, SetPlan};
 use poly_code::rebuild;
@@ -31,7 +31,7 @@ pub struct Blocks {
 }
 
 /// Adds the block of one more drive.
-pub fn add_block(found: &mut Blocks, index: u8, fetched: &Fetched) -> Result<(), AllocError>
+pub fn add_block(found: &mut Blocks, index: u8, fetched: &ShownBlock) -> Result<(), AllocError>
     ensures rows { IsOk result → found.new.rows.items ≡ found.old.rows.items ++ index ∷ [] }
     ensures stored { IsOk result → found.new.stored.items ≡ found.old.stored.items ++ fetched.now.stored ∷ [] }
     ensures bytes { IsOk result → found.new.bytes.items ≡ found.old.bytes.items ++ fetched.now.block.items }

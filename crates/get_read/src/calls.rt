@@ -21,7 +21,7 @@ use std::alloc::Global;
 
 /// A block as its drive shows it, and the digest that the drive's table has for it. They are not compared yet.
 #[derive(Drop)]
-pub struct Fetched {
+pub struct ShownBlock {
     /// The digest in the table.
     pub stored: [u8; 32],
     /// The bytes of the block.
@@ -115,7 +115,7 @@ pub fn call_block<D: Drive>(
     name: &str,
     table: &[u8],
     drive: &mut D,
-) -> Result<Fetched, FetchFault>
+) -> Result<ShownBlock, FetchFault>
     requires within { stripe < stripe_count part.now.length }
     requires table { length table.now ≡ 32 * stripe_count part.now.length }
     requires name { name.now ≡ shard_name part.now.id }
@@ -127,7 +127,7 @@ pub fn call_block<D: Drive>(
     let stored = digest_of(table, stripe);
     let (at, long) = (place.block, place.length);
     match call_piece(alloc, drive, FileKind::Shard, name, at, long) {
-        Ok(block) => Ok(Fetched { stored, block }),
+        Ok(block) => Ok(ShownBlock { stored, block }),
         Err(fault) => Err(fault),
     }
 }

@@ -9,7 +9,7 @@ ghost use Rattle.shard_file.specs.Stripes.{block_size, stripe_length, stripe_siz
 ghost use Rattle.get_read.specs.Causes.{body_length};
 ghost use Rattle.get_read.specs.Windows.{FitsAhead};
 
-use crate::calls::{Fetched, call_block, call_piece, call_table};
+use crate::calls::{ShownBlock, call_block, call_piece, call_table};
 use crate::faults::BodyFault;
 use crate::state::{Asked, PartWork, StripeWork};
 use crate::window::{Window, WindowFind};
@@ -62,7 +62,7 @@ pub enum StripeFind {
     /// The digest table of a drive's shard.
     Table(Vec<u8>),
     /// A block.
-    Block(Fetched),
+    Block(ShownBlock),
 }
 
 impl Fetching {
@@ -241,7 +241,7 @@ impl Fetching {
         if !window.verifies() {
             return Ok(None);
         }
-        let bytes = window.rebuilt(alloc, &set)?;
+        let bytes = window.rebuild(alloc, &set)?;
         Ok(Some(bytes))
     }
 

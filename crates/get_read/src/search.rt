@@ -54,7 +54,7 @@ pub struct Search {
 
 /// What a call of a search gave.
 #[derive(Drop)]
-pub enum Looked {
+pub enum SearchFind {
     /// The length of the file.
     Size(u64),
     /// The manifest that the file has.
@@ -105,11 +105,11 @@ impl Search {
         }
         let drive = &mut drives[self.tried as usize];
         match self.look(alloc, drive) {
-            Ok(Looked::Size(size)) => {
+            Ok(SearchFind::Size(size)) => {
                 self.size = Some(size);
                 Ok(None)
             }
-            Ok(Looked::File(manifest)) => Ok(Some(manifest)),
+            Ok(SearchFind::File(manifest)) => Ok(Some(manifest)),
             Err(FetchFault::NoMemory) => Err(BodyFault::NoMemory),
             Err(FetchFault::Because(why)) => {
                 self.pass(why);
@@ -122,7 +122,7 @@ impl Search {
     }
 
     /// One call of a drive: its file's length, or then the file, and the manifest if it serves.
-    fn look<D: Drive>(&self, alloc: Global, drive: &mut D) -> Result<Looked, FetchFault>
+    fn look<D: Drive>(&self, alloc: Global, drive: &mut D) -> Result<SearchFind, FetchFault>
         ensures called { LookCall self.now result (view D.Drive drive.old) (view D.Drive drive.new) }
         ensures idle { IdleOrCalled D.Drive result drive.old drive.new }
         ensures read { OnlyRead (view D.Drive drive.old) (view D.Drive drive.new) }
@@ -133,11 +133,11 @@ impl Search {
             if size > LONGEST_FILE {
                 return Err(FetchFault::Because(Why::Damaged(Damage::Long(size))));
             }
-            return Ok(Looked::Size(size));
+            return Ok(SearchFind::Size(size));
         };
         let file = call_piece(alloc, drive, FileKind::Manifest, name, 0, long)?;
-        match served(alloc, &self.asked.wanted, file.as_slice()) {
-            Ok(manifest) => Ok(Looked::File(manifest)),
+        match read_manifest(alloc, &self.asked.wanted, file.as_slice()) {
+            Ok(manifest) => Ok(SearchFind::File(manifest)),
             Err(fault) => Err(fault),
         }
     }
@@ -158,11 +158,11 @@ impl Search {
 }
 
 /// The manifest of a file, if it serves.
-fn served(alloc: Global, wanted: &Wanted, file: &[u8]) -> Result<Manifest, FetchFault>
+fn read_manifest(alloc: Global, wanted: &Wanted, file: &[u8]) -> Result<Manifest, FetchFault>
     ensures { IsServed (wanted_of wanted.now.set wanted.now.print wanted.now.reach) file.now result }
 {
     match read(alloc, file) {
-        Ok(manifest) => checked(wanted, manifest, file.len() as u64),
+        Ok(manifest) => check_manifest(wanted, manifest, file.len() as u64),
         Err(RecordFault::Unsealed(damage)) => Err(FetchFault::Because(Why::Damaged(damage))),
         Err(RecordFault::NotCanonical(place)) => {
             Err(FetchFault::Because(Why::Damaged(Damage::Spelling(place))))
@@ -172,7 +172,7 @@ fn served(alloc: Global, wanted: &Wanted, file: &[u8]) -> Result<Manifest, Fetch
 }
 
 /// A manifest, if it serves. Its file has so many bytes.
-fn checked(wanted: &Wanted, manifest: Manifest, long: u64) -> Result<Manifest, FetchFault>
+fn check_manifest(wanted: &Wanted, manifest: Manifest, long: u64) -> Result<Manifest, FetchFault>
     requires canonical { IsCanonical manifest }
     requires long { long ≡ length (file_of manifest) }
     ensures { IsServed (wanted_of wanted.now.set wanted.now.print wanted.now.reach) (file_of manifest) result }

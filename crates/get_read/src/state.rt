@@ -6,7 +6,7 @@ ghost use Rattle.shard_file.specs.Stripes.{stripe_count};
 ghost use Rattle.get_read.specs.Blocks.{AreAtHand, all_bytes};
 
 use crate::blocks::{Blocks, add_block, are_enough, sift, stripe_of};
-use crate::calls::{Fetched, past_out};
+use crate::calls::{ShownBlock, past_out};
 use crate::faults::BodyFault;
 use crate::fetch::Fetching;
 use crate::search::{Search, Wanted};
@@ -125,7 +125,12 @@ impl StripeWork {
     }
 
     /// Adds the block of the drive that was called last. For want of memory there are no blocks any more.
-    pub fn add(&mut self, alloc: Global, set: &SetPlan, fetched: &Fetched) -> Result<(), AllocError>
+    pub fn add(
+        &mut self,
+        alloc: Global,
+        set: &SetPlan,
+        fetched: &ShownBlock,
+    ) -> Result<(), AllocError>
         requires tried { self.old.tried < set.now.drives }
         requires letters { length self.old.whys ≡ set.now.drives }
         requires size { length fetched.now.block.items ≡ self.old.size }

@@ -98,7 +98,7 @@ impl Window {
     }
 
     /// The bytes of the stripes.
-    pub fn rebuilt(&self, alloc: Global, set: &SetPlan) -> Result<Vec<u8>, AllocError>
+    pub fn rebuild(&self, alloc: Global, set: &SetPlan) -> Result<Vec<u8>, AllocError>
         requires rows { length self.now.rows.items ≡ data_drives set.now.drives set.now.parity }
         requires below { self.now.tried ≤ set.now.drives }
         requires size { self.now.size ≡ block_size (data_drives set.now.drives set.now.parity) stripe_size }

@@ -1,4 +1,4 @@
-use Rattle.std.proofs.Common.{rules, ◌<◌, ◌≡◌, ◌∙◌, ◌*◌, ℕ, ap, length, refl, slice_index_or, arith}
+use Rattle.std.proofs.Common.{rules, ◌≡◌, ◌∙◌, ◌*◌, ℕ, ap, refl, arith}
 use Rattle.std.specs.Prelude.{Err}
 use Rattle.shard_file.specs.Stripes.{stripe_count, stripe_length}
 use Rattle.get_read.specs.Progress.{next_table}

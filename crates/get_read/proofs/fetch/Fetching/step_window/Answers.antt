@@ -7,7 +7,7 @@ use Rattle.manifest_file.specs.declared.manifest.ManifestPart.{ManifestPart}
 use Rattle.body_print.specs.Names.{shard_name}
 use Rattle.shard_file.specs.Shards.{block_place}
 use Rattle.get_read.specs.Account.{WasSeen}
-use Rattle.get_read.specs.Progress.{data_of, next_digests, part_of, table_held}
+use Rattle.get_read.specs.Progress.{data_of, part_of, table_held}
 use Rattle.get_read.specs.Blocks.{all_bytes}
 use Rattle.get_read.specs.Measure.{ahead_left, alone_left, one_held, run_left}
 use Rattle.get_read.specs.Readers.{set_of}

@@ -1,4 +1,4 @@
-use Rattle.std.proofs.Common.{◌≡◌, ◌<◌, ap, length, refl, slice_index_or, arith}
+use Rattle.std.proofs.Common.{◌≡◌, ap, refl, arith}
 use Rattle.std.specs.Prelude.{None, Ok}
 use Rattle.manifest_file.specs.declared.manifest.Manifest.{Manifest}
 use Rattle.get_read.specs.Measure.{one_told}

@@ -5,7 +5,7 @@ use Rattle.shard_file.specs.Stripes.{piece, stripe_size}
 use Rattle.get_read.specs.Windows.{run_block}
 use Rattle.get_read.proofs.PieceLemmas.{piece_added}
 use Rattle.get_read.proofs.WindowLemmas.{piece_of_before}
-use Rattle.get_read.proofs.window.Window.rebuilt.Goals as goal
+use Rattle.get_read.proofs.window.Window.rebuild.Goals as goal
 
 pub loop-stripe-preserved : goal.loop-stripe-preserved
 loop-stripe-preserved c =

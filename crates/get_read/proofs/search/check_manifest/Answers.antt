@@ -1,7 +1,7 @@
 use Rattle.std.proofs.Common.{ap, refl, inr, arith}
 use Rattle.seal_file.specs.declared.damage.Damage.TheVariants.{Spelling}
 use Rattle.get_read.proofs.ManifestLemmas.{length-file_of}
-use Rattle.get_read.proofs.search.checked.Goals as goal
+use Rattle.get_read.proofs.search.check_manifest.Goals as goal
 
 pub overflow_sub-result : goal.overflow_sub-result
 overflow_sub-result c = omega (arith, length-file_of c.args.manifest, c.requires.long)

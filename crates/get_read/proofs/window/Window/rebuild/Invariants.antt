@@ -2,7 +2,7 @@ use Rattle.std.proofs.Common.{◌≡◌, ◌<◌, ◌*◌, ℕ, length}
 use Rattle.shard_file.specs.Stripes.{piece, stripe_size}
 use Rattle.get_read.specs.Stripes.{EachStripe}
 use Rattle.get_read.specs.Windows.{run_block}
-use Rattle.get_read.proofs.window.Window.rebuilt.Given as goal
+use Rattle.get_read.proofs.window.Window.rebuild.Given as goal
 
 -- the stripes so far are there
 abbrev pub invariant-loop-stripe : goal.invariant-loop-stripe
