@@ -37,11 +37,11 @@ use std::alloc::Global;
 
 impl<D: Drive, A: Audit> Slot<D, A> {
     /// Commits a change of a key or of a bucket: looks at its register, completes what is pending there, and does the deed. `Ok` tells what the call is
-    /// replied; its change is acknowledged then, where it made one. A deed that brings data comes with the flight of its put, which ends on every answer.
+    /// replied, and its change is acknowledged then, if it made one. A deed that brings data comes with the flight of its put. The put ends on every answer.
     ///
-    /// `NotInFlight` where that flight isn't listed, before anything is looked at; `Key` where the state of the key refuses the act; `Quorum` where the
-    /// register refuses the look, the completion of what is pending, or the deed's own writes: then the change may have taken effect, or may take effect
-    /// later. `SeqSpent`, `AuditFailed` and `NoMemory` change nothing but the flight.
+    /// Where the slot doesn't list the flight, the section is refused with `NotInFlight` before it looks at anything. `Key` tells that the state of the key
+    /// refuses the act. `Quorum` tells that the register refuses the look, the completion of what is pending, or the deed's own writes. After a refusal of
+    /// its own writes the change may have taken effect, or may take effect later. `SeqSpent`, `AuditFailed` and `NoMemory` change nothing but the flight.
     pub fn commit(
         &mut self,
         alloc: Global,

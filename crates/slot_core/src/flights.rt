@@ -26,8 +26,8 @@ use stamp_id::{ChangeId, VersionId};
 use std::alloc::Global;
 
 impl<D: Drive, A: Audit> Slot<D, A> {
-    /// Begins a put of a key: draws the id of its data, and lists it as under way. It makes the room in the trash that giving it up needs. `SeqSpent` where
-    /// the slot's numbers are spent, and `NoMemory`; no lane is called.
+    /// Begins a put of a key: draws the id of its data, and lists the put as under way. It makes the room in the trash that giving the put up needs.
+    /// The section is refused with `SeqSpent` where the slot's numbers are spent, and with `NoMemory`. It calls no lane.
     pub fn begin_put(&mut self, alloc: Global, at: &Key) -> Turn<Flight>
         requires turns { (numbers_of self.old).turns + 1 < 2 ^ 64 }
         requires bucket { IsUtf8 at.now.bucket }
@@ -83,7 +83,8 @@ impl<D: Drive, A: Audit> Slot<D, A> {
         Ok(Flight { id, name })
     }
 
-    /// Gives a put up: it isn't under way any more, and its data is trash. A flight that isn't listed changes nothing. It takes no memory, and is always done.
+    /// Gives a put up: the slot lists it no more, and its data is trash. A flight that isn't listed changes nothing. The section doesn't allocate, and is
+    /// never refused.
     pub fn drop_put(&mut self, flight: Flight) -> Turn<()>
         requires turns { (numbers_of self.old).turns + 1 < 2 ^ 64 }
         ensures turns { SlotTurnsQuietly A.entries A.count self.old self.new result }
@@ -127,7 +128,7 @@ pub(crate) enum Landing {
     Missing(VersionId),
 }
 
-/// Takes the put that a commit was handed off the list. It takes no memory.
+/// Takes the put that a commit was handed off the list. It doesn't allocate.
 pub(crate) fn land(flights: &mut Vec<FlightRow>, flight: Option<Flight>) -> Landing
     ensures lands { LandsRow flight result flights.old.items flights.new.items }
     ensures at_most { vec_len flights.new ≤ vec_len flights.old }

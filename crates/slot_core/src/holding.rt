@@ -17,7 +17,7 @@ use slot_rules::{first_free, leave_out, take_pin};
 use stamp_id::VersionId;
 use std::alloc::Global;
 
-/// A put that is under way: whoever has it may stage data under its id, and commit it. Sections alone make one.
+/// A put that is under way. Whoever has it may stage data under its id, and commit it. Only `begin_put` makes one.
 #[derive(Drop)]
 pub struct Flight {
     /// The id of its data.
@@ -35,18 +35,18 @@ impl Flight {
     }
 }
 
-/// A pin: the data that it has stays until it is given back. Sections alone make one.
+/// A pin of data. The data stays until `end_read` is given the pin. Only `begin_read` makes one.
 #[derive(Drop)]
 pub struct Pin {
     /// The ticket of the section that made it.
     pub(crate) ticket: u64,
 }
 
-/// Ids of data.
+/// Ids of data, as `take_trash` answers them.
 pub type Ids = Listing<VersionId>;
 
 impl<D: Drive, A: Audit> Slot<D, A> {
-    /// Ends a read: its pin is gone. A pin that isn't listed changes nothing. It takes no memory, and is always done.
+    /// Ends a read: the slot lists its pin no more. A pin that isn't listed changes nothing. The section doesn't allocate, and is never refused.
     pub fn end_read(&mut self, pin: Pin) -> Turn<()>
         requires turns { (numbers_of self.old).turns + 1 < 2 ^ 64 }
         ensures turns { SlotTurnsQuietly A.entries A.count self.old self.new result }
@@ -66,8 +66,8 @@ impl<D: Drive, A: Audit> Slot<D, A> {
         }
     }
 
-    /// Takes trash: the first ids that no pin names, in the order in which they came, and so many at most. They leave the trash, and whoever has them
-    /// is to remove their files. `NoMemory` takes none.
+    /// Takes trash: the first ids that no pin names, in the order in which they came, at most `most`. The ids leave the trash, and the caller has to
+    /// remove their files. A section that is refused with `NoMemory` takes none.
     pub fn take_trash(&mut self, alloc: Global, most: u32) -> Turn<Ids>
         requires turns { (numbers_of self.old).turns + 1 < 2 ^ 64 }
         ensures turns { SlotTurnsQuietly A.entries A.count self.old self.new result }

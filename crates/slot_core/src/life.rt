@@ -15,8 +15,8 @@ use slot_rules::{Drawn, Site};
 use std::alloc::Global;
 
 impl<D: Drive, A: Audit> Slot<D, A> {
-    /// Opens a slot over its lanes, under a term that no earlier life used, and writes the entry of the opening, which is the slot's first turn. No lane
-    /// is called, and nothing is under way in the slot. Where the audit has no place for the entry all is handed back.
+    /// Opens a slot over its lanes, under a term that no earlier life used. It writes the entry of the opening, which is the slot's first turn. It calls
+    /// no lane, and nothing is under way in the slot then. Where the audit has no place for the entry it hands back all that it was given.
     pub fn open(
         alloc: Global,
         parts: SlotParts<D, A>,
@@ -67,7 +67,7 @@ impl<D: Drive, A: Audit> Slot<D, A> {
         }
     }
 
-    /// Has trouble befall the lane of this index, and answers what it answered. It is no section: all but what that lane shows stays.
+    /// Has trouble befall the lane of this index, and answers what the trouble answered. It is no section: all stays but what that lane shows.
     pub fn trouble<T: Trouble<D>>(&mut self, index: u8, trouble: &mut T) -> bool
         requires { index < (numbers_of self.old).set.drives }
         ensures strikes { Strikes D.Drive T.befalls index trouble.old (lanes_of self.old) result (lanes_of self.new) }
@@ -85,7 +85,7 @@ impl<D: Drive, A: Audit> Slot<D, A> {
         self.site.term
     }
 
-    /// How many sections the slot did, the opening among them.
+    /// How many turns the slot had: its opening, and each section since.
     pub fn turns(&self) -> u64
         ensures { result ≡ (numbers_of self.now).turns }
     {

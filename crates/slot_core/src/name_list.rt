@@ -22,9 +22,9 @@ use std::alloc::Global;
 use std::collections::BTreeMap;
 
 impl<D: Drive, A: Audit> Slot<D, A> {
-    /// Lists the names of registers, from `from` on in the order of their bytes, and so many at most: those that lanes show, of which as many answer as a
-    /// read needs. Names of more than 1,129 bytes are passed over. It looks at no register and completes nothing, and its entry has no name. `Quorum` is
-    /// `ReadQuorum` with the letters of the lanes, where fewer answered. It draws no number, and numbers that are spent don't refuse it.
+    /// Lists the names of registers, from `from` on in the order of their bytes, at most `most`: those that the lanes show which answer. As many lanes have
+    /// to answer as a read needs; where fewer do, the section is refused with `ReadQuorum` and their letters. It passes over names of more than 1,129 bytes.
+    /// It looks at no register and completes nothing, and its entry has no name. It draws no number, so numbers that are spent don't refuse it.
     pub fn list_names(&mut self, alloc: Global, from: &str, most: u32) -> Turn<Names>
         requires turns { (numbers_of self.old).turns + 1 < 2 ^ 64 }
         ensures turns { SlotTurnsUnspent A.entries A.count self.old self.new result }
@@ -91,7 +91,7 @@ impl<D: Drive, A: Audit> Slot<D, A> {
     }
 }
 
-/// Names of registers.
+/// Names of registers, as `list_names` answers them.
 pub type Names = Listing<String>;
 
 /// The first names that lanes show, and why each lane gave its names or didn't.

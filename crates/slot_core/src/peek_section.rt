@@ -32,7 +32,8 @@ use stamp_id::ChangeId;
 use std::alloc::Global;
 
 impl<D: Drive, A: Audit> Slot<D, A> {
-    /// Looks at the register of this name, and completes what is pending there. `Ok` is its content.
+    /// Looks at the register of this name, and completes what is pending there. `Ok` is the content that the register has then. `Quorum` tells that the
+    /// register refuses the look or the completion. `SeqSpent` and `AuditFailed` come before any call of a lane, and `NoMemory` before any write.
     pub fn peek(&mut self, alloc: Global, disks: &mut [D], name: &str) -> Turn<Bytes>
         requires turns { (numbers_of self.old).turns + 1 < 2 ^ 64 }
         requires disks { length disks.old ≡ (numbers_of self.old).set.drives }

@@ -41,7 +41,9 @@ use std::alloc::Global;
 
 impl<D: Drive, A: Audit> Slot<D, A> {
     /// Begins a read of a key: looks at its register, completes what is pending there, and finds the version that `pick` names. `Ok` is the version, an
-    /// object, with a pin of its data, which stays until `end_read` is given the pin; `Key` where the state of the key refuses it.
+    /// object, with a pin of its data. The data stays until `end_read` is given the pin. `Key` tells that the state of the key refuses the read, and
+    /// `Quorum` that the register refuses the look or the completion. `SeqSpent` and `AuditFailed` come before any call of a lane, and `NoMemory` before
+    /// any write.
     pub fn begin_read(
         &mut self,
         alloc: Global,
@@ -175,7 +177,7 @@ fn read_register<D: Drive>(
     }
 }
 
-/// Completes what was found pending, and gives the plan of the read. It takes no memory.
+/// Completes what was found pending, and gives the plan of the read. It doesn't allocate.
 fn finish_planned<D: Drive>(
     lanes: &mut [D],
     site: &Site,
@@ -201,7 +203,7 @@ fn finish_planned<D: Drive>(
     }
 }
 
-/// Begins what was planned: its pin is listed, and its entry written down. It takes no memory.
+/// Begins what was planned: its pin is listed, and its entry written down. It doesn't allocate.
 fn begin_planned<A: Audit>(
     audit: &mut A,
     pins: &mut Vec<PinRow>,

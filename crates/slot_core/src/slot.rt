@@ -22,7 +22,7 @@ pub struct SlotParts<D, A> {
     pub audit: A,
 }
 
-/// A slot that was not opened.
+/// A slot that was not opened, since its audit had no place for the entry.
 #[derive(Drop)]
 pub struct Unopened<D, A> {
     /// What was handed in.
@@ -31,7 +31,7 @@ pub struct Unopened<D, A> {
     pub fault: AuditFault,
 }
 
-/// The registers of a slot, and what it keeps in memory.
+/// A slot: its lanes, which keep its registers, its audit, and what it keeps in memory. A section is a call on it.
 #[derive(Drop)]
 pub struct Slot<D, A> {
     pub(crate) lanes: Vec<D>,
@@ -58,7 +58,7 @@ pub struct Slot<D, A> {
 /// Why a section is refused.
 #[derive(Clone, Copy, PartialEq, Eq)]
 pub enum SlotFault {
-    /// The register refused it. Want of memory is told as `NoMemory`.
+    /// The register refused it. Want of memory is `NoMemory`, and never this.
     Quorum(QuorumFault),
     /// The state of the key refuses the call.
     Key(KeyRefusal),
