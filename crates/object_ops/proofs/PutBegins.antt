@@ -203,6 +203,7 @@ module _ {D : Type 0} (ghosts : Ghosts D) where
             (record { slot = refl; elsewhere = λ other. absurd (other refl) })
             (record {
               flight = λ g is. inr (of_some (IsBegun was.numbers now.numbers now.holding) f g is (record {
+                slot = begun.slot;
                 above = new;
                 within = subst (λ (n : ℕ). number_of_id f.id ≤ n) (ap₂ (λ t s. t * 2 ^ 64 + s) (begun.term ∙ sym x.turns.numbers.term) (begun.seq ∙ sym begun.drawn))
                     (omega arith);

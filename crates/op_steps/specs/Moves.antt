@@ -47,8 +47,9 @@ ShowsBy entry (ContentShown content) before after = MatchOption entry ⊥ (λ ma
 ShowsBy entry (NamesShown from most names) before after = (name : List ℕ) → IsHeld before.registers name → (before.registers name).change ≢ 0
     → IsListable from name → IsGiven most names name
 
--- a put began in a section: its number was drawn there, and the slot lists it
+-- a put began in a section: its id was drawn there, under the index of the slot, and the slot lists it
 pub record IsBegun (was now : SlotNumbers) (after : Holding) (f : Flying) : Type 0 where
+  pub slot : f.id.slot ≡ was.index
   pub above : last_of was < number_of_id f.id
   pub within : number_of_id f.id ≤ last_of now
   pub listed : Contains after.flights f
