@@ -18,7 +18,7 @@ use Rattle.slot_data.specs.Moves.{LanesStand}
 use Rattle.slot_data.specs.Standing.{DataStands}
 use Rattle.slot_data.proofs.LaneLemmas.{again_is_late_data, again_stays_data}
 use Rattle.vote_core.specs.Sound.{IsLive}
-use Rattle.slot_core.proofs.OwnAgainLemmas.{IsPlain, OwnAgain, Write, own_again_data, own_again_rests, own_again_stands, own_stays, quorum, stood}
+use Rattle.slot_core.proofs.OwnAgainLemmas.{OwnAgain, Write, own_again_data, own_again_rests, own_again_stands, own_stays, quorum, stood}
 
 -- what a look found pending was written
 pub record WroteAgain (s : Write) : Type 0 where
@@ -27,7 +27,6 @@ pub record WroteAgain (s : Write) : Type 0 where
   pub up : s.last ≤ s.later
   pub stands : LanesStand s.set s.last s.holding s.old s.state
   pub held : IsHeld s.state.registers s.name
-  pub plain : IsPlain s.name
   pub found : Next
   pub pending : IsPending (s.old s.name) (stood s).change found
   pub x_is : s.x ≡ written_of found
@@ -66,7 +65,6 @@ own_forwarded drawing s a own =
       up = a.up;
       stands = a.stands;
       held = a.held;
-      plain = a.plain;
       change_is = ap (λ (x : Written). x.change) a.x_is ∙ own;
       content_is = ap (λ (x : Written). x.content) a.x_is ∙ a.own_content own;
       left = a.left;

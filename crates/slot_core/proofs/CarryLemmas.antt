@@ -29,7 +29,7 @@ use Rattle.slot_data.specs.Standing.{DataStands}
 use Rattle.slot_rules.specs.Deeds.{call_of, name_of}
 use Rattle.slot_rules.specs.Planning.{DoesOver, IsGoneBy}
 use Rattle.slot_rules.specs.Plans.{IsTale}
-use Rattle.slot_rules.specs.declared.commit.Commit.TheVariants.{Key, MakeBucket, SetMode}
+use Rattle.slot_rules.specs.declared.commit.Commit.TheVariants.{Key, Part, MakeBucket, SetMode}
 use Rattle.slot_rules.specs.declared.commit.Commit.{Commit}
 use Rattle.slot_rules.specs.declared.site.Drawn.{Drawn}
 use Rattle.slot_rules.specs.declared.site.Site.{Site}
@@ -56,6 +56,8 @@ deed_trash (Key at mode act) before after content new gone old trash first secon
     let same : gone ≡ _ = is k l (record { canonical = spells_old.canonical; is = sym (was ∙ first) ∙ spells_old.is })
     (record { canonical = spells_new.canonical; is = sym (now ∙ second) ∙ spells_new.is }) in
     added ∙ ap (λ (g : List VersionId). old ++ g) same
+deed_trash (Part at upload number part) before after content new gone old trash first second is added state later was now =
+    added ∙ (ap (λ (g : List VersionId). old ++ g) is ∙ append-nil old)
 deed_trash (MakeBucket bucket) before after content new gone old trash first second is added state later was now = added ∙ (ap (λ (g : List VersionId). old ++ g) is ∙ append-nil old)
 deed_trash (SetMode bucket mode) before after content new gone old trash first second is added state later was now = added ∙ (ap (λ (g : List VersionId). old ++ g) is ∙ append-nil old)
 
@@ -162,13 +164,13 @@ module _ {D : Type 0} (tells : D → Bool) (files : D → Files) where
   -- a deed that leaves the content, where its put ends
   pub finds_leaves : LandLaws → (site : Site) (mid : Drawn) (deed : Commit) (now : ℕ) (tale : Tale) (id : VersionId) (content : List ℕ) (holding : Holding) (rest : List Flying)
       (put : Option VersionId) (old trash : List VersionId) (lanes : List D) (records : Records) (state : State)
-      → IsTale deed None now tale → (state.registers (name_of deed)).content ≡ content
+      → IsTale deed None now tale → (state.registers (name_of deed)).content ≡ content → IsHeld state.registers (name_of deed)
       → DoesOver (name_of deed) content (call_of deed None now) id tale.reply content → IsGoneBy deed content content []
       → SlotStands tells files (numbers_at site mid) holding.flights lanes records state → Lands put holding.flights rest → holding.trash ≡ old → trash ≡ old
       → DeedLeaves tells files (numbers_at site mid) (numbers_at site mid) holding (kept_with holding rest trash) (name_of deed) (DoneDeed tale.audit.call tale.audit.reply) lanes
       (λ before after. ShowsTrash deed (answer_of tale tale.refused) old trash before after)
       (λ disks hands less. MayCommitData deed (kept_with holding rest trash) disks hands less) records state
-  finds_leaves laws site mid deed now tale id content holding rest put old trash lanes records state told stood does gone s lands was same = record {
+  finds_leaves laws site mid deed now tale id content holding rest put old trash lanes records state told stood held does gone s lands was same = record {
     after = records;
     now = state;
     stands = record { have = s.have; stands = land_stands laws site.set (last_of (numbers_at site mid)) holding rest records state put lands s.stands };
@@ -177,7 +179,7 @@ module _ {D : Type 0} (tells : D → Bool) (files : D → Files) where
     deed_is = subst (λ (t : Told). Deeds site.index (name_of deed) (DoneDeed t.call t.reply) state state) (sym told.audit) (inr (record {
       none_drawn = drawn_own deed None now;
       id = id;
-      does = subst (λ (c : List ℕ). Does state.registers (name_of deed) (call_of deed None now) id tale.reply c) (sym stood) (does state.registers stood);
+      does = subst (λ (c : List ℕ). Does state.registers (name_of deed) (call_of deed None now) id tale.reply c) (sym stood) (does state.registers stood held);
       stays = refl;
     }));
     own = inl refl;

@@ -220,14 +220,14 @@ module _ {D : Type 0} (ghosts : Ghosts D) where
 
   -- a commit, by what came of it
   pub outcome_leaves : (site : Site) (drawn later : Drawn) (deed : Commit) (put : Option VersionId) (outcome : Outcome) (before trash : List VersionId) (old new : List D)
-      (answer : Result Committed SlotFault) (stub : Option Stub) (holding : Holding) (rest : List Flying) → answer ≡ answer_told outcome
+      (answer : Result Committed SlotFault) (stub : Option Stub) (holding : Holding) (rest : List Flying) → IsOfNoPart deed → answer ≡ answer_told outcome
       → entry_of stub ≡ entry_told site.turns (name_of deed) outcome → CommitLeaves ghosts.tells ghosts.files site drawn later deed put outcome before trash old new
       → Lands put holding.flights rest → FitsPut deed put → holding.trash ≡ before
       → Leaves ghosts.tells ghosts.files (numbers_at site drawn) (numbers_at site later) holding (kept_with holding rest trash) old new stub (ShowsTrash deed answer before trash)
       (MayCommitData deed (kept_with holding rest trash))
-  outcome_leaves site drawn later deed put outcome before trash old new answer stub holding rest answered entry leaves lands fits was records state s =
+  outcome_leaves site drawn later deed put outcome before trash old new answer stub holding rest whole answered entry leaves lands fits was records state s =
       entry_turn (numbers_at site drawn) (numbers_at site later) holding (kept_with holding rest trash) new (entry_told site.turns (name_of deed) outcome) stub
       (ShowsTrash deed answer before trash) (MayCommitData deed (kept_with holding rest trash)) records state entry
       (subst (λ (a : Result Committed SlotFault). EntryLeaves ghosts.tells ghosts.files (numbers_at site drawn) (numbers_at site later) holding (kept_with holding rest trash) new
       (entry_told site.turns (name_of deed) outcome) (ShowsTrash deed a before trash) (MayCommitData deed (kept_with holding rest trash)) records state) (sym answered)
-      (leaves holding rest records state s lands fits was))
+      (leaves holding rest records state (deed_held deed whole state.registers) s lands fits was))

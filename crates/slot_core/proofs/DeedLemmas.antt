@@ -41,10 +41,11 @@ use Rattle.slot_data.specs.Standing.{DataStands}
 use Rattle.slot_data.proofs.NamingLemmas.{names_its_id}
 use Rattle.slot_rules.specs.Deeds.{act_brings, brings_of, call_of, name_of}
 use Rattle.slot_rules.specs.Planning.{IsGoneBy, act_adds}
-use Rattle.slot_rules.specs.declared.commit.Commit.TheVariants.{Key, MakeBucket, SetMode}
+use Rattle.slot_rules.specs.declared.commit.Commit.TheVariants.{Key, Part, MakeBucket, SetMode}
 use Rattle.slot_rules.specs.declared.commit.Commit.{Commit}
 use Rattle.slot_core.specs.CommitOutcome.{Lands}
 use Rattle.slot_core.proofs.DeemingLemmas.{Deeming, IsDeemed, NumberIs, number_some, own_number, own_spent, put_is, put_lands, record_spent, stood_names}
+use Rattle.slot_core.proofs.PartDeedLemmas.{part_brings, part_commits}
 use Rattle.slot_core.proofs.StepLemmas.{step_made, step_only}
 
 -- ---- deeds of keys
@@ -266,6 +267,7 @@ module _ (s : Deeming) (bucket : List ℕ) (made : BucketAct) (d : DoesBucket s.
 
 pub deed_commits : (s : Deeming) (deed : Commit) → IsDeemed s deed → MayCommit s.last s.later s.holding.flights s.rest s.state (name_of deed) (written_of (next_of s.own))
 deed_commits s (Key at mode done) m = key_commits s at mode done m
+deed_commits s (Part at upload number part) m = part_commits s at upload number part m
 deed_commits s (MakeBucket bucket) m = bucket_commits s bucket bucket_act.Make m.does m.stands m.lands m.number m.id_change
 deed_commits s (SetMode bucket mode) m = bucket_commits s bucket (bucket_act.SetMode mode) m.does m.stands m.lands m.number m.id_change
 
@@ -274,6 +276,7 @@ pub deed_brings : (s : Deeming) (deed : Commit) → IsDeemed s deed → (slot : 
     → DataStands s.set slot s.last s.records s.state s.holding disks hands
     → BringsData slot s.holding.flights s.rest hands (name_of deed) (written_of (next_of s.own))
 deed_brings s (Key at mode done) m slot disks hands is known d = key_brings s at mode done m slot disks hands is known d
+deed_brings s (Part at upload number part) m slot disks hands is known d = part_brings s at upload number part m slot disks hands known d
 deed_brings s (MakeBucket bucket) m slot disks hands is known d = bucket_brings s bucket bucket_act.Make m.does slot hands m.adds
 deed_brings s (SetMode bucket mode) m slot disks hands is known d = bucket_brings s bucket (bucket_act.SetMode mode) m.does slot hands m.adds
 
@@ -285,5 +288,6 @@ deed_gone law s (Key at mode done) m gone is id there =
     let d : DoesChange s.state.registers (key_name at) at mode done s.id s.now s.reply s.own.content = m.does in
     law at (s.state.registers (key_name at)).content s.own.content d.old_state d.new_state id d.spells_old d.spells_new
     (subst (λ (l : List VersionId). Contains l id) (is d.old_state d.new_state d.spells_old d.spells_new) there)
+deed_gone law s (Part at upload number part) m gone is id there = absurd (none_there id (subst (λ (l : List VersionId). Contains l id) is there))
 deed_gone law s (MakeBucket bucket) m gone is id there = absurd (none_there id (subst (λ (l : List VersionId). Contains l id) is there))
 deed_gone law s (SetMode bucket mode) m gone is id there = absurd (none_there id (subst (λ (l : List VersionId). Contains l id) is there))

@@ -11,25 +11,24 @@ use Rattle.slot_history.specs.Committing.{IsOwnNumber}
 use Rattle.slot_history.specs.Contents.{NamedData, NamesId, number_of_id}
 use Rattle.slot_history.specs.Doing.{Does}
 use Rattle.slot_history.specs.Standing.{Flying, IsSpent, Records, Stands}
-use Rattle.slot_history.specs.State.{State}
+use Rattle.slot_history.specs.State.{IsHeld, Registers, State}
 use Rattle.slot_history.proofs.StandLemmas.{spent_later}
 use Rattle.slot_history.proofs.TakenLemmas.{left_there, taken_there}
 use Rattle.slot_data.specs.Holding.{Holding}
 use Rattle.slot_data.specs.Moves.{LanesStand}
 use Rattle.slot_data.specs.Standing.{RecordNamesId}
-use Rattle.slot_rules.specs.Deeds.{call_of, name_of}
+use Rattle.slot_rules.specs.Deeds.{IsOfNoPart, call_of, name_of}
 use Rattle.slot_rules.specs.Planning.{adds_of}
-use Rattle.slot_rules.specs.Rules.{IsRegisterName}
-use Rattle.slot_rules.specs.declared.commit.Commit.TheVariants.{Key, MakeBucket, SetMode}
+use Rattle.slot_rules.specs.declared.commit.Commit.TheVariants.{Key, Part, MakeBucket, SetMode}
 use Rattle.slot_rules.specs.declared.commit.Commit.{Commit}
 use Rattle.slot_core.specs.CommitOutcome.{FitsPut, Lands}
-use Rattle.slot_core.proofs.SettlingLemmas.{name_held}
 
--- a deed's register is a bucket's or a key's
-pub deed_named : (deed : Commit) → IsRegisterName (name_of deed)
-deed_named (Key at mode done) = inr (at, refl)
-deed_named (MakeBucket bucket) = inl (bucket, refl)
-deed_named (SetMode bucket mode) = inl (bucket, refl)
+-- the register of a deed that is of no part is held
+pub deed_held : (deed : Commit) → IsOfNoPart deed → (registers : Registers) → IsHeld registers (name_of deed)
+deed_held (Key at mode done) is registers = inr (inl (at, refl))
+deed_held (Part at upload number part) is registers = absurd is
+deed_held (MakeBucket bucket) is registers = inl (bucket, refl)
+deed_held (SetMode bucket mode) is registers = inl (bucket, refl)
 
 -- ---- numbers
 
@@ -103,6 +102,7 @@ pub record IsDeemed (s : Deeming) (deed : Commit) : Type 0 where
   pub number : NumberIs s.last s.later s.put s.own.change
   pub id_change : s.id.change ≡ s.own.change
   pub adds : s.own.adds ≡ adds_of deed
+  pub held : IsHeld s.state.registers (name_of deed)
   pub does : Does s.state.registers (name_of deed) (call_of deed (Some s.own.change) s.now) s.id s.reply s.own.content
   pub changed : s.own.content ≢ (s.state.registers (name_of deed)).content
 
@@ -110,7 +110,7 @@ pub record IsDeemed (s : Deeming) (deed : Commit) : Type 0 where
 pub stood_names : (s : Deeming) (deed : Commit) (m : IsDeemed s deed) (id : VersionId) → NamesId (name_of deed) (s.state.registers (name_of deed)).content id
     → RecordNamesId s.records (name_of deed) id
 stood_names s deed m id names =
-    let holds = (m.stands.under (name_of deed) (name_held s.state.registers (name_of deed) (deed_named deed))).holds in
+    let holds = (m.stands.under (name_of deed) m.held).holds in
     let top = holds.sound.value in
     record {
       lane = top.lane;

@@ -34,15 +34,15 @@ use Rattle.slot_rules.specs.Owning.{IsDraftable, IsOwnDraft, IsOwnId, again_take
 use Rattle.slot_rules.specs.Planning.{most_for}
 use Rattle.slot_rules.specs.Plans.{IsPlan, IsPlanBy}
 use Rattle.slot_rules.specs.Rules.{first_place, key_fault, named_place}
-use Rattle.slot_rules.specs.declared.commit.Commit.TheVariants.{Key, MakeBucket, SetMode}
+use Rattle.slot_rules.specs.declared.commit.Commit.TheVariants.{Key, Part, MakeBucket, SetMode}
 use Rattle.slot_rules.specs.declared.commit.Commit.{Commit}
-use Rattle.slot_rules.specs.declared.deed_rule.DeedRule.TheVariants.{Bucket as BucketContents, Key as KeyContents}
+use Rattle.slot_rules.specs.declared.deed_rule.DeedRule.TheVariants.{Bucket as BucketContents, Key as KeyContents, Part as PartContents}
 use Rattle.slot_rules.specs.declared.deed_rule.DeedRule.{DeedRule}
 use Rattle.slot_rules.specs.declared.owning.Own.{Own}
 use Rattle.slot_rules.specs.declared.owning.OwnIds.{OwnIds}
 use Rattle.slot_rules.specs.declared.plans.Plan.{Plan}
 use Rattle.slot_rules.specs.declared.ready.Ready.{Ready}
-use Rattle.slot_rules.specs.declared.rules.TheConstants.{BUCKET_BYTES, KEY_BYTES}
+use Rattle.slot_rules.specs.declared.rules.TheConstants.{BUCKET_BYTES, KEY_BYTES, PART_BYTES}
 use Rattle.slot_rules.specs.declared.site.Drawn.{Drawn}
 use Rattle.slot_rules.specs.declared.site.Site.{Site}
 use Rattle.slot_core.specs.CommitOutcome.{kept_with}
@@ -176,6 +176,8 @@ pub deed_rule : (site : Site) (drawn : Drawn) (deed : Commit) (put : Option Vers
 deed_rule site drawn (Key at mode act) put ids rule is alone after =
     subst (λ (r : DeedRule). IsRuleOf (numbers_at site drawn) (Key at mode act) put (λ content. deed_fault r content) (deed_most r)) (sym is)
     (ids.alone, ids.after, id_at site drawn drawn.seq put ids.alone alone, id_at site drawn (drawn.seq + 1) put ids.after after, refl, refl)
+deed_rule site drawn (Part at upload number part) put ids rule is alone after =
+    subst (λ (r : DeedRule). IsRuleOf (numbers_at site drawn) (Part at upload number part) put (λ content. deed_fault r content) (deed_most r)) (sym is) (refl, refl)
 deed_rule site drawn (MakeBucket bucket) put ids rule is alone after =
     subst (λ (r : DeedRule). IsRuleOf (numbers_at site drawn) (MakeBucket bucket) put (λ content. deed_fault r content) (deed_most r)) (sym is) (refl, refl)
 deed_rule site drawn (SetMode bucket mode) put ids rule is alone after =
@@ -183,6 +185,7 @@ deed_rule site drawn (SetMode bucket mode) put ids rule is alone after =
 
 pub deed_most_is : (deed : Commit) (ids : OwnIds) (rule : DeedRule) → IsDeedRule deed ids rule → deed_most rule ≡ most_for deed
 deed_most_is (Key at mode act) ids rule is = ap deed_most is
+deed_most_is (Part at upload number part) ids rule is = ap deed_most is
 deed_most_is (MakeBucket bucket) ids rule is = ap deed_most is
 deed_most_is (SetMode bucket mode) ids rule is = ap deed_most is
 
@@ -192,15 +195,23 @@ read_key : (ids : OwnIds) (new : DeedRule) (first : Option Draft) (id : VersionI
 read_key ids (KeyContents r) first id content most same accepted read =
     (read.0, read.1, read.2.spells, id_unnamed ids first id content read.0 same accepted read.2.spells)
 read_key ids (BucketContents r) first id content most same accepted read = absurd (omega (arith, most))
+read_key ids (PartContents r) first id content most same accepted read = absurd (omega (arith, most))
 
 read_bucket : (new : DeedRule) (id : VersionId) (content : List ℕ) → deed_most new ≡ BUCKET_BYTES → DeedHasRead new content → IsReadFor new id content
 read_bucket (KeyContents r) id content most read = absurd (omega (arith, most))
 read_bucket (BucketContents r) id content most read = read
+read_bucket (PartContents r) id content most read = absurd (omega (arith, most))
+
+read_part : (new : DeedRule) (id : VersionId) (content : List ℕ) → deed_most new ≡ PART_BYTES → DeedHasRead new content → IsReadFor new id content
+read_part (KeyContents r) id content most read = absurd (omega (arith, most))
+read_part (BucketContents r) id content most read = absurd (omega (arith, most))
+read_part (PartContents r) id content most read = read
 
 pub read_for : (deed : Commit) (ids : OwnIds) (old new : DeedRule) (first : Option Draft) (id : VersionId) (content : List ℕ) → IsDeedRule deed ids old
     → deed_most new ≡ deed_most old → id ≡ id_over ids first → deed_fault old content ≡ None → DeedHasRead new content → IsReadFor new id content
 read_for (Key at mode act) ids old new first id content is most same accepted read =
     read_key ids new first id content (most ∙ ap deed_most is) same (subst (λ (r : DeedRule). deed_fault r content ≡ None) is accepted) read
+read_for (Part at upload number part) ids old new first id content is most same accepted read = read_part new id content (most ∙ ap deed_most is) read
 read_for (MakeBucket bucket) ids old new first id content is most same accepted read = read_bucket new id content (most ∙ ap deed_most is) read
 read_for (SetMode bucket mode) ids old new first id content is most same accepted read = read_bucket new id content (most ∙ ap deed_most is) read
 
@@ -218,7 +229,7 @@ module _ {D : Type 0} (ghosts : Ghosts D) where
   pub lacks_leaves : LandLaws → (site : Site) (drawn : Drawn) (deed : Commit) (put : Option VersionId) (before trash : List VersionId) (old new : List D)
       → length new ≡ length old → FilesStay ghosts old new → TellsStay ghosts old new → trash ≡ before
       → CommitLeaves ghosts.tells ghosts.files site drawn drawn deed put LacksMemory before trash old new
-  lacks_leaves laws site drawn deed put before trash old new long stay told same holding rest records state s lands fits was =
+  lacks_leaves laws site drawn deed put before trash old new long stay told same holding rest records state held s lands fits was =
       let kept : kept_with holding rest holding.trash ≡ kept_with holding rest trash = ap (λ (t : List VersionId). kept_with holding rest t) (was ∙ sym same) in
       let looked : SlotStands ghosts.tells ghosts.files (numbers_at site drawn) holding.flights new records state =
       stands_looked {D = D} ghosts (numbers_at site drawn) holding old new records state long stay told s in
@@ -241,7 +252,7 @@ module _ {D : Type 0} (ghosts : Ghosts D) where
   pub look_leaves : LandLaws → (site : Site) (drawn : Drawn) (deed : Commit) (put : Option VersionId) (fault : QuorumFault) (before trash : List VersionId) (old new : List D)
       → length new ≡ length old → FilesStay ghosts old new → TellsStay ghosts old new → trash ≡ before
       → CommitLeaves ghosts.tells ghosts.files site drawn drawn deed put (Kept fault) before trash old new
-  look_leaves laws site drawn deed put fault before trash old new long stay told same holding rest records state s lands fits was =
+  look_leaves laws site drawn deed put fault before trash old new long stay told same holding rest records state held s lands fits was =
       let settled = looked_settled {D = D} ghosts (numbers_at site drawn) holding (λ after now. Unit {0}) old new records state long stay told tt s in
       entry_leaves {D = D} ghosts.tells ghosts.files site drawn drawn drawn holding (kept_with holding rest trash) (name_of deed) None KeptDeed site.turns (λ after now. Unit {0}) new new
       (λ before_it after. Unit {0}) (λ disks hands less. MayCommitData deed (kept_with holding rest trash) disks hands less) records state (λ after now known. tt) settled

@@ -12,7 +12,7 @@ use Rattle.slot_history.specs.Names.{key_name}
 use Rattle.slot_history.specs.Standing.{Records}
 use Rattle.slot_history.specs.State.{State}
 use Rattle.slot_rules.specs.Owning.{base_after}
-use Rattle.slot_rules.specs.Rules.{IsRegisterName, longest_for, rule_for}
+use Rattle.slot_rules.specs.Rules.{longest_for, rule_for}
 use Rattle.slot_rules.specs.declared.site.Drawn.{Drawn}
 use Rattle.slot_rules.specs.declared.site.Site.{Site}
 use Rattle.slot_core.specs.Causes.{LookCause}
@@ -58,7 +58,7 @@ module _ {D : Type 0} (ghosts : Ghosts D) where
   finished_leaves site drawn later name at mode pick planned (Found plan late) old mid new disks disks_after holding records state named looks long stay tells_stay done s =
       let ready = planned.ready in
       let found = content_of ready.looked.base ready.looked.pending in
-      let register : IsRegisterName name = inr (at, named) in
+      let register : IsHeld state.registers name = inr (inl (at, named)) in
       let plans = subst (λ (p : ReadPlan). PlansRead site.turns at mode pick looks.1.state p) (sym done.0) looks.1.plans in
       settled_known ghosts.tells ghosts.files (numbers_at site drawn) (numbers_at site later) holding
       (λ (after : Records) (now : State). SettledOn name (base_after ready.looked.base ready.first) found late after now)
@@ -66,7 +66,7 @@ module _ {D : Type 0} (ghosts : Ghosts D) where
       (λ after now known. known_read name site.turns at mode pick plan (base_after ready.looked.base ready.first) found late looks.1.state after now named looks.1.spells plans known)
       (done.2 (rule_for name) (longest_for name) old disks disks_after holding records state looks.0 long stay tells_stay register s)
   finished_leaves site drawn later name at mode pick planned (Refused fault) old mid new disks disks_after holding records state named looks long stay tells_stay done s =
-      let register : IsRegisterName name = inr (at, named) in
+      let register : IsHeld state.registers name = inr (inl (at, named)) in
       done.1 (rule_for name) (longest_for name) old disks disks_after holding records state looks.0 long stay tells_stay register s
   finished_leaves site drawn later name at mode pick planned LacksMemory old mid new disks disks_after holding records state named looks long stay tells_stay done s = absurd done
 

@@ -23,6 +23,7 @@ pub mod LooseLemmas
 pub mod OpenLemmas
 pub mod OwnAgainLemmas
 pub mod OwnWriteLemmas
+pub mod PartDeedLemmas
 pub mod PeekLemmas
 pub mod QuietLemmas
 pub mod ReadLemmas

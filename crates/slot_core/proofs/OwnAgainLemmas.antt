@@ -47,16 +47,11 @@ quorum s = write_drives s.set.drives s.set.parity
 abbrev pub stood : Write → Register
 stood s = s.state.registers s.name
 
--- a name is that of no part
-abbrev pub IsPlain : List ℕ → Type 0
-IsPlain name = (at : Key) (upload : VersionId) (number : ℕ) → name ≡ part_name at upload number → ⊥
-
 -- the value's own change was written
 pub record OwnAgain (s : Write) : Type 0 where
   pub up : s.last ≤ s.later
   pub stands : LanesStand s.set s.last s.holding s.old s.state
   pub held : IsHeld s.state.registers s.name
-  pub plain : IsPlain s.name
   pub change_is : s.x.change ≡ (stood s).change
   pub content_is : s.x.content ≡ (stood s).content
   pub left : LeavesLanes (quorum s) s.later s.x (s.old s.name) (stood s).change (stood s).content s.after s.now s.shows
@@ -194,7 +189,8 @@ module _ (s : Write) (a : OwnAgain s) where
   uploads_still : (at : Key) (upload : VersionId) (number : ℕ)
       → AreBlank (s.new (part_name at upload number)) ⊎ Contains s.state.applied (number_of_id upload)
   uploads_still at upload number = elim (same_or_other s.name (part_name at upload number)) [
-    | inl same ↦ absurd (a.plain at upload number same)
+    | inl same ↦ inr (a.stands.lawful.opened at upload
+        (held_open s.state.registers at upload number (subst (λ (n : List ℕ). IsHeld s.state.registers n) same a.held)))
     | inr other ↦ elim (a.stands.uploads at upload number) [
       | inl none ↦ inl (subst (λ (l : List Lane). AreBlank l) (sym (a.writes.stays (part_name at upload number) other)) none)
       | inr done ↦ inr done

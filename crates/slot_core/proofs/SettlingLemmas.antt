@@ -33,7 +33,7 @@ use Rattle.register_caller.proofs.SettlingLemmas.{forward_seen}
 use Rattle.slot_history.specs.Standing.{Records}
 use Rattle.slot_history.specs.State.{IsHeld, Register, Registers, State}
 use Rattle.slot_history.proofs.MemberLemmas.{nil_none}
-use Rattle.slot_history.proofs.NameLemmas.{bucket_not_part, key_not_part}
+use Rattle.slot_history.proofs.NameLemmas.{key_not_part}
 use Rattle.slot_data.specs.Holding.{Holding}
 use Rattle.slot_data.specs.Moves.{LanesStand}
 use Rattle.slot_data.specs.Standing.{DataStands}
@@ -49,20 +49,33 @@ use Rattle.slot_core.specs.Views.{SlotNumbers, last_of}
 use Rattle.slot_core.proofs.AgainLemmas.{Forwarded, WroteAgain, forwarded}
 use Rattle.slot_core.proofs.CalmingLemmas.{all_stays, wrote_stays}
 use Rattle.slot_core.proofs.LaneLemmas.{have_after_look, have_after_write, lanes_stay, with_lanes, with_lanes_writes}
-use Rattle.slot_core.proofs.OwnAgainLemmas.{IsPlain, Write}
+use Rattle.slot_core.proofs.OwnAgainLemmas.{Write}
 use Rattle.slot_core.specs.LanesStay.{FilesStay, TellsStay}
 
--- the name of a bucket's or a key's register is held, and that of no part
+-- the name of a bucket's or a key's register is held
 pub name_held : (registers : Registers) (name : List ℕ) → IsRegisterName name → IsHeld registers name
 name_held registers name named = elim named [
   | inl bucket ↦ inl bucket
   | inr key ↦ inr (inl key)
 ]
 
-pub name_plain : (name : List ℕ) → IsRegisterName name → IsPlain name
-name_plain name named at upload number is = elim named [
-  | inl bucket ↦ bucket_not_part bucket.0 at upload number (sym bucket.1 ∙ is)
-  | inr key ↦ key_not_part key.0 at upload number (sym key.1 ∙ is)
+-- a name that is held stays so where no other register changes
+pub held_after : (old new : Registers) (name : List ℕ) → IsHeld old name → ((other : List ℕ) → bytes_eq name other ≡ false → new other ≡ old other) → IsHeld new name
+held_after old new name held stays = elim held [
+  | inl bucket ↦ inl bucket
+  | inr other ↦ elim other [
+    | inl key ↦ inr (inl key)
+    | inr p ↦ elim (same_or_other name (key_name p.at)) [
+      | inl same ↦ absurd (key_not_part p.at p.at p.upload p.number (sym same ∙ p.name_is))
+      | inr differs ↦ inr (inr (record {
+        at = p.at;
+        upload = p.upload;
+        number = p.number;
+        name_is = p.name_is;
+        opened = subst (λ (r : Register). HasOpen r.content p.upload) (sym (stays (key_name p.at) differs)) p.opened;
+      }))
+    ]
+  ]
 ]
 
 -- what is drafted is what was found pending
@@ -115,16 +128,17 @@ pending_not_calm looked found is none calm = absurd (let both : None ≡ Some fo
 
 -- what is known after a forward that was marked
 marked_known : {T E : Type 0} (result : Result T E) (name : List ℕ) (draft : Draft) (again : Next) (content : List ℕ) (w last c now : ℕ) (value shows : List ℕ)
-    (records : Records) (state : State)
+    (records : Records) (state : State) → IsHeld state.registers name
     → state.registers name ≡ record { change = now; content = shows } → draft.value ≡ marked_base again → again.content ≡ content
     → IfOk result (λ done. (now ≡ change_of again.change) × (shows ≡ again.content))
     → MarkMoves result w last c value (next_of again) (records name)
     → IfOk result (λ done. SettledOn name draft.value content (Some draft.value.change) records state)
-marked_known (Err fault) name draft again content w last c now value shows records state is base same marked moves = tt
-marked_known (Ok done) name draft again content w last c now value shows records state is base same marked moves =
+marked_known (Err fault) name draft again content w last c now value shows records state held is base same marked moves = tt
+marked_known (Ok done) name draft again content w last c now value shows records state held is base same marked moves =
     let change : change_of draft.value.change ≡ now = ap (λ (b : Base). change_of b.change) base ∙ sym marked.0 in
     let bytes : content ≡ shows = sym same ∙ sym marked.1 in
     record {
+      held = held;
       register_is = is ∙ (λ i. record { change = sym change i; content = sym bytes i });
       content_is = ap (λ (b : Base). b.content) base ∙ same;
       stands_on = subst (λ (b : Base). StandsOn (records name) (base_of b)) (sym base) moves.stands;
@@ -154,14 +168,14 @@ module _ {D : Type 0} (ghosts : Ghosts D) where
   pub settled_none : (site : Site) (drawn : Drawn) (name : List ℕ) (rule : List ℕ → Option ℕ) (longest : ℕ) (ready : Ready) (old mid disks disks_after : List D)
       (holding : Holding) (records : Records) (state : State)
       → IsReady ghosts site drawn name rule longest ready old mid disks disks_after → length mid ≡ length old → FilesStay ghosts old mid
-      → TellsStay ghosts old mid → IsRegisterName name → SlotStands ghosts.tells ghosts.files (numbers_at site drawn) holding.flights old records state → ready.first ≡ None
+      → TellsStay ghosts old mid → IsHeld state.registers name → SlotStands ghosts.tells ghosts.files (numbers_at site drawn) holding.flights old records state → ready.first ≡ None
       → Settled ghosts.tells ghosts.files (numbers_at site drawn) (numbers_at site drawn) holding
       (SettledOn name (base_after ready.looked.base ready.first) (content_of ready.looked.base ready.looked.pending) None) mid records state
-  settled_none site drawn name rule longest ready old mid disks disks_after holding records state is long stay tells_stay named s none =
+  settled_none site drawn name rule longest ready old mid disks disks_after holding records state is long stay tells_stay held s none =
       let looked : Looked = ready.looked in
       let pending : looked.pending ≡ None = first_none looked looked.pending is.ballot ready.first is.first none in
       let r : Register = state.registers name in
-      let holds = (s.stands.under name (name_held state.registers name named)).holds in
+      let holds = (s.stands.under name held).holds in
       let seen = is.looks.seen (records name) s.have.tell (s.have.honest name) (s.have.are name) in
       let finds = finds_settled looked looked.pending (records name) r.change r.content pending
       (seen.value (last_of (numbers_at site drawn)) r.change r.content holds).finds in
@@ -170,6 +184,7 @@ module _ {D : Type 0} (ghosts : Ghosts D) where
       looked_settled (numbers_at site drawn) holding
       (SettledOn name (base_after looked.base ready.first) (content_of looked.base looked.pending) None) old mid records state long stay tells_stay
       (record {
+        held = held;
         register_is = register_of r (change_of (base_after looked.base ready.first).change) (content_of looked.base looked.pending)
             (ap (λ (b : Base). change_of b.change) base ∙ finds.0) (content ∙ finds.1);
         content_is = ap (λ (b : Base). b.content) base ∙ sym content;
@@ -181,7 +196,7 @@ module _ {D : Type 0} (ghosts : Ghosts D) where
   pub settled_wrote : {T E : Type 0} → DrawingKeeps → FreshIsCalm → AboveLastIsFresh → (site : Site) (drawn later : Drawn) (name : List ℕ) (rule : List ℕ → Option ℕ)
       (longest : ℕ) (ready : Ready) (draft : Draft) (result : Result T E) (old mid new disks disks_after : List D) (holding : Holding) (records : Records) (state : State)
       → IsReady ghosts site drawn name rule longest ready old mid disks disks_after → length mid ≡ length old → length new ≡ length mid
-      → FilesStay ghosts old mid → TellsStay ghosts old mid → IsRegisterName name
+      → FilesStay ghosts old mid → TellsStay ghosts old mid → IsHeld state.registers name
       → SlotStands ghosts.tells ghosts.files (numbers_at site drawn) holding.flights old records state → ready.first ≡ Some draft → later.seq ≡ drawn.seq + 1
       → ((base : Base) (next : Next) (recorded : List Lane) → IsDraftOf draft base next → AllTell ghosts.tells site.set.out mid
       → AreUnused ghosts.files site.set.out site.term drawn.count mid → AreLanes ghosts.files site.set.out (string_bytes draft.name) mid recorded
@@ -192,7 +207,7 @@ module _ {D : Type 0} (ghosts : Ghosts D) where
       (λ after now. IfOk result (λ done. SettledOn name (base_after ready.looked.base ready.first) (content_of ready.looked.base ready.looked.pending)
       (Some draft.value.change) after now)) new records state
   settled_wrote {T} {E} drawing fresh above site drawn later name rule longest ready draft result old mid new disks disks_after holding records state
-      is long longer stay tells_stay named s some seq wrote_of keeps_of =
+      is long longer stay tells_stay held s some seq wrote_of keeps_of =
       let looked : Looked = ready.looked in
       let set : SetPlan = site.set in
       let out : ℕ = set.out in
@@ -205,7 +220,6 @@ module _ {D : Type 0} (ghosts : Ghosts D) where
       let again : Next = again_of looked.base is.ballot pending in
       let r : Register = state.registers name in
       let lanes : List Lane = records name in
-      let held : IsHeld state.registers name = name_held state.registers name named in
       let holds : HoldsValue w last lanes r.change r.content = (s.stands.under name held).holds in
       let have : LanesHave ghosts.tells ghosts.files numbers mid records = have_after_look ghosts numbers old mid records long stay tells_stay s.have in
       let plan : looked.set ≡ set = is.looks.plan in
@@ -251,7 +265,6 @@ module _ {D : Type 0} (ghosts : Ghosts D) where
         up = omega arith;
         stands = s.stands;
         held = held;
-        plain = name_plain name named;
         found = next_of pending;
         pending = waits;
         x_is = refl;
@@ -281,7 +294,7 @@ module _ {D : Type 0} (ghosts : Ghosts D) where
         known = subst (λ (b : Base). IfOk result (λ done. SettledOn name b (content_of looked.base looked.pending) (Some draft.value.change)
             (with_lanes name wrote.after records) f.moved)) (sym base)
             (marked_known {T = T} {E = E} result name draft again (content_of looked.base looked.pending) w (rank_of is.ballot) r.change left.now r.content left.shows
-            (with_lanes name wrote.after records) f.moved f.register_is drafted.«of».ends.value (sym (content_pending looked looked.pending pending found.1)) left.marked
+            (with_lanes name wrote.after records) f.moved (held_after state.registers f.moved.registers name held f.others) f.register_is drafted.«of».ends.value (sym (content_pending looked looked.pending pending found.1)) left.marked
             (subst (λ (l : List Lane). MarkMoves result w (rank_of is.ballot) r.change r.content (next_of again) l) (sym writes.is)
             (both.value last (rank_of is.ballot) r.change r.content may)));
         goes_on = λ disks hands d. subst (λ (n : ℕ). DataStands set site.index n (with_lanes name wrote.after records) f.moved holding disks hands) rank

@@ -26,7 +26,7 @@ use Rattle.slot_rules.specs.Deeds.{call_of, name_of}
 use Rattle.slot_rules.specs.Owning.{IsOwnChange, life_at, own_seq}
 use Rattle.slot_rules.specs.Planning.{IsGoneBy}
 use Rattle.slot_rules.specs.Plans.{IsTale}
-use Rattle.slot_rules.specs.declared.commit.Commit.TheVariants.{Key, MakeBucket, SetMode}
+use Rattle.slot_rules.specs.declared.commit.Commit.TheVariants.{Key, Part, MakeBucket, SetMode}
 use Rattle.slot_rules.specs.declared.commit.Commit.{Commit}
 use Rattle.slot_rules.specs.declared.owning.Own.{Own}
 use Rattle.slot_rules.specs.declared.site.Drawn.{Drawn}
@@ -47,6 +47,7 @@ use Rattle.slot_core.proofs.OwnWriteLemmas.{OwnData, OwnMade, OwnMay, Owned}
 -- the change that the call of a deed drew
 pub drawn_own : (deed : Commit) (change : Option ChangeId) (now : ℕ) → drawn_by (call_of deed change now) ≡ change
 drawn_own (Key at mode act) change now = refl
+drawn_own (Part at upload number part) change now = refl
 drawn_own (MakeBucket bucket) change now = refl
 drawn_own (SetMode bucket mode) change now = refl
 
@@ -163,7 +164,8 @@ module _ (s : Writing) (w : IsWriting s) where
     number = own_drawn s.site s.mid s.later s.last s.put s.next.change w.low later_seq w.is.change;
     id_change = w.is.id_change;
     adds = w.is.adds;
-    does = w.is.does s.state.registers stood_is;
+    held = w.known.held;
+    does = w.is.does s.state.registers stood_is w.known.held;
     changed = λ same. w.is.changed (same ∙ stood_is);
   }
 

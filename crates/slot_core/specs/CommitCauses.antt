@@ -22,14 +22,15 @@ use Rattle.register_core.specs.declared.faults.QuorumFault.{QuorumFault}
 use Rattle.register_core.specs.declared.faults.QuorumFault.TheVariants.{NoMemory as NoMemoryQuorum}
 use Rattle.register_core.specs.declared.looks.Looked.{Looked}
 use Rattle.register_caller.specs.Steps.{WritesBoth}
+use Rattle.upload_book.specs.Content.{content_fault as part_fault}
 use Rattle.slot_rules.specs.Deeds.{call_of, name_of}
 use Rattle.slot_rules.specs.Owning.{IsOwnId, SlotLife, own_seq}
 use Rattle.slot_rules.specs.Planning.{DoesOver, adds_of}
 use Rattle.slot_rules.specs.Rules.{key_fault}
-use Rattle.slot_rules.specs.declared.commit.Commit.TheVariants.{Key, MakeBucket, SetMode}
+use Rattle.slot_rules.specs.declared.commit.Commit.TheVariants.{Key, Part, MakeBucket, SetMode}
 use Rattle.slot_rules.specs.declared.commit.Commit.{Commit}
 use Rattle.slot_rules.specs.declared.commit.Committed.{Committed}
-use Rattle.slot_rules.specs.declared.rules.TheConstants.{BUCKET_BYTES, KEY_BYTES}
+use Rattle.slot_rules.specs.declared.rules.TheConstants.{BUCKET_BYTES, KEY_BYTES, PART_BYTES}
 use Rattle.slot_core.specs.Causes.{Concluded, LookCause, LookGave}
 use Rattle.slot_core.specs.Views.{SlotNumbers}
 use Rattle.slot_core.specs.declared.slot.SlotFault.{SlotFault}
@@ -40,10 +41,12 @@ use Rattle.slot_core.specs.LanesStay.{FilesStay, TellsStay}
 abbrev pub life_of : SlotNumbers → SlotLife
 life_of numbers = record { index = numbers.index; term = numbers.term }
 
--- the rule of the content over which a deed is done: a key's names no id that the change may have, a bucket's is its own
+-- the rule of the content over which a deed is done: a key's names no id that the change may have, a bucket's and a part's are
+-- their own
 abbrev pub IsRuleOf : SlotNumbers → Commit → Option VersionId → (List ℕ → Option ℕ) → ℕ → Type 0
 IsRuleOf numbers (Key at mode act) put rule longest = (alone after : VersionId) × IsOwnId (life_of numbers) numbers.seq put alone
     × IsOwnId (life_of numbers) (numbers.seq + 1) put after × (rule ≡ key_fault (Some alone) (Some after)) × (longest ≡ KEY_BYTES)
+IsRuleOf numbers (Part at upload number part) put rule longest = (rule ≡ part_fault) × (longest ≡ PART_BYTES)
 IsRuleOf numbers (MakeBucket bucket) put rule longest = (rule ≡ content_fault) × (longest ≡ BUCKET_BYTES)
 IsRuleOf numbers (SetMode bucket mode) put rule longest = (rule ≡ content_fault) × (longest ≡ BUCKET_BYTES)
 

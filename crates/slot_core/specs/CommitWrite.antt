@@ -87,7 +87,7 @@ module _ {D : Type 0} (ghosts : Ghosts D) where
       (rest : List Flying) (records : Records) (state : State)
       → IsPlan site (drawn.seq + again_takes ready.first) ready deed put now plan → name_of deed ≡ name
       → IsReady ghosts site drawn (name_of deed) rule longest ready old mid disks disks_after → length mid ≡ length old → FilesStay ghosts old mid
-      → TellsStay ghosts old mid
+      → TellsStay ghosts old mid → IsHeld state.registers (name_of deed)
       → SlotStands ghosts.tells ghosts.files (numbers_at site drawn) holding.flights old records state → Lands put holding.flights rest → FitsPut deed put
       → holding.trash ≡ trash_old
       → EntryLeaves ghosts.tells ghosts.files (numbers_at site drawn) (numbers_at site later) holding (kept_with holding rest trash_new) new

@@ -20,7 +20,7 @@ use Rattle.slot_data.specs.Bringing.{GoOn, with_gone}
 use Rattle.slot_data.specs.Disks.{Disks}
 use Rattle.slot_data.specs.Holding.{Hands, Holding, IsInFlight}
 use Rattle.slot_rules.specs.Deeds.{brings_of, call_of, name_of}
-use Rattle.slot_rules.specs.declared.commit.Commit.TheVariants.{Key, MakeBucket, SetMode}
+use Rattle.slot_rules.specs.declared.commit.Commit.TheVariants.{Key, Part, MakeBucket, SetMode}
 use Rattle.slot_rules.specs.declared.commit.Commit.{Commit}
 use Rattle.slot_rules.specs.declared.commit.Committed.{Committed}
 use Rattle.slot_core.specs.declared.slot.SlotFault.{SlotFault}
@@ -79,10 +79,11 @@ pub record CommitHolds (flight : Option Flight) (answer : Result Committed SlotF
   pub holds : new ≡ with_gone old rest gone
 
 -- what a commit that was done shows of the states before and after it: which data is trash. It is the data ids, in the order of the old versions, that
--- no new version of the key has; a bucket's deed leaves none
+-- no new version of the key has; the deed of a bucket or of a part leaves none
 abbrev pub DeedTrash : Commit → State → State → List VersionId → List VersionId → Type 0
 DeedTrash (Key at mode act) before after old new = (state later : KeyState) → SpellsKey (before.registers (key_name at)).content state
     → SpellsKey (after.registers (key_name at)).content later → new ≡ old ++ gone_ids state.versions later.versions
+DeedTrash (Part at upload number part) before after old new = new ≡ old
 DeedTrash (MakeBucket bucket) before after old new = new ≡ old
 DeedTrash (SetMode bucket mode) before after old new = new ≡ old
 

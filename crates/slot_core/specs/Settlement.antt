@@ -21,13 +21,12 @@ use Rattle.slot_history.specs.Laws.{OnlyTheOld}
 use Rattle.slot_history.specs.Moving.{IsLast}
 use Rattle.slot_history.specs.Sections.{IsOnItsWay}
 use Rattle.slot_history.specs.Standing.{Records}
-use Rattle.slot_history.specs.State.{State, Waiting}
+use Rattle.slot_history.specs.State.{IsHeld, State, Waiting}
 use Rattle.slot_history.specs.Waiting.{AreLate}
 use Rattle.slot_data.specs.Disks.{Disks}
 use Rattle.slot_data.specs.Holding.{Hands, Holding}
 use Rattle.slot_data.specs.Standing.{DataStands}
 use Rattle.slot_rules.specs.Owning.{base_after}
-use Rattle.slot_rules.specs.Rules.{IsRegisterName}
 use Rattle.slot_rules.specs.declared.ready.Ready.{Ready}
 use Rattle.slot_rules.specs.declared.site.Drawn.{Drawn}
 use Rattle.slot_rules.specs.declared.site.Site.{Site}
@@ -45,8 +44,9 @@ abbrev pub FirstIs : Looked → Option Next → Ballot → Option Draft → Type
 FirstIs looked None ballot first = first ≡ None
 FirstIs looked (Some found) ballot first = (draft : Draft) × (first ≡ Some draft) × IsDraftAfterLook looked (again_of looked.base ballot found) draft
 
--- what a section knows of a register that it settled: its change and content, the base that stands, and that the change which was completed is its last
+-- what a section knows of a register that it settled: its name is held; its change and content, the base that stands, and that the change which was completed is its last
 pub record SettledOn (name : List ℕ) (base : Base) (content : List ℕ) (late : Option ChangeId) (records : Records) (state : State) : Type 0 where
+  pub held : IsHeld state.registers name
   pub register_is : state.registers name ≡ record { change = change_of base.change; content = content }
   pub content_is : base.content ≡ content
   pub stands_on : StandsOn (records name) (base_of base)
@@ -83,7 +83,7 @@ module _ {D : Type 0} (ghosts : Ghosts D) where
   SettlesAfter site drawn later name ready result mid new = (rule : List ℕ → Option ℕ) (longest : ℕ) (old disks disks_after : List D) (holding : Holding)
       (records : Records) (state : State)
       → IsReady site drawn name rule longest ready old mid disks disks_after → length mid ≡ length old → FilesStay ghosts old mid
-      → TellsStay ghosts old mid → IsRegisterName name → SlotStands ghosts.tells ghosts.files (numbers_at site drawn) holding.flights old records state
+      → TellsStay ghosts old mid → IsHeld state.registers name → SlotStands ghosts.tells ghosts.files (numbers_at site drawn) holding.flights old records state
       → Settled ghosts.tells ghosts.files (numbers_at site drawn) (numbers_at site later) holding
       (λ after now. IfOk result (λ late. SettledOn name (base_after ready.looked.base ready.first) (content_of ready.looked.base ready.looked.pending) late after now))
       new records state

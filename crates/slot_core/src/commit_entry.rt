@@ -24,7 +24,7 @@ use audit_trail::{Audit, Deed, Entry};
 use call_types::Brief;
 use fault_base::NoMemory;
 use register_core::QuorumFault;
-use slot_history::{bucket_name, key_name};
+use slot_history::{bucket_name, key_name, part_name};
 use slot_rules::{Commit, Committed, Drawn, Site, Tale, Told};
 use stamp_id::ChangeId;
 use std::alloc::Global;
@@ -79,6 +79,9 @@ fn deed_name(alloc: Global, deed: &Commit) -> Result<String, NoMemory>
 {
     match deed {
         Commit::Key { at, .. } => key_name(alloc, at),
+        Commit::Part {
+            at, upload, number, ..
+        } => part_name(alloc, at, *upload, *number),
         Commit::MakeBucket(bucket) => bucket_name(alloc, bucket),
         Commit::SetMode(bucket, _) => bucket_name(alloc, bucket),
     }

@@ -4,7 +4,7 @@ ghost use Rattle.std.specs.Prelude.{◌≡◌, ◌+◌, ◌<◌, ◌≤◌, Err,
 ghost use Rattle.stamp_id.specs.declared.version.VersionId.{VersionId};
 ghost use Rattle.drive_base.specs.View.{AllGoOn, AllOnlyRead, views};
 ghost use Rattle.drive_base.specs.declared.drive.TheConstants.{LONGEST_NAME};
-ghost use Rattle.slot_rules.specs.Deeds.{IsLawfulDeed, IsNamedDeed, name_of};
+ghost use Rattle.slot_rules.specs.Deeds.{IsLawfulDeed, IsNamedDeed, IsOfNoPart, name_of};
 ghost use Rattle.slot_rules.specs.declared.site.Drawn.{Drawn};
 ghost use Rattle.slot_core.specs.CommitCauses.{deed_in};
 ghost use Rattle.slot_core.specs.CommitPlan.{AskCause};
@@ -51,6 +51,7 @@ impl<D: Drive, A: Audit> Slot<D, A> {
         now: u64,
     ) -> Turn<Committed>
         requires begins { MayBegin (numbers_of self.old) disks.old now }
+        requires no_part { IsOfNoPart deed.now }
         requires lawful { IsLawfulDeed deed.now }
         requires named { IsNamedDeed deed.now }
         requires short { length (name_of deed.now) ≤ LONGEST_NAME }

@@ -39,11 +39,11 @@ use Rattle.version_list.proofs.GoneLemmas.{gone_bytes-same}
 use Rattle.slot_history.specs.Contents.{SpellsBucket, SpellsKey}
 use Rattle.slot_history.specs.Doing.{DoesBucket}
 use Rattle.slot_history.specs.Names.{bucket_name, key_name}
-use Rattle.slot_history.specs.State.{Registers}
+use Rattle.slot_history.specs.State.{IsHeld, Registers}
 use Rattle.slot_rules.specs.Deeds.{call_of}
 use Rattle.slot_rules.specs.Planning.{Applies, DoesOver, IsBucketDeed, IsGoneBy, IsPlanned}
 use Rattle.slot_rules.specs.declared.commit.Commit.{Commit}
-use Rattle.slot_rules.specs.declared.commit.Commit.TheVariants.{Key, MakeBucket, SetMode}
+use Rattle.slot_rules.specs.declared.commit.Commit.TheVariants.{Key, Part, MakeBucket, SetMode}
 use Rattle.slot_rules.specs.declared.planning.Planned.{Planned}
 use Rattle.slot_rules.specs.declared.rules.TheConstants.{BUCKET_BYTES, KEY_BYTES}
 use Rattle.slot_rules.proofs.SizeLemmas.{bucket_short, key_short}
@@ -125,7 +125,7 @@ module _ (at : KeyName) (mode : Mode) (done : Act) (id : VersionId) (now : ℕ) 
   -- an act does this
   does_so : (reply : Reply) (new : List ℕ) (after : KeyState) → SpellsKey new after → Step state mode done id now reply after → (change : Option ChangeId)
       → DoesOver (key_name at) content (call_of (Key at mode done) change now) id reply new
-  does_so reply new after spelled step change registers is = record {
+  does_so reply new after spelled step change registers is held = record {
     name_is = refl;
     old_state = state;
     spells_old = spells_other (registers (key_name at)).content is;
@@ -268,8 +268,8 @@ module _ (done : BucketAct) (now : ℕ) (row : Option BucketRecord) (content : L
       (bucket_short (bucket_content (Some there)) (Some there) refl)
 
   does_row : (bucket : List ℕ) (made : BucketAct) → done ≡ made → (registers : Registers) → (registers (bucket_name bucket)).content ≡ content
-      → DoesBucket registers (bucket_name bucket) bucket made now planned.reply (unwrap_or planned.content content)
-  does_row bucket made same registers is = record {
+      → IsHeld registers (bucket_name bucket) → DoesBucket registers (bucket_name bucket) bucket made now planned.reply (unwrap_or planned.content content)
+  does_row bucket made same registers is held = record {
     name_is = refl;
     old_row = row;
     spells_old = record { canonical = spells.canonical; is = is ∙ spells.is };
@@ -285,6 +285,7 @@ module _ (done : BucketAct) (now : ℕ) (row : Option BucketRecord) (content : L
   -- what is done to a bucket is planned
   pub bucket_planned : (deed : Commit) (id : VersionId) → IsBucketDeed deed done → IsPlanned deed now id content planned
   bucket_planned (Key at mode made) id is = absurd is
+  bucket_planned (Part at upload number part) id is = absurd is
   bucket_planned (MakeBucket name) id is = record {
     does = λ change. does_row name bucket.Make is;
     changed = other_row step.changed refl;

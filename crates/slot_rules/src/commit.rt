@@ -1,7 +1,8 @@
 //! What a slot commits.
 
-use call_types::{Act, Key, Mode, Reply};
+use call_types::{Act, Key, Mode, PartRecord, Reply};
 use seal_file::Text;
+use stamp_id::VersionId;
 
 /// A change of a register.
 #[derive(Drop)]
@@ -14,6 +15,17 @@ pub enum Commit {
         mode: Mode,
         /// The change.
         act: Act,
+    },
+    /// The store of a part of an upload that its key has open. Its data was put under a flight's id.
+    Part {
+        /// The key.
+        at: Key,
+        /// The upload.
+        upload: VersionId,
+        /// The part's number, from 1 to 10,000.
+        number: u16,
+        /// The part. When it was stored is set as it is committed.
+        part: PartRecord,
     },
     /// CreateBucket.
     MakeBucket(Text),

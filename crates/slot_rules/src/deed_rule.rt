@@ -13,10 +13,10 @@ ghost use Rattle.slot_rules.specs.declared.commit.Commit.{Commit};
 
 use crate::commit::Commit;
 use crate::owning::OwnIds;
-use crate::planning::{Planned, plan_bucket, plan_key};
-use crate::rules::{BUCKET_BYTES, BucketRule, KEY_BYTES, KeyRule};
+use crate::planning::{Planned, plan_bucket, plan_key, plan_part};
+use crate::rules::{BUCKET_BYTES, BucketRule, KEY_BYTES, KeyRule, PART_BYTES, PartRule};
 use bucket_book::BucketAct;
-use call_types::{Act, Mode};
+use call_types::{Act, Mode, PartRecord};
 use fault_base::NoMemory;
 use register_core::{ContentFault, ContentRule};
 use stamp_id::VersionId;
@@ -29,6 +29,8 @@ pub enum DeedRule {
     Key(KeyRule),
     /// Those of a bucket.
     Bucket(BucketRule),
+    /// Those of a part.
+    Part(PartRule),
 }
 
 impl ContentRule for DeedRule {
@@ -44,6 +46,7 @@ impl ContentRule for DeedRule {
         match self {
             DeedRule::Key(rule) => rule.longest(),
             DeedRule::Bucket(rule) => rule.longest(),
+            DeedRule::Part(rule) => rule.longest(),
         }
     }
 
@@ -51,6 +54,7 @@ impl ContentRule for DeedRule {
         match self {
             DeedRule::Key(rule) => rule.check(alloc, content),
             DeedRule::Bucket(rule) => rule.check(alloc, content),
+            DeedRule::Part(rule) => rule.check(alloc, content),
         }
     }
 }
@@ -65,6 +69,7 @@ pub fn rule_of_deed(deed: &Commit, ids: &OwnIds) -> DeedRule
             second: Some(ids.after),
             state: None,
         }),
+        Commit::Part { .. } => DeedRule::Part(PartRule { row: None }),
         Commit::MakeBucket(_) => DeedRule::Bucket(BucketRule { row: None }),
         Commit::SetMode(_, _) => DeedRule::Bucket(BucketRule { row: None }),
     }
@@ -86,6 +91,7 @@ pub fn plan_deed(
 {
     match deed {
         Commit::Key { mode, act, .. } => plan_at_key(alloc, rule, *mode, act, id, now),
+        Commit::Part { part, .. } => plan_at_part(alloc, rule, part, now),
         Commit::MakeBucket(_) => plan_at_bucket(alloc, rule, BucketAct::Make, now),
         Commit::SetMode(_, mode) => plan_at_bucket(alloc, rule, BucketAct::SetMode(*mode), now),
     }
@@ -115,6 +121,7 @@ fn plan_at_key(
             plan_key(alloc, state, mode, act, id, now)
         }
         DeedRule::Bucket(_) => unreachable!(),
+        DeedRule::Part(_) => unreachable!(),
     }
 }
 
@@ -135,5 +142,26 @@ fn plan_at_bucket(
     match rule {
         DeedRule::Key(_) => unreachable!(),
         DeedRule::Bucket(rule) => plan_bucket(alloc, &rule.row, act, now),
+        DeedRule::Part(_) => unreachable!(),
+    }
+}
+
+/// What the store of a part does to the part that was read, or to none.
+fn plan_at_part(
+    alloc: Global,
+    rule: &DeedRule,
+    part: &PartRecord,
+    now: u64,
+) -> Result<Planned, NoMemory>
+    requires part { deed_most rule.now ≡ PART_BYTES }
+    requires read { (id : VersionId) × (content : List ℕ) × IsReadFor rule.now id content }
+    requires moment { IsMoment now }
+    ensures { (at : Key) (upload : VersionId) (number : ℕ) (id : VersionId) (content : List ℕ) → IsReadFor rule.now id content
+        → IfOk result (λ planned. IsPlanned (Commit.Part at upload number part.now) now id content planned) }
+{
+    match rule {
+        DeedRule::Key(_) => unreachable!(),
+        DeedRule::Bucket(_) => unreachable!(),
+        DeedRule::Part(rule) => plan_part(alloc, &rule.row, part, now),
     }
 }

@@ -101,6 +101,7 @@ fn adds_of(deed: &Commit) -> Option<Adds>
 {
     match deed {
         Commit::Key { act, .. } => adds_of_act(act),
+        Commit::Part { part, .. } => Some(adding(part.data_id, part.print)),
         Commit::MakeBucket(_) => None,
         Commit::SetMode(_, _) => None,
     }

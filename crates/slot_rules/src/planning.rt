@@ -13,12 +13,14 @@ ghost use Rattle.version_list.specs.Lawful.{IsLawful};
 ghost use Rattle.version_list.specs.NamesId.{names_id};
 ghost use Rattle.version_list.specs.Spelling.{spelling};
 ghost use Rattle.version_list.specs.State.{IsCanonical, IsMoment};
-ghost use Rattle.slot_history.specs.Contents.{SpellsBucket, SpellsKey};
-ghost use Rattle.slot_rules.specs.Planning.{Applies, IsBucketDeed, IsPlanned};
+ghost use Rattle.upload_book.specs.Content.{IsCanonicalRow as IsPartRow};
+ghost use Rattle.upload_book.specs.Storing.{stored_at};
+ghost use Rattle.slot_history.specs.Contents.{SpellsBucket, SpellsKey, SpellsPart};
+ghost use Rattle.slot_rules.specs.Planning.{Applies, IsBucketDeed, IsPlanned, SpellsStored};
 ghost use Rattle.slot_rules.specs.declared.commit.Commit.{Commit};
 
 use bucket_book::{BucketAct, BucketRecord, BucketStep};
-use call_types::{Act, Brief, KeyRefusal, Mode, Refusal, Reply};
+use call_types::{Act, Brief, Etag, KeyRefusal, Mode, PartRecord, Refusal, Reply};
 use fault_base::NoMemory;
 use seal_file::Bytes;
 use stamp_id::VersionId;
@@ -179,4 +181,71 @@ fn spelled_row(alloc: Global, changed: Option<BucketRecord>) -> Result<Option<By
             Ok(Some(Bytes::from_vec(content)))
         }
     }
+}
+
+/// What the store of a part of an open upload does to the part of its number, or to none.
+pub fn plan_part(
+    alloc: Global,
+    row: &Option<PartRecord>,
+    part: &PartRecord,
+    now: u64,
+) -> Result<Planned, NoMemory>
+    requires canonical { IsPartRow row.now }
+    requires moment { IsMoment now }
+    ensures { (at : Key) (upload : VersionId) (number : ℕ) (id : VersionId) (content : List ℕ) → SpellsPart content row.now
+        → IfOk result (λ planned. IsPlanned (Commit.Part at upload number part.now) now id content planned) }
+{
+    upload_book::row_laws();
+    let stored = stored_at(part, now);
+    let content = spelled_part(alloc, row, stored)?;
+    Ok(Planned {
+        reply: Reply::Stored {
+            etag: Etag {
+                md5: part.md5,
+                parts: 0,
+            },
+            id: None,
+        },
+        refused: None,
+        content,
+        gone: Vec::new(alloc),
+    })
+}
+
+/// A part that is stored in this second.
+fn stored_at(part: &PartRecord, now: u64) -> PartRecord
+    requires moment { IsMoment now }
+    ensures value { result ≡ stored_at part.now now }
+    ensures canonical { IsPartRow (Some result) }
+{
+    let PartRecord {
+        data_id,
+        print,
+        length,
+        md5,
+        ..
+    } = *part;
+    PartRecord {
+        data_id,
+        print,
+        length,
+        md5,
+        modified: now,
+    }
+}
+
+/// The content of a part that is stored, none where the register has it already.
+fn spelled_part(
+    alloc: Global,
+    row: &Option<PartRecord>,
+    stored: PartRecord,
+) -> Result<Option<Bytes>, NoMemory>
+    requires { IsPartRow (Some stored) }
+    ensures { IfOk result (λ content. SpellsStored row.now stored content) }
+{
+    if *row == Some(stored) {
+        return Ok(None);
+    }
+    let content = upload_book::write(alloc, &Some(stored))?;
+    Ok(Some(Bytes::from_vec(content)))
 }

@@ -3,16 +3,18 @@
 ghost use Rattle.std.specs.Prelude.{◌≡◌, ◌≤◌, Option, Some, None, MatchOption, IfOk, length};
 ghost use Rattle.bucket_book.specs.Content.{content_fault};
 ghost use Rattle.register_core.specs.Contents.{IsChecked};
-ghost use Rattle.slot_history.specs.Contents.{SpellsBucket};
+ghost use Rattle.slot_history.specs.Contents.{SpellsBucket, SpellsPart};
+ghost use Rattle.upload_book.specs.Content.{content_fault as part_fault};
 ghost use Rattle.version_list.specs.Spelling.{spelling};
 ghost use Rattle.version_list.specs.State.{IsCanonical};
 ghost use Rattle.slot_rules.specs.Rules.{IsRead, NamesNone, key_fault, named_place};
 
 use bucket_book::{BucketRecord, row_laws};
-use call_types::ListFault;
+use call_types::{ListFault, PartRecord};
 use register_core::{ContentFault, ContentRule};
 use stamp_id::VersionId;
 use std::alloc::Global;
+use upload_book::row_laws as part_laws;
 use version_list::{KeyState, place_of_id, state_laws};
 
 /// The most bytes of a key's content: 10,000 versions of 371 bytes, 1,000 uploads of 280, and two counts.
@@ -20,6 +22,9 @@ pub const KEY_BYTES: u64 = 3_990_008;
 
 /// The most bytes of a bucket's content.
 pub const BUCKET_BYTES: u64 = 9;
+
+/// The most bytes of a part's content.
+pub const PART_BYTES: u64 = 80;
 
 /// The row of a bucket's content.
 fn read_bucket(alloc: Global, content: &[u8]) -> Result<Option<BucketRecord>, ContentFault>
@@ -29,6 +34,20 @@ fn read_bucket(alloc: Global, content: &[u8]) -> Result<Option<BucketRecord>, Co
 {
     row_laws();
     match bucket_book::read(alloc, content) {
+        Ok(row) => Ok(row),
+        Err(ListFault::NotCanonical(place)) => Err(ContentFault::At(place)),
+        Err(ListFault::NoMemory) => Err(ContentFault::NoMemory),
+    }
+}
+
+/// The row of a part's content.
+fn read_part(alloc: Global, content: &[u8]) -> Result<Option<PartRecord>, ContentFault>
+    ensures answer { IsChecked (part_fault content.now) result }
+    ensures within { IfOk result (λ _. length content.now ≤ PART_BYTES) }
+    ensures read { IfOk result (λ row. SpellsPart content.now row) }
+{
+    part_laws();
+    match upload_book::read(alloc, content) {
         Ok(row) => Ok(row),
         Err(ListFault::NotCanonical(place)) => Err(ContentFault::At(place)),
         Err(ListFault::NoMemory) => Err(ContentFault::NoMemory),
@@ -173,6 +192,39 @@ impl ContentRule for BucketRule {
 
     fn check(&mut self, alloc: Global, content: &[u8]) -> Result<(), ContentFault> {
         match read_bucket(alloc, content) {
+            Ok(row) => {
+                self.row = row;
+                Ok(())
+            }
+            Err(fault) => Err(fault),
+        }
+    }
+}
+
+/// The contents of a part's register. The rule keeps the row that it read.
+#[derive(Drop)]
+pub struct PartRule {
+    /// The row that was read last.
+    pub row: Option<PartRecord>,
+}
+
+impl ContentRule for PartRule {
+    ghost use Rattle.upload_book.specs.Content.{content_fault as part_fault};
+    ghost use Rattle.slot_history.specs.Contents.{SpellsPart};
+    ghost use Rattle.slot_rules.specs.declared.rules.TheConstants.{PART_BYTES};
+
+    ghost fault_in = { λ _ content. part_fault content };
+
+    ghost most_bytes = { λ _. PART_BYTES };
+
+    ghost has_read = { λ rule content. SpellsPart content rule.row };
+
+    fn longest(&self) -> u64 {
+        PART_BYTES
+    }
+
+    fn check(&mut self, alloc: Global, content: &[u8]) -> Result<(), ContentFault> {
+        match read_part(alloc, content) {
             Ok(row) => {
                 self.row = row;
                 Ok(())

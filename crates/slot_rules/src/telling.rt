@@ -112,6 +112,22 @@ fn call_of(
                 now,
             })
         }
+        Commit::Part {
+            at,
+            upload,
+            number,
+            part,
+        } => {
+            let at = at.clone()?;
+            Ok(Brief::Part {
+                at,
+                upload: *upload,
+                number: *number,
+                part: *part,
+                change,
+                now,
+            })
+        }
         Commit::MakeBucket(bucket) => {
             let bucket = bucket.clone()?;
             Ok(Brief::MakeBucket {

@@ -17,13 +17,12 @@ use Rattle.slot_core.specs.declared.commit_write.Outcome.TheVariants.{Done, Kept
 use Rattle.slot_core.proofs.LanesStayLemmas.{goes_twice}
 use Rattle.slot_core.proofs.CarryLemmas.{entry_leaves, finds_leaves, kept_leaves}
 use Rattle.slot_core.proofs.CarryOutLemmas.{gone_none, mid_low, none_told, own_over, plan_fits, plan_none, plan_own, writes_calls, writes_entry, writes_told}
-use Rattle.slot_core.proofs.DeemingLemmas.{deed_named}
 use Rattle.slot_core.proofs.LandLemmas.{LandLaws}
 use Rattle.slot_core.proofs.TurnLemmas.{forward_has_memory}
 use Rattle.slot_core.proofs.commit_write.carry_out.Goals as goal
 
 pub returns-in-Err-clause-leaves : goal.returns-in-Err-clause-leaves
-returns-in-Err-clause-leaves g c deed put now rule longest old disks disks_after holding rest records state plan named ready long stay tells_stay s lands fits was =
+returns-in-Err-clause-leaves g c deed put now rule longest old disks disks_after holding rest records state plan named ready long stay tells_stay held s lands fits was =
     let T : Type 0 = g.row.D.Denot in
     let D = g.D.Drive in
     let site = c.args.site.now in
@@ -34,7 +33,7 @@ returns-in-Err-clause-leaves g c deed put now rule longest old disks disks_after
     let laws : LandLaws = record { ends = c.resting_laws.ensures.end; given_up = c.flight_laws.ensures.given_up; trash = c.hands_laws.ensures.trash; freed = c.hands_laws.ensures.freed } in
     let settles = subst (λ (n : List ℕ). SettlesAfter {D = T} D {E = QuorumFault} site drawn mid n c.args.ready (Err c.in-Err.fault) c.args.lanes.now lanes)
     (sym named) c.in-Err.ensures.settles in
-    let settled = settles rule longest old disks disks_after holding records state ready long stay tells_stay (deed_named deed) s in
+    let settled = settles rule longest old disks disks_after holding records state ready long stay tells_stay held s in
     entry_leaves {D = T} D.tells D.files site drawn mid mid holding (kept_with holding rest trash) (name_of deed) None KeptDeed site.turns (λ after now. Unit {0}) lanes lanes
     (λ before after. Unit {0}) (λ disks hands less. MayCommitData deed (kept_with holding rest trash) disks hands less) records state (λ after now known. tt) settled
     (kept_leaves {D = T} D.tells D.files laws site mid deed holding rest put trash trash lanes settled.after settled.now settled.stands lands was refl)
@@ -49,7 +48,7 @@ pub returns-in-Err-clause-gone : goal.returns-in-Err-clause-gone
 returns-in-Err-clause-gone g c = gone_none (answer_told (Kept c.in-Err.fault)) c.args.trash.now.items
 
 pub returns-in-None-clause-leaves : goal.returns-in-None-clause-leaves
-returns-in-None-clause-leaves g c deed put now rule longest old disks disks_after holding rest records state plan named ready long stay tells_stay s lands fits was =
+returns-in-None-clause-leaves g c deed put now rule longest old disks disks_after holding rest records state plan named ready long stay tells_stay held s lands fits was =
     let T : Type 0 = g.row.D.Denot in
     let D = g.D.Drive in
     let site = c.args.site.now in
@@ -65,14 +64,14 @@ returns-in-None-clause-leaves g c deed put now rule longest old disks disks_afte
     let laws : LandLaws = record { ends = c.resting_laws.ensures.end; given_up = c.flight_laws.ensures.given_up; trash = c.hands_laws.ensures.trash; freed = c.hands_laws.ensures.freed } in
     let settles = subst (λ (n : List ℕ). SettlesAfter {D = T} D {E = QuorumFault} site drawn mid n c.args.ready (Ok late) c.args.lanes.now lanes)
     (sym named) c.in-Ok.ensures.settles in
-    let settled = settles rule longest old disks disks_after holding records state ready long stay tells_stay (deed_named deed) s in
+    let settled = settles rule longest old disks disks_after holding records state ready long stay tells_stay held s in
     let none = plan_none site (drawn.seq + again_takes c.args.ready.first) c.args.ready deed put now c.args.plan c.in-None.is plan in
     entry_leaves {D = T} D.tells D.files site drawn mid mid holding (kept_with holding rest trash) (name_of deed) late (DoneDeed tale.audit.call tale.audit.reply) site.turns
     (λ (after : Records) (now : State). SettledOn (name_of deed) base content late after now) lanes lanes
     (λ before after. ShowsTrash deed (answer_of tale tale.refused) trash trash before after) (λ disks hands less. MayCommitData deed (kept_with holding rest trash) disks hands less)
     records state (λ after now known. known.is_last) settled
     (finds_leaves {D = T} D.tells D.files laws site mid deed now tale none.id content holding rest put trash trash lanes settled.after settled.now none.tale
-    (ap (λ (r : Register). r.content) settled.known.register_is) none.does none.gone settled.stands lands was refl)
+    (ap (λ (r : Register). r.content) settled.known.register_is) settled.known.held none.does none.gone settled.stands lands was refl)
 
 pub returns-in-None-clause-told : goal.returns-in-None-clause-told
 returns-in-None-clause-told g c deed put now plan =
@@ -92,7 +91,7 @@ pub write_own-requires-clause-served : goal.write_own-requires-clause-served
 write_own-requires-clause-served g c = (plan_fits c.args.site.now.set c.args.drawn.now.seq c.args.plan c.in-Some.own c.in-Some.is c.requires.plan).1
 
 pub returns-clause-leaves : goal.returns-clause-leaves
-returns-clause-leaves g c deed put now rule longest old disks disks_after holding rest records state plan named ready long stay tells_stay s lands fits was =
+returns-clause-leaves g c deed put now rule longest old disks disks_after holding rest records state plan named ready long stay tells_stay held s lands fits was =
     let T : Type 0 = g.row.D.Denot in
     let D = g.D.Drive in
     let site = c.args.site.now in
@@ -113,7 +112,7 @@ returns-clause-leaves g c deed put now rule longest old disks disks_after holdin
     let tale = c.args.plan.tale in
     let settles = subst (λ (n : List ℕ). SettlesAfter {D = T} D {E = QuorumFault} site drawn mid n c.args.ready (Ok late) c.args.lanes.now lanes)
     (sym named) c.in-Ok.ensures.settles in
-    let settled = settles rule longest old disks disks_after holding records state ready long stay tells_stay (deed_named deed) s in
+    let settled = settles rule longest old disks disks_after holding records state ready long stay tells_stay held s in
     let mine = plan_own site last c.args.ready deed put now c.args.plan own c.in-Some.is plan in
     let over = own_over site last c.args.ready deed put now tale.reply own ready.ballot ready.first ready.looks.named mine.is in
     let low = mid_low {D = T} D site drawn mid c.args.ready.first late c.args.lanes.now lanes c.in-Ok.ensures.draws.few_seq c.in-Ok.ensures.calls in

@@ -57,7 +57,7 @@ returns-in-Ok-forward-clause-leaves g c holding records state s =
     (λ (after : Records) (now : State). KnownContent name content late now) c.forward.new.lanes records state
     (λ after now known. known_content name (base_after ready.looked.base ready.first) found content late after now c.in-Ok-content_of.ensures known)
     (c.in-Ok-forward.ensures.settles (rule_at bucket) (longest_at bucket) c.args.lanes.now c.args.disks.now c.look_at.new.disks holding records state c.in-Ok.ensures.looks
-    (omega (arith, c.look_at.auto.lanes)) (files_stay g.D.Drive c.args.lanes.now c.look_at.new.lanes c.in-Ok.ensures.lanes_read) (tells_stay g.D.Drive c.args.lanes.now c.look_at.new.lanes c.in-Ok.ensures.lanes_read) c.requires.named s)
+    (omega (arith, c.look_at.auto.lanes)) (files_stay g.D.Drive c.args.lanes.now c.look_at.new.lanes c.in-Ok.ensures.lanes_read) (tells_stay g.D.Drive c.args.lanes.now c.look_at.new.lanes c.in-Ok.ensures.lanes_read) (name_held state.registers name c.requires.named) s)
 
 pub returns-in-Ok-forward-clause-calls : goal.returns-in-Ok-forward-clause-calls
 returns-in-Ok-forward-clause-calls g c =
@@ -86,7 +86,7 @@ returns-in-Err-forward-clause-leaves g c holding records state s =
     let later = numbers_at site c.forward.new.drawn in
     refusal_leaves D.tells D.files numbers later holding (λ content late now. KnownContent name content late now) fault c.refusal-in-Err-forward.result c.forward.new.lanes records state c.refusal-in-Err-forward.ensures
     (c.in-Err-forward.ensures.settles (rule_at bucket) (longest_at bucket) c.args.lanes.now c.args.disks.now c.look_at.new.disks holding records state c.in-Ok.ensures.looks
-    (omega (arith, c.look_at.auto.lanes)) (files_stay g.D.Drive c.args.lanes.now c.look_at.new.lanes c.in-Ok.ensures.lanes_read) (tells_stay g.D.Drive c.args.lanes.now c.look_at.new.lanes c.in-Ok.ensures.lanes_read) c.requires.named s)
+    (omega (arith, c.look_at.auto.lanes)) (files_stay g.D.Drive c.args.lanes.now c.look_at.new.lanes c.in-Ok.ensures.lanes_read) (tells_stay g.D.Drive c.args.lanes.now c.look_at.new.lanes c.in-Ok.ensures.lanes_read) (name_held state.registers name c.requires.named) s)
     (λ same. absurd (forward_has_memory D site c.args.drawn.now c.forward.new.drawn ready.first fault c.look_at.new.lanes c.forward.new.lanes
     c.in-Err-forward.ensures.calls same))
 
