@@ -20,7 +20,7 @@ use Rattle.slot_history.specs.Laws.{IsMade, MadeIsLate, with_waiting}
 use Rattle.slot_history.specs.Moving.{Deeds, IsLast, drawn_by}
 use Rattle.slot_history.specs.Sections.{SectionMoves}
 use Rattle.slot_history.specs.Standing.{Flying, Records}
-use Rattle.slot_history.specs.State.{Register, State}
+use Rattle.slot_history.specs.State.{IsHeld, Register, State}
 use Rattle.slot_data.specs.Bringing.{GoOn}
 use Rattle.slot_data.specs.Disks.{Disks}
 use Rattle.slot_data.specs.Holding.{Hands, Holding}

@@ -15,7 +15,7 @@ use Rattle.slot_data.specs.Disks.{Disks}
 use Rattle.slot_data.specs.Holding.{Hands, Holding}
 use Rattle.slot_data.specs.Standing.{DataStands}
 use Rattle.slot_data.specs.declared.rows.FlightRow.{FlightRow}
-use Rattle.slot_rules.specs.Deeds.{name_of}
+use Rattle.slot_rules.specs.Deeds.{IsOfNoPart, name_of}
 use Rattle.slot_rules.specs.Taking.{TakesRow}
 use Rattle.slot_rules.specs.declared.commit.Commit.{Commit}
 use Rattle.slot_rules.specs.declared.commit.Committed.{Committed}
@@ -46,6 +46,7 @@ use Rattle.slot_core.specs.declared.stub.Turn.{Turn}
 use Rattle.slot_core.proofs.CalmingLemmas.{none_calms}
 use Rattle.slot_core.proofs.CarryLemmas.{entry_leaves, kept_leaves}
 use Rattle.slot_core.proofs.ConcludeLemmas.{audit_has, missing_stub, written_entry_of}
+use Rattle.slot_core.proofs.DeemingLemmas.{deed_held}
 use Rattle.slot_core.proofs.LandLemmas.{LandLaws, land_data, land_stands}
 use Rattle.slot_core.proofs.SettlingLemmas.{looked_settled}
 

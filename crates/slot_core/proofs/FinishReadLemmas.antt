@@ -10,7 +10,7 @@ use Rattle.register_core.specs.declared.faults.QuorumFault.TheVariants.{ReadQuor
 use Rattle.slot_data.specs.Holding.{Holding}
 use Rattle.slot_history.specs.Names.{key_name}
 use Rattle.slot_history.specs.Standing.{Records}
-use Rattle.slot_history.specs.State.{State}
+use Rattle.slot_history.specs.State.{IsHeld, State}
 use Rattle.slot_rules.specs.Owning.{base_after}
 use Rattle.slot_rules.specs.Rules.{longest_for, rule_for}
 use Rattle.slot_rules.specs.declared.site.Drawn.{Drawn}

@@ -23,6 +23,7 @@ use Rattle.slot_data.specs.Holding.{Hands, Holding}
 use Rattle.slot_data.specs.Moves.{LanesStand, with_trash}
 use Rattle.slot_data.specs.Standing.{AddsAreNamed, DataStands}
 use Rattle.slot_data.proofs.CarryLemmas.{Carries, carried}
+use Rattle.slot_rules.proofs.PartLemmas.{held_open}
 use Rattle.slot_history.proofs.TakenLemmas.{none_there}
 
 -- one register of a slot was written: where, what, and what it left

@@ -1,6 +1,7 @@
 -- What a section leaves of lanes that stood for a state, once it completed what its look found pending.
-use Rattle.std.proofs.Common.{◌≡◌, ◌<◌, ◌≤◌, ◌+◌, ◌*◌, ◌^◌, ◌∙◌, ℕ, List, [], Option, None, Some, Result, Ok, Err, length, map, ap, subst, sym, refl, inl, inr, arith}
+use Rattle.std.proofs.Common.{◌≡◌, ◌<◌, ◌≤◌, ◌+◌, ◌*◌, ◌^◌, ◌∙◌, ℕ, false, List, [], Option, None, Some, Result, Ok, Err, length, map, ap, subst, sym, refl, inl, inr, arith}
 use Rattle.std.specs.Prelude.{string_bytes}
+use Rattle.std.specs.Str.{bytes_eq}
 use Rattle.std.specs.Result.{IfOk}
 use Rattle.std.proofs.lemmas.Bool.Decides.{nat_tests}
 use Rattle.call_types.specs.Good.{is_good}
@@ -30,9 +31,11 @@ use Rattle.register_caller.specs.WrittenLanes.{written_of}
 use Rattle.register_caller.specs.Pending.{IsPending}
 use Rattle.register_caller.proofs.CallingLemmas.{own_content}
 use Rattle.register_caller.proofs.SettlingLemmas.{forward_seen}
+use Rattle.slot_history.specs.Contents.{HasOpen}
+use Rattle.slot_history.specs.Names.{key_name}
 use Rattle.slot_history.specs.Standing.{Records}
 use Rattle.slot_history.specs.State.{IsHeld, Register, Registers, State}
-use Rattle.slot_history.proofs.MemberLemmas.{nil_none}
+use Rattle.slot_history.proofs.MemberLemmas.{nil_none, same_or_other}
 use Rattle.slot_history.proofs.NameLemmas.{key_not_part}
 use Rattle.slot_data.specs.Holding.{Holding}
 use Rattle.slot_data.specs.Moves.{LanesStand}

@@ -9,7 +9,7 @@ use Rattle.register_core.specs.Found.{content_of}
 use Rattle.register_core.specs.declared.faults.QuorumFault.{QuorumFault}
 use Rattle.register_core.specs.declared.faults.QuorumFault.TheVariants.{ReadQuorum, WriteQuorum, Undecided, NoMemory}
 use Rattle.slot_history.specs.Standing.{Flying, Records}
-use Rattle.slot_history.specs.State.{State}
+use Rattle.slot_history.specs.State.{IsHeld, State}
 use Rattle.slot_data.specs.Holding.{Holding}
 use Rattle.slot_rules.specs.Deeds.{name_of}
 use Rattle.slot_rules.specs.Owning.{IsDraftable, IsOwnId, again_takes, life_at}

@@ -10,7 +10,7 @@ use Rattle.register_file.specs.declared.record.Base.{Base}
 use Rattle.register_file.specs.declared.record.Next.{Next}
 use Rattle.register_core.specs.Drafts.{IsDraftOf}
 use Rattle.slot_history.specs.Standing.{Flying, Records}
-use Rattle.slot_history.specs.State.{State}
+use Rattle.slot_history.specs.State.{IsHeld, State}
 use Rattle.slot_data.specs.Holding.{Holding}
 use Rattle.slot_rules.specs.Deeds.{call_of, name_of}
 use Rattle.slot_rules.specs.Owning.{IsOwnChange, again_takes, life_at, own_seq}

@@ -113,6 +113,7 @@ fn commit_landed<D: Drive, A: Audit>(
     deed: &Commit,
     drawn: &mut Drawn,
 ) -> Turn<Committed>
+    requires no_part { IsOfNoPart deed.now }
     requires may { MayCommit ask.now.site.set deed.now drawn.old lanes.old disks.old }
     requires room { vec_len trash.old + ask.now.spare ≤ vec_capacity trash.old }
     ensures turns { TurnsAt (numbers_at ask.now.site drawn.old) (A.entries audit.old) (A.entries audit.new) (A.count audit.old) (A.count audit.new)

@@ -1,6 +1,9 @@
 -- What is planned of the store of a part.
-use Rattle.std.proofs.Common.{◌≡◌, ◌≢◌, ◌≤◌, ◌∙◌, ℕ, Bool, true, false, List, [], Option, None, Some, length, ap, subst, sym, refl, arith}
-use Rattle.std.specs.Prelude.{IfSome, MatchBool, unwrap_or}
+use Rattle.std.proofs.Common.{◌≡◌, ◌≢◌, ◌≤◌, ◌∙◌, ℕ, Bool, true, false, List, [], Option, None, Some, length, ap, subst, sym, refl, inl, inr, arith}
+use Rattle.std.specs.Prelude.{IfSome, MatchBool, nat_eq, unwrap_or, ◌&&◌}
+use Rattle.std.specs.Str.{bytes_eq}
+use Rattle.std.proofs.lemmas.Bool.{eqb-true}
+use Rattle.std.proofs.lemmas.Slice.Eq.{bytes_eq-Decides}
 use Rattle.stamp_id.specs.declared.version.VersionId.{VersionId}
 use Rattle.call_types.specs.Refusals.{refusal_of}
 use Rattle.call_types.specs.declared.names.Key.{Key as KeyName}
@@ -14,6 +17,8 @@ use Rattle.upload_book.specs.Laws.{ContentIsInjective}
 use Rattle.upload_book.specs.Storing.{Leaves, Stores, etag_of, is_open, stored_at}
 use Rattle.upload_book.specs.Table.{IsCanonical}
 use Rattle.upload_book.proofs.Lawful.{length_bytes}
+use Rattle.version_list.specs.Naming.{same_id}
+use Rattle.version_list.proofs.NamingLemmas.{same_id-true}
 use Rattle.slot_history.specs.Contents.{HasOpen, SpellsPart}
 use Rattle.slot_history.specs.Doing.{DoesPart}
 use Rattle.slot_history.specs.Names.{key_name, part_name}
@@ -42,6 +47,32 @@ pub part_short : (content : List ℕ) (row : Option PartRecord) → IsCanonicalR
 part_short content None canonical is = let long = ap (λ (bytes : List ℕ). length bytes) is in omega arith
 part_short content (Some there) canonical is =
     let long = ap (λ (bytes : List ℕ). length bytes) is in let size = length_bytes there canonical in omega arith
+
+-- parts that pass the test of equality are the same
+and_left : (a b : Bool) → (a && b) ≡ true → a ≡ true
+and_left true b h = refl
+and_left false b h = cc
+
+and_right : (a b : Bool) → (a && b) ≡ true → b ≡ true
+and_right true b h = h
+and_right false b h = cc
+
+pub same_part : (a b : PartRecord) → (same_id a.data_id b.data_id && (bytes_eq a.print b.print && (nat_eq a.length b.length
+    && (bytes_eq a.md5 b.md5 && nat_eq a.modified b.modified)))) ≡ true → a ≡ b
+same_part a b h =
+    let print = bytes_eq a.print b.print in
+    let size = nat_eq a.length b.length in
+    let md5 = bytes_eq a.md5 b.md5 in
+    let modified = nat_eq a.modified b.modified in
+    let one = and_right (same_id a.data_id b.data_id) (print && (size && (md5 && modified))) h in
+    let two = and_right print (size && (md5 && modified)) one in
+    let three = and_right size (md5 && modified) two in
+    let id_is = same_id-true a.data_id b.data_id (and_left (same_id a.data_id b.data_id) (print && (size && (md5 && modified))) h) in
+    let print_is : a.print ≡ b.print = (bytes_eq-Decides a.print b.print).0 (and_left print (size && (md5 && modified)) one) in
+    let size_is = eqb-true a.length b.length (and_left size (md5 && modified) two) in
+    let md5_is : a.md5 ≡ b.md5 = (bytes_eq-Decides a.md5 b.md5).0 (and_left md5 modified three) in
+    let modified_is = eqb-true a.modified b.modified (and_right md5 modified three) in
+    λ i. record { data_id = id_is i; print = print_is i; length = size_is i; md5 = md5_is i; modified = modified_is i }
 
 module _ (at : KeyName) (upload : VersionId) (number : ℕ) (part : PartRecord) (now : ℕ) (id : VersionId) (row : Option PartRecord) (content : List ℕ)
     (spells : SpellsPart content row) (one : ContentIsInjective) (planned : Planned) (canonical : IsCanonical (stored_at part now))

@@ -1,6 +1,6 @@
 //! What a deed does to the content of its register.
 
-ghost use Rattle.std.specs.Prelude.{◌≡◌, ℕ, false, IfOk, IfSome, List, [], MatchOption, Some, None};
+ghost use Rattle.std.specs.Prelude.{◌≡◌, ◌≢◌, ℕ, false, true, IfOk, IfSome, List, [], MatchOption, Some, None};
 ghost use Rattle.std.specs.List.{flat_map};
 ghost use Rattle.stamp_id.specs.VersionId.{id_bytes};
 ghost use Rattle.stamp_id.specs.declared.version.VersionId.{VersionId};
@@ -196,7 +196,7 @@ pub fn plan_part(
         → IfOk result (λ planned. IsPlanned (Commit.Part at upload number part.now) now id content planned) }
 {
     upload_book::row_laws();
-    let stored = stored_at(part, now);
+    let stored = stored_at(*part, now);
     let content = spelled_part(alloc, row, stored)?;
     Ok(Planned {
         reply: Reply::Stored {
@@ -213,9 +213,9 @@ pub fn plan_part(
 }
 
 /// A part that is stored in this second.
-fn stored_at(part: &PartRecord, now: u64) -> PartRecord
+fn stored_at(part: PartRecord, now: u64) -> PartRecord
     requires moment { IsMoment now }
-    ensures value { result ≡ stored_at part.now now }
+    ensures value { result ≡ stored_at part now }
     ensures canonical { IsPartRow (Some result) }
 {
     let PartRecord {
@@ -224,13 +224,24 @@ fn stored_at(part: &PartRecord, now: u64) -> PartRecord
         length,
         md5,
         ..
-    } = *part;
+    } = part;
     PartRecord {
         data_id,
         print,
         length,
         md5,
         modified: now,
+    }
+}
+
+/// Whether a register has this part.
+fn is_stored(row: &Option<PartRecord>, stored: &PartRecord) -> bool
+    ensures yes { result ≡ true → row.now ≡ Some stored.now }
+    ensures no { result ≡ false → row.now ≢ Some stored.now }
+{
+    match row {
+        None => false,
+        Some(there) => *there == *stored,
     }
 }
 
@@ -243,7 +254,7 @@ fn spelled_part(
     requires { IsPartRow (Some stored) }
     ensures { IfOk result (λ content. SpellsStored row.now stored content) }
 {
-    if *row == Some(stored) {
+    if is_stored(row, &stored) {
         return Ok(None);
     }
     let content = upload_book::write(alloc, &Some(stored))?;

@@ -74,7 +74,7 @@ returns-clause-leaves g c holding rest lands fits was =
     let outcome = c.commit_register-outcome.result in
     let new = c.commit_register-outcome.new in
     outcome_leaves {D = T} D c.args.ask.now.site c.args.drawn.now new.drawn c.args.deed.now c.args.ask.now.put outcome c.args.trash.now.items new.trash.items c.args.lanes.now new.lanes
-    c.conclude.result.answer c.conclude.result.stub holding rest c.conclude.ensures.answer
+    c.conclude.result.answer c.conclude.result.stub holding rest c.requires.no_part c.conclude.ensures.answer
     (c.conclude.ensures.entry ∙ entry_is c.args.ask.now.site.turns (name_of c.args.deed.now) c.in-Ok.opening.entries.audit outcome c.in-Ok.ensures.opening.entries.audit_is)
     c.commit_register-outcome.ensures.leaves lands fits was
 

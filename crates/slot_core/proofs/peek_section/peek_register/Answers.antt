@@ -10,7 +10,7 @@ use Rattle.slot_core.specs.PeekSection.{KnownContent}
 use Rattle.slot_core.specs.Settlement.{SettledOn, numbers_at}
 use Rattle.slot_core.proofs.LanesStayLemmas.{files_stay, goes_after_read, read_goes_on, tells_stay}
 use Rattle.slot_core.proofs.CauseLemmas.{cause_of_forward, gives_of, longest_at, look_cause, ready_at, rule_at}
-use Rattle.slot_core.proofs.SettlingLemmas.{looked_settled}
+use Rattle.slot_core.proofs.SettlingLemmas.{looked_settled, name_held}
 use Rattle.slot_core.proofs.TurnLemmas.{forward_has_memory, known_content, refusal_calls, refusal_leaves, settled_known, stands_looked}
 use Rattle.slot_core.proofs.peek_section.peek_register.Goals as goal
 
