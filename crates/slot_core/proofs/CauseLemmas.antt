@@ -1,8 +1,9 @@
 -- From which calls the answer of a look comes, and of the completion after it.
-use Rattle.std.proofs.Common.{◌≡◌, ◌<◌, ◌≤◌, ◌∙◌, ℕ, List, Option, None, Some, Result, Ok, Err, length, ap, subst, sym, refl, inl, inr, arith}
+use Rattle.std.proofs.Common.{◌≡◌, ◌<◌, ◌≤◌, ◌∙◌, ℕ, false, List, Option, None, Some, Result, Ok, Err, length, ap, subst, subst₂, sym, refl, inl, inr, arith}
 use Rattle.std.proofs.lemmas.Bool.Decides.{nat_tests}
 use Rattle.std.specs.Prelude.{Bool, false, nat_le, if◌then◌else◌, string_bytes}
 use Rattle.bucket_book.specs.Content.{content_fault}
+use Rattle.upload_book.specs.Content.{content_fault as part_fault}
 use Rattle.call_types.specs.declared.why.Why.{Why}
 use Rattle.drive_base.specs.declared.drive.Drive.{Ghosts}
 use Rattle.call_types.specs.Good.{good_count}
@@ -21,9 +22,9 @@ use Rattle.register_core.specs.declared.faults.QuorumFault.TheVariants.{NoMemory
 use Rattle.register_core.specs.declared.looks.Looked.{Looked}
 use Rattle.register_caller.specs.Pending.{WritesAgain}
 use Rattle.register_caller.specs.Steps.{WritesBoth}
-use Rattle.slot_rules.specs.Rules.{is_bucket_name, key_fault, longest_for, rule_for}
+use Rattle.slot_rules.specs.Rules.{IsRegisterName, is_bucket_name, is_part_name, key_fault, longest_for, rule_for}
 use Rattle.slot_rules.specs.declared.ready.Ready.{Ready}
-use Rattle.slot_rules.specs.declared.rules.TheConstants.{BUCKET_BYTES, KEY_BYTES}
+use Rattle.slot_rules.specs.declared.rules.TheConstants.{BUCKET_BYTES, KEY_BYTES, PART_BYTES}
 use Rattle.slot_rules.specs.declared.site.Drawn.{Drawn}
 use Rattle.slot_rules.specs.declared.site.Site.{Site}
 use Rattle.slot_core.specs.Causes.{Completes, LookCause, LookGave}
@@ -38,6 +39,20 @@ rule_at bucket content = if bucket then content_fault content else key_fault Non
 
 abbrev pub longest_at : Bool → ℕ
 longest_at bucket = if bucket then BUCKET_BYTES else KEY_BYTES
+
+-- at the name of a bucket's or a key's register that is its rule by the name
+pub of_no_part : (name : List ℕ) → IsRegisterName name → is_part_name name ≡ false
+of_no_part name named = elim named [
+  | inl bucket ↦ ap is_part_name bucket.1
+  | inr key ↦ ap is_part_name key.1
+]
+
+rule_is : (name : List ℕ) → is_part_name name ≡ false → rule_at (is_bucket_name name) ≡ rule_for name
+rule_is name none =
+    ap (λ (part : Bool). λ (content : List ℕ). if is_bucket_name name then content_fault content else (if part then part_fault content else key_fault None None content)) (sym none)
+
+longest_is : (name : List ℕ) → is_part_name name ≡ false → longest_at (is_bucket_name name) ≡ longest_for name
+longest_is name none = ap (λ (part : Bool). if is_bucket_name name then BUCKET_BYTES else (if part then PART_BYTES else KEY_BYTES)) (sym none)
 
 few_if : (w good : ℕ) → nat_le w good ≡ false → good < w
 few_if w good none = grind (arith, nat_tests)
@@ -83,19 +98,23 @@ module _ {D : Type 0} (ghosts : Ghosts D) where
     | inr few ↦ inr (inl (few, refl))
   ]
 
-  pub look_cause : (site : Site) (drawn : Drawn) (name : List ℕ) (bucket : Bool) (fault : QuorumFault) (old new disks disks_after : List D) → bucket ≡ is_bucket_name name
+  pub look_cause : (site : Site) (drawn : Drawn) (name : List ℕ) (bucket : Bool) (fault : QuorumFault) (old new disks disks_after : List D) → IsRegisterName name → bucket ≡ is_bucket_name name
       → LooksAt ghosts site drawn name (rule_at bucket) (longest_at bucket) (Err fault) old new disks disks_after
       → LookCause ghosts (numbers_at site drawn) (numbers_at site drawn) name (rule_for name) (longest_for name) fault old new disks disks_after
-  look_cause site drawn name bucket fault old new disks disks_after is looks =
-      cause_of_look site drawn name (rule_at (is_bucket_name name)) (longest_at (is_bucket_name name)) fault old new disks disks_after
-      (subst (λ (b : Bool). LooksAt ghosts site drawn name (rule_at b) (longest_at b) (Err fault) old new disks disks_after) is looks)
+  look_cause site drawn name bucket fault old new disks disks_after named is looks =
+      let none = of_no_part name named in
+      cause_of_look site drawn name (rule_for name) (longest_for name) fault old new disks disks_after
+      (subst₂ (λ (r : List ℕ → Option ℕ) (m : ℕ). LooksAt ghosts site drawn name r m (Err fault) old new disks disks_after) (rule_is name none) (longest_is name none)
+      (subst (λ (b : Bool). LooksAt ghosts site drawn name (rule_at b) (longest_at b) (Err fault) old new disks disks_after) is looks))
 
   -- a look that could conclude, by the name
-  pub ready_at : (site : Site) (drawn : Drawn) (name : List ℕ) (bucket : Bool) (ready : Ready) (old mid disks disks_after : List D) → bucket ≡ is_bucket_name name
+  pub ready_at : (site : Site) (drawn : Drawn) (name : List ℕ) (bucket : Bool) (ready : Ready) (old mid disks disks_after : List D) → IsRegisterName name → bucket ≡ is_bucket_name name
       → IsReady ghosts site drawn name (rule_at bucket) (longest_at bucket) ready old mid disks disks_after
       → IsReady ghosts site drawn name (rule_for name) (longest_for name) ready old mid disks disks_after
-  ready_at site drawn name bucket ready old mid disks disks_after is ready_is =
-      subst (λ (b : Bool). IsReady ghosts site drawn name (rule_at b) (longest_at b) ready old mid disks disks_after) is ready_is
+  ready_at site drawn name bucket ready old mid disks disks_after named is ready_is =
+      let none = of_no_part name named in
+      subst₂ (λ (r : List ℕ → Option ℕ) (m : ℕ). IsReady ghosts site drawn name r m ready old mid disks disks_after) (rule_is name none) (longest_is name none)
+      (subst (λ (b : Bool). IsReady ghosts site drawn name (rule_at b) (longest_at b) ready old mid disks disks_after) is ready_is)
 
   -- what was written is what was pending, again
   writes_again : (site : Site) (drawn later : Drawn) (name : List ℕ) (rule : List ℕ → Option ℕ) (longest : ℕ) (ready : Ready) (result : Result (List Why) QuorumFault)

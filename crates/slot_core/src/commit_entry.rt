@@ -80,7 +80,10 @@ fn deed_name(alloc: Global, deed: &Commit) -> Result<String, NoMemory>
     match deed {
         Commit::Key { at, .. } => key_name(alloc, at),
         Commit::Part {
-            at, upload, number, ..
+            at,
+            upload,
+            number,
+            ..
         } => part_name(alloc, at, *upload, *number),
         Commit::MakeBucket(bucket) => bucket_name(alloc, bucket),
         Commit::SetMode(bucket, _) => bucket_name(alloc, bucket),

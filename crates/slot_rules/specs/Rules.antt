@@ -5,13 +5,14 @@ use Rattle.stamp_id.specs.VersionId.{id_bytes}
 use Rattle.stamp_id.specs.declared.version.VersionId.{VersionId}
 use Rattle.call_types.specs.declared.names.Key.{Key}
 use Rattle.bucket_book.specs.Content.{content_fault}
+use Rattle.upload_book.specs.Content.{content_fault as part_fault}
 use Rattle.version_list.specs.Layout.{key_state}
 use Rattle.version_list.specs.NamesId.{names_id}
 use Rattle.version_list.specs.Places.{id_place}
 use Rattle.version_list.specs.declared.state.KeyState.{KeyState}
 use Rattle.slot_history.specs.Contents.{SpellsKey}
 use Rattle.slot_history.specs.Names.{bucket_name, key_name}
-use Rattle.slot_rules.specs.declared.rules.TheConstants.{BUCKET_BYTES, KEY_BYTES}
+use Rattle.slot_rules.specs.declared.rules.TheConstants.{BUCKET_BYTES, KEY_BYTES, PART_BYTES}
 
 -- the name of a register at which a section looks: that of a bucket or that of a key
 abbrev pub IsRegisterName : List ℕ → Type 0
@@ -36,12 +37,18 @@ abbrev pub is_bucket_name : List ℕ → Bool
 is_bucket_name [] = false
 is_bucket_name (byte ∷ rest) = byte == 98
 
--- the rule of the contents of a register that is looked at, by its name, and the most bytes that such a content has
+-- and whether it is that of a part's
+abbrev pub is_part_name : List ℕ → Bool
+is_part_name [] = false
+is_part_name (byte ∷ rest) = byte == 112
+
+-- the rule of the contents of a register, by its name, and the most bytes that such a content has
 abbrev pub rule_for : List ℕ → List ℕ → Option ℕ
-rule_for name content = if is_bucket_name name then content_fault content else key_fault None None content
+rule_for name content =
+    if is_bucket_name name then content_fault content else (if is_part_name name then part_fault content else key_fault None None content)
 
 abbrev pub longest_for : List ℕ → ℕ
-longest_for name = if is_bucket_name name then BUCKET_BYTES else KEY_BYTES
+longest_for name = if is_bucket_name name then BUCKET_BYTES else (if is_part_name name then PART_BYTES else KEY_BYTES)
 
 -- a key doesn't name this id, if there is one
 abbrev pub NamesNone : Option VersionId → KeyState → Type 0

@@ -33,7 +33,7 @@ returns-in-Err-clause-calls g c =
     c.in-Err.fault c.refusal.result c.args.lanes.now c.look_at.new.lanes c.args.disks.now c.look_at.new.disks
     c.refusal.ensures
     (λ other. look_cause D c.args.site.now c.args.drawn.now c.args.name.now c.rule_of-rule.result.bucket c.in-Err.fault c.args.lanes.now c.look_at.new.lanes
-    c.args.disks.now c.look_at.new.disks c.rule_of-rule.ensures c.in-Err.ensures.looks)
+    c.args.disks.now c.look_at.new.disks c.requires.named c.rule_of-rule.ensures c.in-Err.ensures.looks)
     (λ same. (files_stay g.D.Drive c.args.lanes.now c.look_at.new.lanes c.in-Err.ensures.lanes_read))
 
 pub returns-in-Err-content_of-clause-leaves : goal.returns-in-Err-content_of-clause-leaves
@@ -66,7 +66,7 @@ returns-in-Ok-forward-clause-calls g c =
     let name = c.args.name.now in
     let ready = c.in-Ok.ready in
     let is = ready_at D site c.args.drawn.now name c.rule_of-rule.result.bucket ready c.args.lanes.now c.look_at.new.lanes c.args.disks.now c.look_at.new.disks
-    c.rule_of-rule.ensures c.in-Ok.ensures.looks in
+    c.requires.named c.rule_of-rule.ensures c.in-Ok.ensures.looks in
     gives_of D site c.args.drawn.now c.forward.new.drawn name (rule_for name) (longest_for name) ready c.in-Ok-content_of.content c.in-Ok-forward.late c.args.lanes.now c.look_at.new.lanes
     c.forward.new.lanes c.args.disks.now c.look_at.new.disks is (files_stay g.D.Drive c.args.lanes.now c.look_at.new.lanes c.in-Ok.ensures.lanes_read) c.in-Ok-content_of.ensures c.in-Ok-forward.ensures.late c.in-Ok-forward.ensures.calls
 
@@ -98,7 +98,7 @@ returns-in-Err-forward-clause-calls g c =
     let ready = c.in-Ok.ready in
     let fault = c.in-Err-forward.fault in
     let is = ready_at D site c.args.drawn.now name c.rule_of-rule.result.bucket ready c.args.lanes.now c.look_at.new.lanes c.args.disks.now c.look_at.new.disks
-    c.rule_of-rule.ensures c.in-Ok.ensures.looks in
+    c.requires.named c.rule_of-rule.ensures c.in-Ok.ensures.looks in
     refusal_calls D (numbers_at site c.args.drawn.now) (numbers_at site c.forward.new.drawn) name
     (λ content late. PeekCause D (numbers_at site c.args.drawn.now) (numbers_at site c.forward.new.drawn) name (Ok content) late c.args.lanes.now
     c.forward.new.lanes c.args.disks.now c.look_at.new.disks) fault c.refusal-in-Err-forward.result c.args.lanes.now
