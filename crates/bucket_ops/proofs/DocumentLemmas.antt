@@ -11,8 +11,8 @@ use Rattle.s3_docs.specs.Grammar.Setting.{Else, Status}
 use Rattle.s3_docs.specs.Machine.Value.{Versioning}
 use Rattle.s3_docs.specs.declared.prologue.Root.TheVariants.{VersioningConfiguration}
 use Rattle.bucket_ops.specs.Deeds.{AreLow, bucket_in, is_asked, is_on_bucket}
-use Rattle.slot_rules.specs.Deeds.{IsLawfulDeed, IsNamedDeed, name_of}
-use Rattle.slot_rules.specs.declared.commit.Commit.TheVariants.{Key, MakeBucket, SetMode}
+use Rattle.slot_rules.specs.Deeds.{IsLawfulDeed, IsNamedDeed, IsOfNoPart, name_of}
+use Rattle.slot_rules.specs.declared.commit.Commit.TheVariants.{Key, Part, MakeBucket, SetMode}
 use Rattle.slot_rules.specs.declared.commit.Commit.{Commit}
 
 -- the first of some modes
@@ -43,15 +43,25 @@ mode_lawful Suspended is = tt
 
 pub deed_lawful : (deed : Commit) → is_on_bucket deed ≡ true → IsLawfulDeed deed
 deed_lawful (Key at mode done) is = absurd cc
+deed_lawful (Part at upload number part) is = absurd cc
 deed_lawful (MakeBucket bucket) is = tt
 deed_lawful (SetMode bucket mode) is = mode_lawful mode is
 
+-- it is of no part
+pub deed_no_part : (deed : Commit) → is_on_bucket deed ≡ true → IsOfNoPart deed
+deed_no_part (Key at mode done) is = absurd cc
+deed_no_part (Part at upload number part) is = absurd cc
+deed_no_part (MakeBucket bucket) is = tt
+deed_no_part (SetMode bucket mode) is = tt
+
 pub deed_text : (deed : Commit) → is_on_bucket deed ≡ true → AreLow (bucket_in deed) → IsNamedDeed deed
 deed_text (Key at mode done) is low = absurd cc
+deed_text (Part at upload number part) is low = absurd cc
 deed_text (MakeBucket bucket) is low = IsUtf8-from_ascii bucket low
 deed_text (SetMode bucket mode) is low = IsUtf8-from_ascii bucket low
 
 pub deed_short : (deed : Commit) → is_on_bucket deed ≡ true → length (bucket_in deed) ≤ 63 → length (name_of deed) ≤ 1129
 deed_short (Key at mode done) is short = absurd cc
+deed_short (Part at upload number part) is short = absurd cc
 deed_short (MakeBucket bucket) is short = omega (arith, short)
 deed_short (SetMode bucket mode) is short = omega (arith, short)

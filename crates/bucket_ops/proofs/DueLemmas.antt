@@ -1,5 +1,5 @@
 -- That the reply to a change of a bucket is due, by what its commit says.
-use Rattle.std.proofs.Common.{◌≡◌, ◌∙◌, ℕ, Bool, List, Option, Some, None, IsSome, Result, refl, sym, subst}
+use Rattle.std.proofs.Common.{◌≡◌, ◌∙◌, ℕ, Bool, List, Option, Some, None, IsSome, Result, inl, refl, sym, subst}
 use Rattle.audit_trail.specs.declared.entry.Deed.{Deed}
 use Rattle.bucket_book.specs.Laws.{ContentIsInjective}
 use Rattle.bucket_book.specs.Step.{Step}
@@ -18,7 +18,7 @@ use Rattle.register_core.specs.declared.faults.QuorumFault.{QuorumFault}
 use Rattle.slot_history.specs.State.{Registers}
 use Rattle.slot_rules.specs.Deeds.{call_of, name_of}
 use Rattle.slot_rules.specs.Planning.{DoesOver, IsBucketDeed}
-use Rattle.slot_rules.specs.declared.commit.Commit.TheVariants.{Key, MakeBucket, SetMode}
+use Rattle.slot_rules.specs.declared.commit.Commit.TheVariants.{Key, Part, MakeBucket, SetMode}
 use Rattle.slot_rules.specs.declared.commit.Commit.{Commit}
 use Rattle.slot_core.specs.CommitCauses.{FoundSo, WroteSo}
 use Rattle.slot_core.specs.Views.{SlotNumbers}
@@ -49,17 +49,19 @@ steps_of registers name bucket content new done now reply is x = record {
 does_bucket : (deed : Commit) (done : BucketAct) (content new : List ℕ) (change : Option ChangeId) (now : ℕ) (id : VersionId) (reply : Reply) → IsBucketDeed deed done
     → DoesOver (name_of deed) content (call_of deed change now) id reply new → StepsBucket content new done now reply
 does_bucket (Key at mode done_to) done content new change now id reply is does = absurd is
+does_bucket (Part at upload number part) done content new change now id reply is does = absurd is
 does_bucket (MakeBucket bucket) done content new change now id reply is does =
     subst (λ d. StepsBucket content new d now reply) (sym is)
-    (steps_of (alone content) (name_of (MakeBucket bucket)) bucket content new act.Make now reply refl (does (alone content) refl))
+    (steps_of (alone content) (name_of (MakeBucket bucket)) bucket content new act.Make now reply refl (does (alone content) refl (inl (bucket, refl))))
 does_bucket (SetMode bucket mode) done content new change now id reply is does =
     subst (λ d. StepsBucket content new d now reply) (sym is)
-    (steps_of (alone content) (name_of (SetMode bucket mode)) bucket content new (act.SetMode mode) now reply refl (does (alone content) refl))
+    (steps_of (alone content) (name_of (SetMode bucket mode)) bucket content new (act.SetMode mode) now reply refl (does (alone content) refl (inl (bucket, refl))))
 
 -- a reply to an act on a bucket is one to the call that the entry tells of
 pub act_due : (deed : Commit) (done : BucketAct) (change : Option ChangeId) (now : ℕ) (reply : Reply) → IsBucketDeed deed done → IsDueBucket done change now reply
     → IsDueReply (call_of deed change now) reply
 act_due (Key at mode done_to) done change now reply is due = absurd is
+act_due (Part at upload number part) done change now reply is due = absurd is
 act_due (MakeBucket bucket) done change now reply is due = subst (λ d. IsDueBucket d change now reply) is due
 act_due (SetMode bucket mode) done change now reply is due = subst (λ d. IsDueBucket d change now reply) is due
 

@@ -1,4 +1,4 @@
--- What lanes that stand keep of a bucket's or a key's register is accepted by the rule of a section, and isn't too long.
+-- What lanes that stand keep of a register is accepted by the rule of a section, and isn't too long.
 use Rattle.std.proofs.Common.{◌≡◌, ◌∙◌, ◌⊎◌, ◌+◌, ◌≤◌, ℕ, List, [], Option, Some, None, Contains, cond, length, ap, sym, subst, inl, inr, refl, arith}
 use Rattle.std.specs.Prelude.{Bool, true, false}
 use Rattle.stamp_id.specs.Rank.{change_of}
@@ -17,21 +17,24 @@ use Rattle.version_list.specs.Spelling.{spelling}
 use Rattle.version_list.specs.declared.state.KeyState.{KeyState}
 use Rattle.version_list.proofs.LawProofs.{no_fault}
 use Rattle.version_list.proofs.PlaceLemmas.{none_there, place_named}
+use Rattle.call_types.specs.declared.version.PartRecord.{PartRecord}
+use Rattle.upload_book.specs.Content.{content_fault as part_fault}
+use Rattle.upload_book.proofs.ContentLemmas.{contents_no_fault as parts_no_fault}
 use Rattle.vote_core.specs.Lane.{HasRecord, Lane}
 use Rattle.register_core.specs.ServingLanes.{IsWithin}
-use Rattle.slot_history.specs.Contents.{IsContentOf, SpellsBucket, SpellsKey, no_key, number_of_id}
-use Rattle.slot_history.specs.Names.{bucket_name, key_name}
+use Rattle.slot_history.specs.Contents.{IsContentOf, SpellsBucket, SpellsKey, SpellsPart, no_key, number_of_id}
+use Rattle.slot_history.specs.Names.{bucket_name, key_name, part_name}
 use Rattle.slot_history.specs.Standing.{Flying, IsLawfulUnder, IsSpent}
 use Rattle.slot_history.proofs.NameLemmas.{bucket_not_key, bucket_not_part, key_not_part}
 use Rattle.slot_rules.specs.Deeds.{name_of}
 use Rattle.slot_rules.specs.Owning.{IsOwnId}
-use Rattle.slot_rules.specs.Rules.{is_bucket_name, NamesNone, first_place, key_fault, longest_for, named_place, rule_for}
+use Rattle.slot_rules.specs.Rules.{is_bucket_name, is_part_name, NamesNone, first_place, key_fault, longest_for, named_place, rule_for}
+use Rattle.slot_rules.proofs.PartLemmas.{part_short}
 use Rattle.slot_rules.proofs.SizeLemmas.{bucket_short, content_short}
-use Rattle.slot_rules.specs.declared.commit.Commit.TheVariants.{Key as KeyDeed, MakeBucket, SetMode}
+use Rattle.slot_rules.specs.declared.commit.Commit.TheVariants.{Key as KeyDeed, Part as PartDeed, MakeBucket, SetMode}
 use Rattle.slot_rules.specs.declared.commit.Commit.{Commit}
-use Rattle.slot_rules.specs.declared.rules.TheConstants.{BUCKET_BYTES, KEY_BYTES}
+use Rattle.slot_rules.specs.declared.rules.TheConstants.{BUCKET_BYTES, KEY_BYTES, PART_BYTES}
 use Rattle.slot_core.specs.CommitCauses.{IsRuleOf, life_of}
-use Rattle.slot_data.specs.Disks.{IsPartName}
 use Rattle.slot_core.specs.Views.{SlotNumbers, last_of}
 
 -- what lanes keep of a register is accepted by a rule, and isn't too long
@@ -123,32 +126,52 @@ bucket_accepts drives last flights lanes bucket lawful = record {
       let x = bucket_of bucket content (lawful.contents a c content there has) in bucket_short content x.0 x.1.is);
 }
 
--- ---- by the name, which isn't a part's
+-- ---- parts
 
-empty_accepted : (b : Bool) → cond b (content_fault []) (key_fault None None []) ≡ None
-empty_accepted true = refl
-empty_accepted false = key_accepted None None [] no_key no_key_spelled tt tt
+pub part_of : (at : Key) (upload : VersionId) (number : ℕ) (content : List ℕ) → (content ≡ []) ⊎ IsContentOf (part_name at upload number) content
+    → (row : Option PartRecord) × SpellsPart content row
+part_of at upload number content (inl none) = (None, record { canonical = tt; is = none })
+part_of at upload number content (inr (inl (other, name, (state, spells)))) = absurd (key_not_part other at upload number (sym name))
+part_of at upload number content (inr (inr (inl (bucket, name, (row, spells))))) = absurd (bucket_not_part bucket at upload number (sym name))
+part_of at upload number content (inr (inr (inr (other, more, n, name, (row, spells))))) = (row, spells)
 
-pub look_content : (name content : List ℕ) → (content ≡ []) ⊎ IsContentOf name content → (IsPartName name → ⊥)
-    → (rule_for name content ≡ None) × (length content ≤ longest_for name)
-look_content name content (inl none) plain = (
-  ap (λ (v : List ℕ). rule_for name v) none ∙ empty_accepted (is_bucket_name name),
+part_accepts : (drives last : ℕ) (flights : List Flying) (lanes : List Lane) (at : Key) (upload : VersionId) (number : ℕ)
+    → IsLawfulUnder drives last flights lanes (part_name at upload number) → Accepts (λ content. part_fault content) PART_BYTES lanes
+part_accepts drives last flights lanes at upload number lawful = record {
+  accepts = λ a c content there has.
+      let x = part_of at upload number content (lawful.contents a c content there has) in
+      ap (λ (v : List ℕ). part_fault v) x.1.is ∙ parts_no_fault x.0 x.1.canonical;
+  short = λ a there. within PART_BYTES a (λ c content has.
+      let x = part_of at upload number content (lawful.contents a c content there has) in part_short content x.0 x.1.canonical x.1.is);
+}
+
+-- ---- by the name
+
+empty_accepted : (b p : Bool) → cond b (content_fault []) (cond p (part_fault []) (key_fault None None [])) ≡ None
+empty_accepted true p = refl
+empty_accepted false true = refl
+empty_accepted false false = key_accepted None None [] no_key no_key_spelled tt tt
+
+pub look_content : (name content : List ℕ) → (content ≡ []) ⊎ IsContentOf name content → (rule_for name content ≡ None) × (length content ≤ longest_for name)
+look_content name content (inl none) = (
+  ap (λ (v : List ℕ). rule_for name v) none ∙ empty_accepted (is_bucket_name name) (is_part_name name),
   let long = ap (λ (v : List ℕ). length v) none in omega (arith, long),
 )
-look_content name content (inr (inl (at, is, (state, spells)))) plain =
+look_content name content (inr (inl (at, is, (state, spells)))) =
     subst (λ (n : List ℕ). (rule_for n content ≡ None) × (length content ≤ longest_for n)) (sym is)
     (key_accepted None None content state spells tt tt, content_short content state spells.canonical spells.is)
-look_content name content (inr (inr (inl (bucket, is, (row, spells))))) plain =
+look_content name content (inr (inr (inl (bucket, is, (row, spells))))) =
     subst (λ (n : List ℕ). (rule_for n content ≡ None) × (length content ≤ longest_for n)) (sym is)
     (ap (λ (v : List ℕ). content_fault v) spells.is ∙ contents_no_fault row spells.canonical, bucket_short content row spells.is)
-look_content name content (inr (inr (inr (at, upload, number, is, (row, spells))))) plain =
-    absurd (plain (record { at = at; upload = upload; number = number; is = is }))
+look_content name content (inr (inr (inr (at, upload, number, is, (row, spells))))) =
+    subst (λ (n : List ℕ). (rule_for n content ≡ None) × (length content ≤ longest_for n)) (sym is)
+    (ap (λ (v : List ℕ). part_fault v) spells.is ∙ parts_no_fault row spells.canonical, part_short content row spells.canonical spells.is)
 
-pub look_accepts : (drives last : ℕ) (flights : List Flying) (lanes : List Lane) (name : List ℕ) → (IsPartName name → ⊥)
+pub look_accepts : (drives last : ℕ) (flights : List Flying) (lanes : List Lane) (name : List ℕ)
     → IsLawfulUnder drives last flights lanes name → Accepts (rule_for name) (longest_for name) lanes
-look_accepts drives last flights lanes name plain lawful = record {
-  accepts = λ a c content there has. (look_content name content (lawful.contents a c content there has) plain).0;
-  short = λ a there. within (longest_for name) a (λ c content has. (look_content name content (lawful.contents a c content there has) plain).1);
+look_accepts drives last flights lanes name lawful = record {
+  accepts = λ a c content there has. (look_content name content (lawful.contents a c content there has)).0;
+  short = λ a there. within (longest_for name) a (λ c content has. (look_content name content (lawful.contents a c content there has)).1);
 }
 
 -- ---- by the deed
@@ -178,6 +201,9 @@ deed_accepts drives numbers flights lanes (KeyDeed at mode act) put rule longest
     (subst (λ (m : ℕ). Accepts (λ content. key_fault (Some alone) (Some after) content) m lanes) (sym most)
     (key_accepts drives (last_of numbers) flights lanes at (Some alone) (Some after) lawful (own_unspent numbers flights numbers.seq put alone (omega arith) put_there first)
     (own_unspent numbers flights (numbers.seq + 1) put after (omega arith) put_there second)))
+deed_accepts drives numbers flights lanes (PartDeed at upload number part) put rule longest lawful listed (rule_is, most) =
+    subst (λ (r : List ℕ → Option ℕ). Accepts r longest lanes) (sym rule_is)
+    (subst (λ (m : ℕ). Accepts (λ content. part_fault content) m lanes) (sym most) (part_accepts drives (last_of numbers) flights lanes at upload number lawful))
 deed_accepts drives numbers flights lanes (MakeBucket bucket) put rule longest lawful listed (rule_is, most) =
     subst (λ (r : List ℕ → Option ℕ). Accepts r longest lanes) (sym rule_is)
     (subst (λ (m : ℕ). Accepts (λ content. content_fault content) m lanes) (sym most) (bucket_accepts drives (last_of numbers) flights lanes bucket lawful))

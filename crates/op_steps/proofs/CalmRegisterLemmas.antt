@@ -127,13 +127,10 @@ module _ {D : Type 0} (ghosts : Ghosts D) where
       lawful : IsLawfulUnder was.numbers.set.drives (last_of was.numbers) was.holding.flights (records name) name
       lawful = stands.stands.lawful_under name
 
-      plain : IsPartName name → ⊥
-      plain part = register_not_part name named part
-
       look_not : (disks disks_after : List D) (fault : QuorumFault) → fault ≢ NoMemory → LookRefuses ghosts was now made fault disks disks_after → ⊥
       look_not disks disks_after fault other x =
           let content = look_accepts was.numbers.set.drives (last_of was.numbers) was.holding.flights (records name) name
-          plain lawful in
+          lawful in
           cause_calm (rule_for name) (longest_for name) content disks disks_after fault other
           (subst (λ (n : List ℕ). LookCause ghosts was.numbers now.numbers n (rule_for n) (longest_for n) fault was.lanes
           now.lanes

@@ -146,9 +146,6 @@ module _ {D : Type 0} (ghosts : Ghosts D) where
       lawful : IsLawfulUnder was.numbers.set.drives (last_of was.numbers) was.holding.flights (records made.name) made.name
       lawful = stands.stands.lawful_under made.name
 
-      plain : IsPartName made.name → ⊥
-      plain = subst IsOfNoPart is no_part
-
       serves : (rule : List ℕ → Option ℕ) (longest : ℕ) → Accepts rule longest (records made.name)
           → RegisterServes ghosts was.numbers.set lanes made.name rule longest (records made.name) was.lanes now.lanes
       serves rule longest content = record {
@@ -215,7 +212,7 @@ module _ {D : Type 0} (ghosts : Ghosts D) where
             → LookRefuses ghosts was now made fault disks_old disks_new → ⊥
         look_not fault enough x =
             let content = look_accepts was.numbers.set.drives (last_of was.numbers) was.holding.flights (records made.name) made.name
-            plain lawful in
+            lawful in
             cause_not ghosts law Forgets untold_forgets was.numbers.set lanes made.name (rule_for made.name) (longest_for made.name)
             (records made.name) was.lanes now.lanes (serves (rule_for made.name) (longest_for made.name) content) fault disks_old disks_new
             (against (rule_for made.name) (longest_for made.name) content fault enough) was.numbers now.numbers refl x.cause

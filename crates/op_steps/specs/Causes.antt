@@ -33,7 +33,6 @@ use Rattle.stamp_id.specs.Rank.{change_of}
 use Rattle.stamp_id.specs.declared.version.VersionId.{VersionId}
 use Rattle.slot_history.specs.Contents.{IsContentOf, NamesId}
 use Rattle.slot_history.specs.Standing.{Flying}
-use Rattle.slot_data.specs.Disks.{IsPartName}
 use Rattle.slot_data.specs.Holding.{IsInFlight}
 use Rattle.slot_rules.specs.Rules.{IsRegisterName, longest_for}
 use Rattle.slot_core.specs.Numbers.{AreSpent}
@@ -65,9 +64,9 @@ pub record IsNextId (numbers : SlotNumbers) (claim : Claim) (id : VersionId) : T
   pub slot : id.slot ≡ numbers.index
   pub change : ((f : Flying) × (claim.flight ≡ Some f) × (id.change ≡ f.id.change)) ⊎ ((id.change.0.term ≡ numbers.term) × (numbers.seq < id.change.0.seq))
 
--- a content breaks the rule of a register's contents: it is none of a register of this name, which is no part's, or it names such an id
+-- a content breaks the rule of a register's contents: it is none of a register of this name, or it names such an id
 abbrev pub BreaksRule : SlotNumbers → Claim → List ℕ → List ℕ → Type 0
-BreaksRule numbers claim name content = (IsPartName name → ⊥) → (content ≡ []) ⊎ IsContentOf name content
+BreaksRule numbers claim name content = (content ≡ []) ⊎ IsContentOf name content
     → (id : VersionId) × IsNextId numbers claim id × NamesId name content id
 
 -- what is shown under a register's name is no file of a register, or one with a content that breaks the rule

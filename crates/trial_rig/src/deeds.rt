@@ -2,7 +2,7 @@
 
 ghost use Rattle.std.specs.Prelude.{◌≤◌, IfOk, length};
 ghost use Rattle.version_list.specs.State.{IsMoment};
-ghost use Rattle.slot_rules.specs.Deeds.{IsLawfulDeed, IsNamedDeed, name_of};
+ghost use Rattle.slot_rules.specs.Deeds.{IsLawfulDeed, IsNamedDeed, IsOfNoPart, name_of};
 ghost use Rattle.drive_base.specs.declared.drive.TheConstants.{LONGEST_NAME};
 
 use crate::key_of;
@@ -49,6 +49,7 @@ pub fn pick_of(word: &str) -> Result<Pick, NoAnswer> {
 
 /// The deed `put BUCKET/KEY MODE LENGTH`, with data under this id.
 fn put_deed(alloc: Global, id: VersionId, words: &str) -> Result<Commit, NoAnswer>
+    ensures no_part { IfOk result IsOfNoPart }
     ensures lawful { IfOk result IsLawfulDeed }
     ensures named { IfOk result IsNamedDeed }
     ensures short { IfOk result (λ deed. length (name_of deed) ≤ LONGEST_NAME) }
@@ -69,6 +70,7 @@ fn put_deed(alloc: Global, id: VersionId, words: &str) -> Result<Commit, NoAnswe
 
 /// The deed `delete BUCKET/KEY MODE PICK`.
 fn delete_deed(alloc: Global, words: &str) -> Result<Commit, NoAnswer>
+    ensures no_part { IfOk result IsOfNoPart }
     ensures lawful { IfOk result IsLawfulDeed }
     ensures named { IfOk result IsNamedDeed }
     ensures short { IfOk result (λ deed. length (name_of deed) ≤ LONGEST_NAME) }
@@ -82,6 +84,7 @@ fn delete_deed(alloc: Global, words: &str) -> Result<Commit, NoAnswer>
 
 /// The deed `make BUCKET` or `mode BUCKET MODE`.
 fn bucket_deed(alloc: Global, words: &str) -> Result<Commit, NoAnswer>
+    ensures no_part { IfOk result IsOfNoPart }
     ensures lawful { IfOk result IsLawfulDeed }
     ensures named { IfOk result IsNamedDeed }
     ensures short { IfOk result (λ deed. length (name_of deed) ≤ LONGEST_NAME) }
@@ -101,6 +104,7 @@ fn bucket_deed(alloc: Global, words: &str) -> Result<Commit, NoAnswer>
 
 /// The deed of a commit; that of a put brings the data of its flight.
 pub fn deed_of(alloc: Global, flight: &Option<Flight>, words: &str) -> Result<Commit, NoAnswer>
+    ensures no_part { IfOk result IsOfNoPart }
     ensures lawful { IfOk result IsLawfulDeed }
     ensures named { IfOk result IsNamedDeed }
     ensures short { IfOk result (λ deed. length (name_of deed) ≤ LONGEST_NAME) }

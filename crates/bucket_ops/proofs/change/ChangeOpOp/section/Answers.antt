@@ -1,10 +1,13 @@
 use Rattle.op_steps.specs.Store.{slot_seen}
 use Rattle.bucket_ops.proofs.ChangeStepLemmas.{section_so}
-use Rattle.bucket_ops.proofs.DocumentLemmas.{deed_text}
+use Rattle.bucket_ops.proofs.DocumentLemmas.{deed_no_part, deed_text}
 use Rattle.bucket_ops.proofs.change.ChangeOpOp.section.Goals as goal
 
 pub commit-turn-requires-clause-named : goal.commit-turn-requires-clause-named
 commit-turn-requires-clause-named g c = let deed = c.in-Committing.deed in deed_text deed.commit deed.on_bucket deed.low
+
+pub commit-turn-requires-clause-no_part : goal.commit-turn-requires-clause-no_part
+commit-turn-requires-clause-no_part g c = let deed = c.in-Committing.deed in deed_no_part deed.commit deed.on_bucket
 
 pub returns-clause-turns : goal.returns-clause-turns
 returns-clause-turns g c =
