@@ -1,5 +1,5 @@
 -- What the completion after a read's look leaves and tells.
-use Rattle.std.proofs.Common.{◌≡◌, ℕ, List, Ok, Err, length, inr, refl, subst, sym}
+use Rattle.std.proofs.Common.{◌≡◌, ℕ, List, Ok, Err, length, inl, inr, refl, subst, sym}
 use Rattle.drive_base.specs.declared.drive.Drive.{Ghosts}
 use Rattle.call_types.specs.declared.names.Key.{Key}
 use Rattle.call_types.specs.declared.names.Mode.{Mode}
