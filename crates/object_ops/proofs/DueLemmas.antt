@@ -69,7 +69,7 @@ module _ {D : Type 0} (ghosts : Ghosts D) where
       → FoundSo ghosts numbers later (KeyCommit at mode act) put now reply entered old new disks disks_after
       → DoneSo numbers.index at mode act now reply entered
   found_so numbers later at mode act put now reply entered old new disks disks_after x =
-      let steps = steps_of _ x.content x.content at mode act x.id now reply (x.does (alone x.content) refl) in
+      let steps = steps_of _ x.content x.content at mode act x.id now reply (x.does (alone x.content) refl (inr (inl (at, refl)))) in
       record {
         change = None;
         deed_is = x.deed_is;
@@ -88,7 +88,7 @@ module _ {D : Type 0} (ghosts : Ghosts D) where
       → WroteSo ghosts numbers later (KeyCommit at mode act) put now reply (Ok letters) entered old new disks disks_after
       → DoneSo numbers.index at mode act now reply entered
   wrote_so numbers later at mode act put now reply letters entered old new disks disks_after x =
-      let steps = steps_of _ x.content x.own.content at mode act x.is_own.id now reply (x.is_own.does (alone x.content) refl) in
+      let steps = steps_of _ x.content x.own.content at mode act x.is_own.id now reply (x.is_own.does (alone x.content) refl (inr (inl (at, refl)))) in
       record {
         change = Some x.own.change;
         deed_is = x.deed_is;

@@ -3,8 +3,8 @@ use Rattle.std.proofs.Common.{◌≡◌, None, true, IsUtf8, refl}
 use Rattle.std.proofs.lemmas.Str.{IsUtf8-had}
 use Rattle.call_types.specs.declared.act.Act.TheVariants as act
 use Rattle.version_list.specs.State.{IsKind}
-use Rattle.slot_rules.specs.Deeds.{IsLawfulDeed, IsNamedDeed}
-use Rattle.slot_rules.specs.declared.commit.Commit.TheVariants.{Key, MakeBucket, SetMode}
+use Rattle.slot_rules.specs.Deeds.{IsLawfulDeed, IsNamedDeed, IsOfNoPart}
+use Rattle.slot_rules.specs.declared.commit.Commit.TheVariants.{Key, Part, MakeBucket, SetMode}
 use Rattle.slot_rules.specs.declared.commit.Commit.{Commit}
 use Rattle.slot_core.specs.Commits.{FitsFlight}
 use Rattle.object_ops.specs.KeyDeeds.{act_of, bucket_in, deed_needs_none, key_in, kind_in, needs_no_body}
@@ -25,9 +25,20 @@ by_act (Key at mode (act.Delete pick)) none short bucket key = (tt, (bucket, key
 by_act (Key at mode (act.Create kind)) none short bucket key = (short, (bucket, key), refl)
 by_act (Key at mode (act.Complete upload parts data_id print size md5)) none short bucket key = absurd cc
 by_act (Key at mode (act.Abort upload)) none short bucket key = (tt, (bucket, key), refl)
+by_act (Part at upload number part) none short bucket key = absurd cc
 by_act (MakeBucket name) none short bucket key = absurd cc
 by_act (SetMode name mode) none short bucket key = absurd cc
 
 abbrev pub can_commit : (deed : KeyDeed) → IsLawfulDeed deed.commit × IsNamedDeed deed.commit × FitsFlight deed.commit None
 can_commit deed = by_act deed.commit deed.bodyless deed.kind_short (IsUtf8-had (bucket_in deed.commit) deed.bucket_text)
     (IsUtf8-had (key_in deed.commit) deed.key_text)
+
+-- it is of no part
+by_key : (deed : Commit) → deed_needs_none deed ≡ true → IsOfNoPart deed
+by_key (Key at mode done) none = tt
+by_key (Part at upload number part) none = absurd cc
+by_key (MakeBucket name) none = tt
+by_key (SetMode name mode) none = tt
+
+abbrev pub of_no_part : (deed : KeyDeed) → IsOfNoPart deed.commit
+of_no_part deed = by_key deed.commit deed.bodyless

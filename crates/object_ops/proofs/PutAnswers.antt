@@ -8,7 +8,7 @@ use Rattle.drive_base.specs.declared.drive.Drive.{Ghosts}
 use Rattle.put_stage.specs.Steps.{MayFinish}
 use Rattle.put_stage.specs.declared.stage.StageNext.TheVariants.{Finish}
 use Rattle.stamp_id.specs.declared.version.VersionId.{VersionId}
-use Rattle.slot_rules.specs.Deeds.{IsLawfulDeed, IsNamedDeed, name_of}
+use Rattle.slot_rules.specs.Deeds.{IsLawfulDeed, IsNamedDeed, IsOfNoPart, name_of}
 use Rattle.slot_rules.specs.declared.commit.Commit.{Commit}
 use Rattle.slot_rules.specs.declared.commit.Committed.{Committed}
 use Rattle.slot_core.specs.CommitCauses.{CommitCause, deed_in}
@@ -32,7 +32,7 @@ use Rattle.object_ops.specs.declared.put_state.PutState.{PutState}
 use Rattle.object_ops.specs.declared.put_state.PutState.TheVariants.{Staging, Telling, Told}
 use Rattle.object_ops.specs.declared.put_state.Work.{Work}
 use Rattle.object_ops.specs.declared.put_outcome.PutEnd.TheVariants.{Commits, GivesUp}
-use Rattle.object_ops.proofs.PutTargets.{deed_fits, deed_lawful, deed_name, deed_named}
+use Rattle.object_ops.proofs.PutTargets.{deed_fits, deed_lawful, deed_name, deed_named, deed_no_part}
 use Rattle.object_ops.proofs.PutEnds.{DropSays}
 use Rattle.object_ops.proofs.PutNext.{may_finish}
 use Rattle.object_ops.proofs.PutOpLemmas.{stands_on}
@@ -54,6 +54,10 @@ lawful_end target work id deed (staged, is, answers) short = subst IsLawfulDeed 
 pub named_end : (target : PutTarget) (work : Work) (id : VersionId) (deed : Commit) → Ends target work.mode id work.stage (Commits deed)
     → IsUtf8 (key_of target).bucket → IsUtf8 (key_of target).key → IsNamedDeed deed
 named_end target work id deed (staged, is, answers) bucket key = subst IsNamedDeed (sym is) (deed_named target work.mode id staged bucket key)
+
+pub no_part_end : (target : PutTarget) (work : Work) (id : VersionId) (deed : Commit) → Ends target work.mode id work.stage (Commits deed)
+    → IsOfNoPart deed
+no_part_end target work id deed (staged, is, answers) = subst IsOfNoPart (sym is) (deed_no_part target work.mode id staged)
 
 pub short_end : (target : PutTarget) (work : Work) (id : VersionId) (deed : Commit) → Ends target work.mode id work.stage (Commits deed)
     → length (register_of target) ≤ 1129 → length (name_of deed) ≤ 1129

@@ -18,7 +18,7 @@ use Rattle.slot_core.specs.Commits.{FitsFlight}
 use Rattle.slot_core.specs.declared.holding.Flight.{Flight}
 use Rattle.slot_data.specs.Disks.{IsForKeyOf}
 use Rattle.slot_history.specs.Names.{key_name, path_of}
-use Rattle.slot_rules.specs.Deeds.{IsLawfulDeed, IsNamedDeed, brings_of, name_of}
+use Rattle.slot_rules.specs.Deeds.{IsLawfulDeed, IsNamedDeed, IsOfNoPart, brings_of, name_of}
 use Rattle.stamp_id.specs.declared.version.VersionId.{VersionId}
 use Rattle.object_ops.specs.PutTarget.{Puts, call_of, deed_of, key_of, kind_of, register_of}
 use Rattle.object_ops.specs.declared.put_target.PutTarget.{PutTarget}
@@ -65,6 +65,9 @@ deed_lawful (Object at kind) mode id staged short = short
 pub deed_named : (target : PutTarget) (mode : Mode) (id : VersionId) (staged : Staged) → IsUtf8 (key_of target).bucket → IsUtf8 (key_of target).key
     → IsNamedDeed (deed_of target mode id staged)
 deed_named (Object at kind) mode id staged bucket key = (bucket, key)
+
+pub deed_no_part : (target : PutTarget) (mode : Mode) (id : VersionId) (staged : Staged) → IsOfNoPart (deed_of target mode id staged)
+deed_no_part (Object at kind) mode id staged = tt
 
 pub deed_fits : (target : PutTarget) (mode : Mode) (flight : Flight) (staged : Staged) → FitsFlight (deed_of target mode flight.id staged) (Some flight)
 deed_fits (Object at kind) mode flight staged = (flight, refl, refl)

@@ -3,7 +3,7 @@ use Rattle.std.specs.Prelude.{ℕ, false, Bool, List, [], is_none}
 use Rattle.call_types.specs.declared.act.Act.{Act}
 use Rattle.call_types.specs.declared.act.Act.TheVariants as act
 use Rattle.slot_rules.specs.Deeds.{act_brings}
-use Rattle.slot_rules.specs.declared.commit.Commit.TheVariants.{Key, MakeBucket, SetMode}
+use Rattle.slot_rules.specs.declared.commit.Commit.TheVariants.{Key, Part, MakeBucket, SetMode}
 use Rattle.slot_rules.specs.declared.commit.Commit.{Commit}
 use Rattle.receipts.specs.Uploads.{upload_of}
 use Rattle.object_ops.specs.declared.key_act.KeyAct.{KeyAct}
@@ -35,6 +35,7 @@ kind_in other = []
 -- its bucket and its key
 abbrev pub bucket_in : Commit → List ℕ
 bucket_in (Key at mode done) = at.bucket
+bucket_in (Part at upload number part) = at.bucket
 bucket_in (MakeBucket bucket) = bucket
 bucket_in (SetMode bucket mode) = bucket
 

@@ -4,7 +4,7 @@ use Rattle.drive_base.specs.View.{views}
 use Rattle.op_steps.specs.Store.{slot_seen}
 use Rattle.object_ops.specs.KeyDeeds.{act_of}
 use Rattle.object_ops.proofs.DeedOpLemmas.{at_bucket, at_key, clear_so, commit_so, look_so, told_trash}
-use Rattle.object_ops.proofs.KeyDeedLemmas.{can_commit}
+use Rattle.object_ops.proofs.KeyDeedLemmas.{can_commit, of_no_part}
 use Rattle.object_ops.proofs.LeftLemmas.{clear_left, commit_left, look_left}
 use Rattle.object_ops.proofs.deed.DeedOpOp.section.Goals as goal
 
@@ -59,6 +59,9 @@ returns-in-Committing-clause-left g c =
     let op = c.args.self.now in
     commit_left op.set op.clearing c.begin.new.self op.state c.after_commit.result c.in-Committing.deed c.commit-turn.result.answer c.in-Committing.is
     c.begin.ensures.takes c.begin.ensures.queue c.after_commit.ensures
+
+pub commit-turn-requires-clause-no_part : goal.commit-turn-requires-clause-no_part
+commit-turn-requires-clause-no_part g c = of_no_part c.in-Committing.deed
 
 pub commit-turn-requires-clause-lawful : goal.commit-turn-requires-clause-lawful
 commit-turn-requires-clause-lawful g c = (can_commit c.in-Committing.deed).0

@@ -13,7 +13,7 @@ use Rattle.object_ops.specs.Clearing.{AreDue, files_of}
 use Rattle.object_ops.specs.PutTarget.{key_of}
 use Rattle.object_ops.specs.declared.data_files.Removal.{Removal}
 use Rattle.object_ops.specs.declared.put_state.PutState.TheVariants.{Telling, Told}
-use Rattle.object_ops.proofs.PutAnswers.{drop_says, end_commits, end_gives_up, end_lacks, finishing, lawful_end, named_end, short_end}
+use Rattle.object_ops.proofs.PutAnswers.{drop_says, end_commits, end_gives_up, end_lacks, finishing, lawful_end, named_end, no_part_end, short_end}
 use Rattle.object_ops.proofs.PutLefts.{all_read, committed_left, over_left, staging_over}
 use Rattle.object_ops.proofs.PutOpLemmas.{lefts_on, no_stub}
 use Rattle.object_ops.proofs.PutSound.{commit_sound}
@@ -28,6 +28,12 @@ commit-turn-requires-clause-named g c =
     named_end out.target c.in-Staging.work c.id.result c.in-Commits.deed
     (subst (Ends out.target c.in-Staging.work.mode c.id.result c.in-Staging.work.stage) c.in-Commits.is c.end_of.ensures)
     (IsUtf8-had (key_of out.target).bucket out.bucket_text) (IsUtf8-had (key_of out.target).key out.key_text)
+
+pub commit-turn-requires-clause-no_part : goal.commit-turn-requires-clause-no_part
+commit-turn-requires-clause-no_part g c =
+    let out = c.moved_out.new.self in
+    no_part_end out.target c.in-Staging.work c.id.result c.in-Commits.deed
+    (subst (Ends out.target c.in-Staging.work.mode c.id.result c.in-Staging.work.stage) c.in-Commits.is c.end_of.ensures)
 
 pub commit-turn-requires-clause-lawful : goal.commit-turn-requires-clause-lawful
 commit-turn-requires-clause-lawful g c =
