@@ -11,7 +11,6 @@ use Rattle.call_types.specs.declared.why.Why.{Why}
 use Rattle.call_types.specs.declared.why.Why.TheVariants.{Behind, Damaged, Failed, Good, Lacks}
 use Rattle.drive_base.specs.declared.drive.Drive.{Ghosts}
 use Rattle.drive_base.specs.DriveSet.{count_in}
-use Rattle.drive_base.specs.Files.{Files}
 use Rattle.fault_base.specs.Counts.{Rose}
 use Rattle.file_access.specs.Writing.{WriteCause}
 use Rattle.register_file.specs.Lengths.{longest_file}

@@ -32,7 +32,7 @@ use Rattle.register_core.proofs.SeenLemmas.{element}
 use Rattle.register_core.proofs.ServingLemmas.{serving_lane_is_read}
 use Rattle.slot_history.specs.Standing.{Flying, IsLawfulUnder, Records}
 use Rattle.slot_history.specs.State.{State}
-use Rattle.slot_data.specs.Disks.{Disks, IsPartName, kept_on}
+use Rattle.slot_data.specs.Disks.{Disks, kept_on}
 use Rattle.slot_data.specs.Holding.{Holding}
 use Rattle.slot_rules.specs.Rules.{longest_for, rule_for}
 use Rattle.slot_core.specs.Causes.{LookCause}

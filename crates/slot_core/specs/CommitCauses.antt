@@ -41,8 +41,7 @@ use Rattle.slot_core.specs.LanesStay.{FilesStay, TellsStay}
 abbrev pub life_of : SlotNumbers → SlotLife
 life_of numbers = record { index = numbers.index; term = numbers.term }
 
--- the rule of the content over which a deed is done: a key's names no id that the change may have, a bucket's and a part's are
--- their own
+-- the rule of the content over which a deed is done: a key's names no id that the change may have, a bucket's and a part's are their own
 abbrev pub IsRuleOf : SlotNumbers → Commit → Option VersionId → (List ℕ → Option ℕ) → ℕ → Type 0
 IsRuleOf numbers (Key at mode act) put rule longest = (alone after : VersionId) × IsOwnId (life_of numbers) numbers.seq put alone
     × IsOwnId (life_of numbers) (numbers.seq + 1) put after × (rule ≡ key_fault (Some alone) (Some after)) × (longest ≡ KEY_BYTES)

@@ -62,7 +62,8 @@ module _ {D : Type 0} (tells : D → Bool) (files : D → Files) where
   abbrev pub CommitLeaves : Site → Drawn → Drawn → Commit → Option VersionId → Outcome → List VersionId → List VersionId → List D → List D → Type 0
   CommitLeaves site drawn later deed put outcome trash_old trash_new old new =
       (holding : Holding) (rest : List Flying) (records : Records) (state : State)
-      → IsHeld state.registers (name_of deed) → SlotStands tells files (numbers_at site drawn) holding.flights old records state → Lands put holding.flights rest → FitsPut deed put
+      → IsHeld state.registers (name_of deed) → SlotStands tells files (numbers_at site drawn) holding.flights old records state
+      → Lands put holding.flights rest → FitsPut deed put
       → holding.trash ≡ trash_old
       → EntryLeaves tells files (numbers_at site drawn) (numbers_at site later) holding (kept_with holding rest trash_new) new
       (entry_told site.turns (name_of deed) outcome) (λ before after. ShowsTrash deed (answer_told outcome) trash_old trash_new before after)

@@ -44,7 +44,8 @@ abbrev pub FirstIs : Looked → Option Next → Ballot → Option Draft → Type
 FirstIs looked None ballot first = first ≡ None
 FirstIs looked (Some found) ballot first = (draft : Draft) × (first ≡ Some draft) × IsDraftAfterLook looked (again_of looked.base ballot found) draft
 
--- what a section knows of a register that it settled: its name is held; its change and content, the base that stands, and that the change which was completed is its last
+-- what a section knows of a register that it settled: that its name is held, its change and content, the base that stands, and that the change which
+-- was completed is its last
 pub record SettledOn (name : List ℕ) (base : Base) (content : List ℕ) (late : Option ChangeId) (records : Records) (state : State) : Type 0 where
   pub held : IsHeld state.registers name
   pub register_is : state.registers name ≡ record { change = change_of base.change; content = content }

@@ -9,12 +9,11 @@ use Rattle.call_types.specs.Refusals.{refusal_of}
 use Rattle.call_types.specs.declared.names.Key.{Key as KeyName}
 use Rattle.call_types.specs.declared.refusal.KeyRefusal.{KeyRefusal}
 use Rattle.call_types.specs.declared.refusal.Refusal.TheVariants.{NoSuchUpload}
-use Rattle.call_types.specs.declared.reply.Reply.{Reply}
 use Rattle.call_types.specs.declared.reply.Reply.TheVariants.{Refused, Stored}
 use Rattle.call_types.specs.declared.version.PartRecord.{PartRecord}
 use Rattle.upload_book.specs.Content.{IsCanonicalRow, content_of}
 use Rattle.upload_book.specs.Laws.{ContentIsInjective}
-use Rattle.upload_book.specs.Storing.{Leaves, Stores, etag_of, is_open, stored_at}
+use Rattle.upload_book.specs.Storing.{Leaves, etag_of, stored_at}
 use Rattle.upload_book.specs.Table.{IsCanonical}
 use Rattle.upload_book.proofs.Lawful.{length_bytes}
 use Rattle.version_list.specs.Naming.{same_id}

@@ -37,7 +37,7 @@ abbrev pub is_bucket_name : List ℕ → Bool
 is_bucket_name [] = false
 is_bucket_name (byte ∷ rest) = byte == 98
 
--- and whether it is that of a part's
+-- and whether it is that of a part's register
 abbrev pub is_part_name : List ℕ → Bool
 is_part_name [] = false
 is_part_name (byte ∷ rest) = byte == 112
