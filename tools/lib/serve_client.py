@@ -35,12 +35,12 @@ def as_usual():
 
 
 class Server:
-    """The program's command `serve`, on a port that the system chooses unless one is named, with other words in front, as of strace."""
+    """The program's command `serve`, on a port that the system chooses unless one is named, with other options, and other words in front, as of strace."""
 
-    def __init__(self, root, workers, listen="127.0.0.1:0", front=()):
+    def __init__(self, root, workers, listen="127.0.0.1:0", front=(), words=()):
         self.said = tempfile.TemporaryFile("w+")
         self.process = subprocess.Popen(
-            [*front, PROGRAM, "--root", str(root), "--listen", listen, "--workers", str(workers), "serve"],
+            [*front, PROGRAM, "--root", str(root), "--listen", listen, "--workers", str(workers), *words, "serve"],
             stdin=subprocess.DEVNULL,
             stderr=self.said,
             preexec_fn=as_usual,
