@@ -24,8 +24,8 @@ module _ {D T : Type 0} (ghosts : Ghosts D) (takes breaks : Effect T) where
   request_by lengths step_law history files set log old new unseen claims at order low none holds ran =
       let held = claim_comes ghosts takes breaks unseen old claims at none holds in
       record {
-        sections = λ lanes disks k note shown fault there serve is enough refused.
-            log_not ghosts takes breaks step_law history set unseen lanes disks log old new claims [] at k note shown fault order low held ran there serve is enough
+        sections = λ lanes disks k note shown fault there serve enough refused.
+            log_not ghosts takes breaks step_law history set unseen lanes disks log old new claims [] at k note shown fault order low held ran there serve enough
             refused;
         puts = put_listed ghosts takes breaks step_law history files set log old new unseen claims at order low held ran;
         body = body_taken ghosts takes breaks step_law history files set log old new unseen claims at order low held ran;

@@ -22,7 +22,7 @@ use Rattle.log_laws.specs.Laws.{AllHold, EachStepKeepsData, HoldsAfter, RanKeeps
 use Rattle.op_steps.specs.Leading.{Standing}
 use Rattle.op_steps.specs.Notes.{refusal_by}
 use Rattle.log_laws.specs.Requests.{HasAllLanes, ServesAt, StepServes}
-use Rattle.op_steps.specs.Serving.{AreEnough, DrivesServe, IsManifestName, IsMarkedOn, IsNameOf, IsOfNoPart}
+use Rattle.op_steps.specs.Serving.{AreEnough, DrivesServe, IsManifestName, IsMarkedOn, IsNameOf}
 use Rattle.op_steps.specs.Steps.{Ran, StepMoves}
 use Rattle.op_steps.specs.Store.{AreInOrder, Store}
 use Rattle.op_steps.proofs.SlotLemmas.{order_set}
@@ -55,7 +55,7 @@ module _ {D T : Type 0} (ghosts : Ghosts D) (takes breaks : Effect T) (step_law 
         let there = value.top.there in
         let plan = ap (λ (s : SetPlan). s.drives) set_is in
         let inside = there.1 in (
-          has.0,
+          name_held (at k).state.registers made.name has.0,
           (
             there.0,
             inside,
@@ -72,10 +72,10 @@ module _ {D T : Type 0} (ghosts : Ghosts D) (takes breaks : Effect T) (step_law 
         (marked note.entry enough.0, (subst (λ (s : SetPlan). AreEnough ghosts s lanes disks (Unit {0}) (Undecided j u whys)) (sym set_is) (tt, enough.1)).1)
     enough_by NoMemory enough = enough
 
-    section_not : (fault : QuorumFault) → IsOfNoPart note.entry → StepServes ghosts takes breaks set lanes disks (Turned k (Some note) shown) old mid x
+    section_not : (fault : QuorumFault) → StepServes ghosts takes breaks set lanes disks (Turned k (Some note) shown) old mid x
         → AreEnough ghosts set lanes disks (HasAllLanes set lanes note.entry) fault → note.refusal ≡ refusal_by (Quorum fault) → ⊥
-    section_not fault is serve enough refused = x.moves.complete.enough (at k).records (at k).state unseen
-        (among front old.claim rest) lanes disks fault holds.stands holds.holds is
+    section_not fault serve enough refused = x.moves.complete.enough (at k).records (at k).state unseen
+        (among front old.claim rest) lanes disks fault holds.stands holds.holds
         (subst (λ (s : SetPlan). DrivesServe (IsNameOf note.entry) s.out lanes (views ghosts x.was.lanes) (views ghosts x.now.lanes)) (sym set_is) serve.0)
         (subst (λ (s : SetPlan). DrivesServe IsManifestName s.out disks old.disks x.disks) (sym set_is) serve.1)
         (enough_by fault enough) refused
@@ -83,14 +83,14 @@ module _ {D T : Type 0} (ghosts : Ghosts D) (takes breaks : Effect T) (step_law 
   pub log_not : (log : Log) (old new : Store D T) (front rest : List Claim) (at : ℕ → Standing) (k : ℕ) (note : Note) (shown : Shown) (fault : QuorumFault)
       → AreInOrder set old.slots old.disks → old.claim.slot < 64 → AllHold ghosts.tells ghosts.files unseen old front rest at
       → (ran : Ran ghosts takes breaks set log old new) → (there : Contains log (Turned k (Some note) shown))
-      → ServesAt ghosts takes breaks set lanes disks log old new ran there.0 → IsOfNoPart note.entry
+      → ServesAt ghosts takes breaks set lanes disks log old new ran there.0
       → AreEnough ghosts set lanes disks (HasAllLanes set lanes note.entry) fault → note.refusal ≡ refusal_by (Quorum fault) → ⊥
-  log_not [] old new front rest at k note shown fault order low held ran (j, inside, e) serve is enough refused = absurd (omega (arith, inside))
-  log_not (event ∷ log) old new front rest at k note shown fault order low held (mid, step, ran) (zero, inside, e) serve is enough refused =
+  log_not [] old new front rest at k note shown fault order low held ran (j, inside, e) serve enough refused = absurd (omega (arith, inside))
+  log_not (event ∷ log) old new front rest at k note shown fault order low held (mid, step, ran) (zero, inside, e) serve enough refused =
       let here = subst (λ (v : Event). (s : StepMoves ghosts takes breaks set v old mid) × StepServes ghosts takes breaks set lanes disks v old mid s) e (step, serve) in
-      section_not k note shown old mid front rest at order held here.0 fault is here.1 enough refused
-  log_not (event ∷ log) old new front rest at k note shown fault order low held (mid, step, ran) (suc j, inside, e) serve is enough refused =
+      section_not k note shown old mid front rest at order held here.0 fault here.1 enough refused
+  log_not (event ∷ log) old new front rest at k note shown fault order low held (mid, step, ran) (suc j, inside, e) serve enough refused =
       let first = step_law set event old mid unseen front rest at order low step held in
       let ordered = (history set (event ∷ []) old mid order (mid, step, refl)).0 in
       log_not log mid new front rest first.1.later k note shown fault ordered (subst (λ (n : ℕ). n < 64) (sym first.0) low) first.1.holds ran
-      (j, omega (arith, inside), e) serve is enough refused
+      (j, omega (arith, inside), e) serve enough refused

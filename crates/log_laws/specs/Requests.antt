@@ -26,7 +26,7 @@ use Rattle.op_steps.specs.Holding.{StoreHolds}
 use Rattle.op_steps.specs.Leading.{Standing}
 use Rattle.op_steps.specs.Notes.{entry_in, refusal_by}
 use Rattle.log_laws.specs.Reads.{EnoughServe, ReadGoesOn, ReadsData}
-use Rattle.op_steps.specs.Serving.{AreEnough, DrivesServe, IsManifestName, IsNameOf, IsOfNoPart}
+use Rattle.op_steps.specs.Serving.{AreEnough, DrivesServe, IsManifestName, IsNameOf}
 use Rattle.op_steps.specs.Steps.{Ran, StepMoves}
 use Rattle.op_steps.specs.Store.{AreInOrder, SlotSeen, Store, any_effect, store_of}
 
@@ -60,7 +60,7 @@ module _ {D T : Type 0} (ghosts : Ghosts D) (takes breaks : Effect T) where
   pub record LogComplete (set : SetPlan) (log : Log) (old new : Store D T) (ran : Ran ghosts takes breaks set log old new) : Type 0 where
     -- no section is refused for a fault of a quorum against which enough of them serve in it
     pub sections : (lanes disks k : ℕ) (note : Note) (shown : Shown) (fault : QuorumFault) (there : Contains log (Turned k (Some note) shown))
-        → ServesAt set lanes disks log old new ran there.0 → IsOfNoPart note.entry
+        → ServesAt set lanes disks log old new ran there.0
         → AreEnough ghosts set lanes disks (HasAllLanes set lanes note.entry) fault → note.refusal ≡ refusal_by (Quorum fault) → ⊥
     -- none in the call's own slot is refused for a put that isn't listed
     pub puts : (note : Note) (shown : Shown) (id : VersionId) → Contains log (Turned old.claim.slot (Some note) shown) → note.refusal ≡ Some (NotInFlight id) → ⊥

@@ -40,11 +40,10 @@ use Rattle.slot_core.specs.CommitCauses.{IsRuleOf, OwnIsWritten}
 use Rattle.slot_core.specs.NameList.{NamesLetter}
 use Rattle.slot_core.specs.Views.{last_of}
 use Rattle.slot_core.specs.declared.slot.SlotFault.TheVariants.{Quorum}
-use Rattle.slot_core.proofs.SettlingLemmas.{name_held}
 use Rattle.receipts.specs.Events.{Note, Shown}
 use Rattle.op_steps.specs.Claims.{Claim, DataHolds, HoldsAt, counted_on, disks_of}
 use Rattle.op_steps.specs.Notes.{refusal_by}
-use Rattle.op_steps.specs.Serving.{AreEnough, DriveServes, DrivesServe, IsManifestName, IsMarkedOn, IsNameOf, IsOfNoPart}
+use Rattle.op_steps.specs.Serving.{AreEnough, DriveServes, DrivesServe, IsManifestName, IsMarkedOn, IsNameOf}
 use Rattle.op_steps.specs.Store.{LanesStand, SlotSeen}
 use Rattle.op_steps.proofs.AcceptLemmas.{Accepts, IsListedPut, deed_accepts, look_accepts}
 use Rattle.op_steps.proofs.Accounts.{CommitRefuses, IsNotUnlisted, LanesRefuse, LookRefuses, NamesRefuse, RefusalAccount, TurnDoes}
@@ -123,7 +122,7 @@ module _ {D : Type 0} (ghosts : Ghosts D) where
   module _ (law : ServingLaneIsRead) (lengths : ManifestsAreNoLonger LONGEST_FILE) (was now : SlotSeen D) (note : Note) (shown : Shown) (claim later : Claim)
       (old new : List DriveView) (records : Records) (state : State) (unseen : Disks) (claims : List Claim) (lanes disks : ℕ)
       (moves : TurnDoes ghosts was now (Some note) shown claim later old new) (stands : LanesStand ghosts.tells ghosts.files was records state)
-      (holds : DataHolds was.numbers was.holding unseen old claims records state) (no_part : IsOfNoPart note.entry)
+      (holds : DataHolds was.numbers was.holding unseen old claims records state)
       (lanes_serve : DrivesServe (IsNameOf note.entry) was.numbers.set.out lanes (views ghosts was.lanes) (views ghosts now.lanes))
       (disks_serve : DrivesServe IsManifestName was.numbers.set.out disks old new) where
     long_was : length was.lanes ≡ was.numbers.set.drives
@@ -196,7 +195,7 @@ module _ {D : Type 0} (ghosts : Ghosts D) where
         }
         against rule longest content (Undecided j v whys) enough =
             let marked = subst (IsMarkedOn lanes records state) is enough.0 in
-            let held = name_held state.registers made.name marked.0 in
+            let held = marked.0 in
             record {
               reads = λ w e. absurd cc;
               writes = λ w e. absurd cc;
@@ -289,10 +288,10 @@ module _ {D : Type 0} (ghosts : Ghosts D) where
   pub section_enough : (was now : SlotSeen D) (note : Note) (shown : Shown) (claim later : Claim) (old new : List DriveView)
       → TurnDoes ghosts was now (Some note) shown claim later old new → (records : Records) (state : State) (unseen : Disks) (claims : List Claim)
       (lanes disks : ℕ) (fault : QuorumFault)
-      → LanesStand ghosts.tells ghosts.files was records state → DataHolds was.numbers was.holding unseen old claims records state → IsOfNoPart note.entry
+      → LanesStand ghosts.tells ghosts.files was records state → DataHolds was.numbers was.holding unseen old claims records state
       → DrivesServe (IsNameOf note.entry) was.numbers.set.out lanes (views ghosts was.lanes) (views ghosts now.lanes)
       → DrivesServe IsManifestName was.numbers.set.out disks old new
       → AreEnough ghosts was.numbers.set lanes disks (IsMarkedOn lanes records state note.entry) fault → note.refusal ≡ refusal_by (Quorum fault) → ⊥
-  section_enough was now note shown claim later old new moves records state unseen claims lanes disks fault stands holds no_part lanes_serve disks_serve =
-      refused_not lane_is_read no_longer was now note shown claim later old new records state unseen claims lanes disks moves stands holds no_part lanes_serve disks_serve
+  section_enough was now note shown claim later old new moves records state unseen claims lanes disks fault stands holds lanes_serve disks_serve =
+      refused_not lane_is_read no_longer was now note shown claim later old new records state unseen claims lanes disks moves stands holds lanes_serve disks_serve
       fault

@@ -18,8 +18,8 @@ use Rattle.register_core.specs.LaneWrites.{letter_at}
 use Rattle.register_core.specs.declared.faults.QuorumFault.{QuorumFault}
 use Rattle.register_core.specs.declared.faults.QuorumFault.TheVariants.{NoMemory, ReadQuorum, Undecided, WriteQuorum}
 use Rattle.slot_history.specs.Standing.{Records}
-use Rattle.slot_history.specs.State.{State}
-use Rattle.slot_data.specs.Disks.{Disks, IsPartName}
+use Rattle.slot_history.specs.State.{IsHeld, State}
+use Rattle.slot_data.specs.Disks.{Disks}
 use Rattle.slot_rules.specs.Rules.{IsRegisterName}
 use Rattle.slot_core.specs.Calm.{IsCalmUnder, OnlyLooked}
 use Rattle.slot_core.specs.Views.{quorum_of}
@@ -47,13 +47,9 @@ IsNameOf entry name = MatchOption entry ⊥ (λ made. name ≡ made.name)
 abbrev pub IsManifestName : List ℕ → Type 0
 IsManifestName name = (id : VersionId) × (name ≡ manifest_name id)
 
--- an entry isn't of a part's register
-abbrev pub IsOfNoPart : Option Entry → Type 0
-IsOfNoPart entry = MatchOption entry (Unit {0}) (λ made. IsPartName made.name → ⊥)
-
--- an entry is of a bucket's or a key's register, and the change of the value there is the base of some lane of a set
+-- the name of an entry's register is held, and the change of the value there is the base of some lane of a set
 abbrev pub IsMarkedOn : ℕ → Records → State → Option Entry → Type 0
-IsMarkedOn lanes records state entry = MatchOption entry ⊥ (λ made. IsRegisterName made.name × ((k : ℕ) × (k < length (records made.name)) × IsBitSet lanes k
+IsMarkedOn lanes records state entry = MatchOption entry ⊥ (λ made. IsHeld state.registers made.name × ((k : ℕ) × (k < length (records made.name)) × IsBitSet lanes k
     × ((lane_at (records made.name) k).base.change ≡ (state.registers made.name).change)))
 
 -- an entry says that a section only looked at this name's register
@@ -80,7 +76,6 @@ module _ {D : Type 0} (ghosts : Ghosts D) where
     -- against which enough lanes and data drives serve, where the slot's data holds
     pub enough : (records : Records) (state : State) (unseen : Disks) (claims : List Claim) (lanes disks : ℕ) (fault : QuorumFault)
         → LanesStand ghosts.tells ghosts.files was records state → DataHolds was.numbers was.holding unseen old claims records state
-        → IsOfNoPart note.entry
         → DrivesServe (IsNameOf note.entry) was.numbers.set.out lanes (views ghosts was.lanes) (views ghosts now.lanes)
         → DrivesServe IsManifestName was.numbers.set.out disks old new
         → AreEnough was.numbers.set lanes disks (IsMarkedOn lanes records state note.entry) fault → note.refusal ≡ refusal_by (Quorum fault) → ⊥
