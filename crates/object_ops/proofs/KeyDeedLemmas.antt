@@ -34,7 +34,7 @@ can_commit deed = by_act deed.commit deed.bodyless deed.kind_short (IsUtf8-had (
     (IsUtf8-had (key_in deed.commit) deed.key_text)
 
 -- it is of no part
-by_key : (deed : Commit) → deed_needs_none deed ≡ true → IsOfNoPart deed
+pub by_key : (deed : Commit) → deed_needs_none deed ≡ true → IsOfNoPart deed
 by_key (Key at mode done) none = tt
 by_key (Part at upload number part) none = absurd cc
 by_key (MakeBucket name) none = tt
