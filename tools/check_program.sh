@@ -4,38 +4,22 @@
 # its 10,000 versions too, which takes minutes. Its last line is 'N passed, M failed'; it ends with 1 where a case failed.
 set -uo pipefail
 
-top="$(cd "$(dirname "$(readlink -f "${BASH_SOURCE[0]}")")/.." && pwd)"
-ostore="${OSTORE:-$("$top/ostore" --program)}"
-work="$(mktemp -d)"
-trap 'rm -rf "$work"' EXIT
-passed=0
-failed=0
-
-# fails TEXT: counts a case that failed, and says why
-fails() {
-    failed=$((failed + 1))
-    echo "check_program: $1" >&2
-}
+source "$(dirname "$(readlink -f "${BASH_SOURCE[0]}")")/lib/run_program.sh"
+ostore="$program"
 
 # timeless FILE: its bytes with each moment that a header tells left out
 timeless() {
     LC_ALL=C sed -E 's/^(Date|Last-Modified): [^\r]*\r$/\1\r/' "$1"
 }
 
-# unopened FILE: what was said on standard error but for an opening
-unopened() {
-    sed -E '/^ostore: (opened set .*|drive [0-9]+ is out|the drives were new, .*|no --root: .*)$/d' "$1"
-}
-
 # check NAME STATUS REPLIES ERRORS WORD..: standard input is the request. What `pipe` says of its opening is looked at by `says`
 check() {
-    local name="$1" status="$2" replies="$3" errors="$4" got
+    local name="$1" wanted="$2" replies="$3" errors="$4"
     shift 4
-    (cd / && "$ostore" "$@") >"$work/replies" 2>"$work/said"
-    got=$?
-    if [[ "$*" == *pipe ]]; then unopened "$work/said" >"$work/errors"; else cp "$work/said" "$work/errors"; fi
-    if [[ $got != "$status" ]]; then
-        fails "$name: status $got, wanted $status"
+    run "$@"
+    [[ "$*" == *pipe ]] || cp "$work/said" "$work/errors"
+    if [[ $status != "$wanted" ]]; then
+        fails "$name: status $status, wanted $wanted"
     elif ! cmp -s <(timeless "$work/replies") <(printf '%b' "$replies"); then
         fails "$name: other replies: $(timeless "$work/replies" | head -c 600)"
     elif ! cmp -s "$work/errors" <(printf '%b' "$errors"); then
@@ -338,5 +322,4 @@ else
     echo 'check_program: curl is not installed, so the relay was left out'
 fi
 
-echo "$passed passed, $failed failed"
-[[ $failed == 0 ]]
+finish

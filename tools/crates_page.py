@@ -111,17 +111,23 @@ def check(path, made, tool):
     return 1
 
 
+def answer(words, doc, path, made, tool):
+    """What a tool that prints a page does: it prints, or checks the page with `--check`."""
+    if words == ["--check"]:
+        return check(path, made, tool)
+    if words:
+        print(doc, file=sys.stderr)
+        return 2
+    sys.stdout.write(made)
+    return 0
+
+
 def main(words):
     if words == ["--check"]:
         for _, crates in layers():
             for name in crates:
                 stop_unless_whole(name)
-        return check(PAGE, page(), "crates_page")
-    if words:
-        print(__doc__, file=sys.stderr)
-        return 2
-    sys.stdout.write(page())
-    return 0
+    return answer(words, __doc__, PAGE, page(), "crates_page")
 
 
 if __name__ == "__main__":

@@ -1,7 +1,7 @@
 #!/usr/bin/env python3
 """Prints bucket records and part records, worked out from the tables in docs/FORMATS.md alone, as arrays of Rust.
 
-They stand in crates/bucket_book/src/tests.rt and, with the word `parts`, in crates/upload_book/src/tests.rt. Run it
+They stand in crates/trial_records/stdin, in hex digits; with the word `parts` it prints those of parts. Run it
 again with `python3 tools/golden_book.py [parts]`.
 """
 
@@ -9,11 +9,7 @@ import hashlib
 import struct
 import sys
 
-
-def version_id(term, slot, seq):
-    """RFC 9562, section 5.8: version 8, with the term, the slot and the sequence number."""
-    number = term << 80 | 8 << 76 | slot << 64 | 2 << 62 | seq
-    return number.to_bytes(16, "big")
+from golden_fields import show, version_id
 
 
 def bucket(created, mode):
@@ -25,13 +21,6 @@ def part(data_id, length, body, modified):
     """The id, the print (here the SHA-256 of the body's name), the length, the MD5 of the body, and the moment."""
     print_of = hashlib.sha256(b"print").digest()
     return data_id + print_of + struct.pack(">Q", length) + hashlib.md5(body).digest() + struct.pack(">Q", modified)
-
-
-def show(name, octets):
-    print(f"const {name}: [u8; {len(octets)}] = [")
-    for at in range(0, len(octets), 16):
-        print("    " + " ".join(f"0x{octet:02x}," for octet in octets[at : at + 16]))
-    print("];\n")
 
 
 def buckets():

@@ -7,17 +7,12 @@ They stand in crates/trial_registers/stdin. Run it again with `python3 tools/gol
 import hashlib
 import struct
 
+from golden_fields import show
+
 
 def format_file(set_id, drives, parity, index, term):
     body = bytes([1]) + set_id + bytes([drives, parity, index]) + struct.pack(">Q", term)
     return b"OFMT" + body + hashlib.sha256(b"OFMT" + body).digest()
-
-
-def show(name, octets):
-    print(f"const {name}: [u8; {len(octets)}] = [")
-    for at in range(0, len(octets), 16):
-        print("    " + " ".join(f"0x{octet:02x}," for octet in octets[at : at + 16]))
-    print("];")
 
 
 show("UNOPENED", format_file(bytes([7] * 16), 4, 2, 1, 0))

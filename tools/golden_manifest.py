@@ -1,17 +1,13 @@
 #!/usr/bin/env python3
 """Prints two manifests and their prints, worked out from the tables in docs/FORMATS.md alone, as arrays of Rust.
 
-They stand in crates/manifest_file/src/tests.rt. Run it again with `python3 tools/golden_manifest.py`.
+They stand in crates/trial_records/stdin, in hex digits. Run it again with `python3 tools/golden_manifest.py`.
 """
 
 import hashlib
 import struct
 
-
-def version_id(term, slot, seq):
-    """RFC 9562, section 5.8: version 8, with the term, the slot and the sequence number."""
-    number = term << 80 | 8 << 76 | slot << 64 | 2 << 62 | seq
-    return number.to_bytes(16, "big")
+from golden_fields import show, version_id
 
 
 def roots(of_part, drives):
@@ -32,13 +28,6 @@ def body_print(drives, parity, parts):
     for _, length, part_roots in parts:
         text += struct.pack(">Q", length) + b"".join(part_roots)
     return hashlib.sha256(text).digest()
-
-
-def show(name, octets):
-    print(f"const {name}: [u8; {len(octets)}] = [")
-    for at in range(0, len(octets), 16):
-        print("    " + " ".join(f"0x{octet:02x}," for octet in octets[at : at + 16]))
-    print("];\n")
 
 
 smallest = [(version_id(1, 5, 7), 0, [])]

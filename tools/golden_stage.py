@@ -10,6 +10,7 @@ import hashlib
 import struct
 
 from golden_code import all_blocks
+from golden_fields import version_id
 
 STRIPE = 1048576
 NAME = b"k/pic/a"
@@ -57,12 +58,6 @@ STORIES = (
     (2 * STRIPE + 1, (0, 2 * STRIPE + 1), STRIPE // 2, 14, 3),
 )
 LARGE = 33 * STRIPE + 3
-
-
-def version_id(term, slot, seq):
-    """RFC 9562, section 5.8: version 8, with the term, the slot and the sequence number."""
-    return (term << 80 | 8 << 76 | slot << 64 | 2 << 62 | seq).to_bytes(16, "big")
-
 
 IDENTITY = version_id(1, 5, 7)
 SHARD = f"s/{IDENTITY.hex()}"

@@ -65,15 +65,5 @@ def page():
     return "".join([*text, f"\n{count} laws.\n"])
 
 
-def main(words):
-    if words == ["--check"]:
-        return crates_page.check(PAGE, page(), "theorems_page")
-    if words:
-        print(__doc__, file=sys.stderr)
-        return 2
-    sys.stdout.write(page())
-    return 0
-
-
 if __name__ == "__main__":
-    sys.exit(main(sys.argv[1:]))
+    sys.exit(crates_page.answer(sys.argv[1:], __doc__, PAGE, page(), "theorems_page"))
