@@ -64,8 +64,8 @@ committed set at upload number stated now reply log (inr (inr (inr (inr (inl dif
 committed set at upload number stated now reply log (inr (inr (inr (inr (inr few))))) served = absurd (unserved reply _ few.told served)
 
 -- a store that isn't refused tells the tag of its part
-stores_tag : (open : Bool) (part : PartRecord) (now : ℕ) (old new : Option PartRecord) (reply : Reply)
-    → MatchBool open (Leaves (Stored (etag_of part) None) (Some (stored_at part now)) reply new) (Leaves (Refused NoSuchUpload) old reply new)
+stores_tag : (opened : Bool) (part : PartRecord) (now : ℕ) (old new : Option PartRecord) (reply : Reply)
+    → MatchBool opened (Leaves (Stored (etag_of part) None) (Some (stored_at part now)) reply new) (Leaves (Refused NoSuchUpload) old reply new)
     → IsServed reply → reply ≡ Stored (etag_of part) None
 stores_tag true part now old new reply stores served = stores.0
 stores_tag false part now old new reply stores served = absurd (unserved reply NoSuchUpload stores.0 served)
