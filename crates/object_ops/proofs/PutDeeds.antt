@@ -18,7 +18,7 @@ use Rattle.receipts.specs.Events.{Log, Note, body_of}
 use Rattle.receipts.specs.Events.Event.{Turned}
 use Rattle.receipts.specs.Events.Shown.{NoneShown}
 use Rattle.receipts.specs.Putting.{IsAgreed, PutIsCommitted, PutsBody}
-use Rattle.receipts.specs.Registers.{key_register, key_slot}
+use Rattle.receipts.specs.Registers.{key_slot}
 use Rattle.receipts.specs.Staging.{IsStaged}
 use Rattle.receipts.proofs.JoinLemmas.{bodies_join}
 use Rattle.slot_core.specs.CommitCauses.{CommitCause, deed_in}
@@ -136,7 +136,7 @@ puts_so (Object at kind) set stated mode id staged log now reply k made own s en
       rest = [];
       parts = ap (λ (n : ℕ). turned n (Some (note_of made)) log) own;
       looked = record { look = s.looked.look; sections = s.looked.sections; mode = mode; finds = s.looked.finds };
-      staged = subst (λ (b : List ℕ). IsStaged set (key_name at) id b log) (sym body) s.body_staged;
+      staged = subst (λ (b : List ℕ). IsStaged set (register_of (Object at kind)) id b log) (sym body) s.body_staged;
       commit = subst (λ (b : List ℕ). KeyIsCommitted at now (PutsBody set kind b id) reply later) (sym body)
           (ends_so at mode now (PutsBody set kind (body_of log) id) reply log k made s.looked of_kind);
     }

@@ -1,7 +1,6 @@
 -- What is owed to an UploadPart stays so while a log grows, and shows the part.
-use Rattle.std.proofs.Common.{◌≡◌, ◌⊎◌, ◌∙◌, ℕ, List, ◌∷◌, ◌++◌, Option, inl, inr, ap, sym, subst}
+use Rattle.std.proofs.Common.{◌≡◌, ◌∙◌, ℕ, List, ◌∷◌, ◌++◌, Option, inl, inr, ap, subst}
 use Rattle.std.specs.Prelude.{Bool, true, false, MatchBool, None, Some}
-use Rattle.std.proofs.lemmas.List.Elements.{Contains-push}
 use Rattle.call_types.specs.declared.names.Key.{Key}
 use Rattle.call_types.specs.declared.refusal.Refusal.TheVariants.{NoSuchUpload}
 use Rattle.call_types.specs.declared.reply.Reply.{Reply}
@@ -10,15 +9,14 @@ use Rattle.call_types.specs.declared.version.PartRecord.{PartRecord}
 use Rattle.drive_base.specs.declared.plan.SetPlan.{SetPlan}
 use Rattle.md5.specs.Md5.{md5}
 use Rattle.stamp_id.specs.declared.version.VersionId.{VersionId}
-use Rattle.stamp_id.specs.declared.stamp.ChangeId.{ChangeId}
-use Rattle.upload_book.specs.Storing.{Leaves, Stores, etag_of, is_open, stored_at}
+use Rattle.upload_book.specs.Storing.{Leaves, etag_of, is_open, stored_at}
 use Rattle.version_list.specs.Answers.{IsServed}
-use Rattle.receipts.specs.Committing.{EndsAtCommit, MakesChange, Target}
-use Rattle.receipts.specs.Dues.{IsDuePart, IsDueReply}
+use Rattle.receipts.specs.Committing.{EndsAtCommit, Target}
+use Rattle.receipts.specs.Dues.{IsDueReply}
 use Rattle.call_types.specs.declared.act.Brief.{Brief}
-use Rattle.receipts.specs.Events.{Log, Section, body_of, sections_of}
+use Rattle.receipts.specs.Events.{Log, Section, body_of}
 use Rattle.receipts.specs.PartLaws.{PartIsStored, PartTellsTag, PartsAskDrives, QuietKeepsPart}
-use Rattle.receipts.specs.Parts.{IsPartOf, PartEnds, PartOwes, part_put, part_target}
+use Rattle.receipts.specs.Parts.{IsPartOf, PartEnds, part_put, part_target}
 use Rattle.receipts.specs.Putting.{PutIsAnswered}
 use Rattle.receipts.specs.Uploads.{upload_of}
 use Rattle.receipts.proofs.ActLemmas.{at_look, shows_commit, unserved}

@@ -1,5 +1,5 @@
 -- What UploadPart owes: it puts a body as PutObject does, and its commit may wait for a change of the key.
-use Rattle.std.specs.Prelude.{◌≡◌, ◌≢◌, ◌⊎◌, ℕ, List, [], ◌∷◌, ◌++◌, All, length, Option, None, IsSome}
+use Rattle.std.specs.Prelude.{◌≡◌, ◌⊎◌, ℕ, List, [], ◌∷◌, ◌++◌, All, length, Option, None, IsSome}
 use Rattle.md5.specs.Md5.{md5}
 use Rattle.audit_trail.specs.declared.entry.Deed.TheVariants.{Kept}
 use Rattle.body_print.specs.Plans.{data_plan}
