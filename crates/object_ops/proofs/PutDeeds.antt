@@ -17,8 +17,8 @@ use Rattle.receipts.specs.Committing.{KeyIsCommitted}
 use Rattle.receipts.specs.Events.{Log, Note, body_of}
 use Rattle.receipts.specs.Events.Event.{Turned}
 use Rattle.receipts.specs.Events.Shown.{NoneShown}
-use Rattle.receipts.specs.Putting.{IsAgreed, PutsBody}
-use Rattle.receipts.specs.Registers.{key_register, key_slot}
+use Rattle.receipts.specs.Putting.{IsAgreed, PutIsCommitted, PutsBody}
+use Rattle.receipts.specs.Registers.{key_slot}
 use Rattle.receipts.specs.Staging.{IsStaged}
 use Rattle.receipts.proofs.JoinLemmas.{bodies_join}
 use Rattle.slot_core.specs.CommitCauses.{CommitCause, deed_in}
@@ -32,7 +32,7 @@ use Rattle.slot_rules.specs.declared.commit.Committed.{Committed}
 use Rattle.stamp_id.specs.declared.version.VersionId.{VersionId}
 use Rattle.op_steps.specs.Notes.{note_of, refusal_by}
 use Rattle.object_ops.specs.PutStands.{HasLookedAt}
-use Rattle.object_ops.specs.PutTarget.{Puts, deed_of, key_of, register_of}
+use Rattle.object_ops.specs.PutTarget.{deed_of, key_of, put_of, register_of}
 use Rattle.object_ops.specs.declared.put_target.PutTarget.{PutTarget}
 use Rattle.object_ops.specs.declared.put_target.PutTarget.TheVariants.{Object}
 use Rattle.object_ops.proofs.DueLemmas.{done_so, refused_so}
@@ -110,14 +110,14 @@ pub record HasStaged (set : SetPlan) (target : PutTarget) (stated : Option (List
   pub agreed : IsAgreed stated (body_of log)
   pub of_slot : id.slot ≡ key_slot (key_of target)
   pub looked : HasLookedAt (key_of target).bucket mode log
-  pub body_staged : (at : Key) → register_of target ≡ key_register at → IsStaged set at id (body_of log) log
+  pub body_staged : IsStaged set (register_of target) id (body_of log) log
   pub printed : HasPrint set.drives set.parity (body_of log) staged.print
   pub long : staged.length ≡ length (body_of log)
   pub tag : staged.etag ≡ md5 (body_of log)
 
 pub puts_so : (target : PutTarget) (set : SetPlan) (stated : Option (List ℕ)) (mode : Mode) (id : VersionId) (staged : Staged) (log : Log) (now : ℕ) (reply : Reply)
     (k : ℕ) (made : Stub) → k ≡ key_slot (key_of target) → HasStaged set target stated mode id staged log → EndsPut target mode id staged now (note_of made) reply
-    → Puts target set stated now reply (turned k (Some (note_of made)) log)
+    → PutIsCommitted set (put_of target set now) stated reply (turned k (Some (note_of made)) log)
 puts_so (Object at kind) set stated mode id staged log now reply k made own s ends =
     let later = turned k (Some (note_of made)) log in
     let body = same_body log k (Some (note_of made)) in
@@ -136,7 +136,7 @@ puts_so (Object at kind) set stated mode id staged log now reply k made own s en
       rest = [];
       parts = ap (λ (n : ℕ). turned n (Some (note_of made)) log) own;
       looked = record { look = s.looked.look; sections = s.looked.sections; mode = mode; finds = s.looked.finds };
-      staged = subst (λ (b : List ℕ). IsStaged set at id b log) (sym body) (s.body_staged at refl);
+      staged = subst (λ (b : List ℕ). IsStaged set (register_of (Object at kind)) id b log) (sym body) s.body_staged;
       commit = subst (λ (b : List ℕ). KeyIsCommitted at now (PutsBody set kind b id) reply later) (sym body)
           (ends_so at mode now (PutsBody set kind (body_of log) id) reply log k made s.looked of_kind);
     }

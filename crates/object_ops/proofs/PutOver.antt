@@ -147,7 +147,7 @@ module _ (ask : PutAsk) (read : ℕ) where
           agreed = put_agrees ask work claim log staged s answers;
           of_slot = s.held.of_slot;
           looked = s.looked;
-          body_staged = λ at named. is_staged ask work claim log staged s whole answers at named;
+          body_staged = is_staged ask work claim log staged s whole answers;
           printed = subst (λ (p : SetPlan). HasPrint p.drives p.parity (body_of log) staged.print) s.stage_of.set_is b.print;
           long = b.long;
           tag = b.etag;

@@ -27,8 +27,6 @@ use Rattle.object_ops.specs.PutOutcome.{Answers}
 use Rattle.object_ops.specs.PutStands.{Stages}
 use Rattle.object_ops.specs.PutTarget.{register_of}
 use Rattle.object_ops.specs.declared.put_state.Work.{Work}
-use Rattle.receipts.specs.Registers.{key_register}
-use Rattle.call_types.specs.declared.names.Key.{Key}
 
 -- the one answer that no call is left
 only_nothing : (due : Due) → is_nothing due ≡ true → due ≡ Nothing
@@ -42,7 +40,7 @@ only_nothing PlaceShard is = absurd cc
 only_nothing Nothing is = refl
 
 module _ (ask : PutAsk) (work : Work) (claim : Claim) (log : Log) (staged : Staged) (s : Stages ask work claim log) (whole : work.stage.load.left ≡ 0)
-    (answers : Answers work.stage (Ok staged)) (at : Key) (named : register_of ask.target ≡ key_register at) where
+    (answers : Answers work.stage (Ok staged)) where
   -- all drives that did their calls did all
   has_done : HasDone work.stage
   has_done = elim answers.may.over [
@@ -53,9 +51,9 @@ module _ (ask : PutAsk) (work : Work) (claim : Claim) (log : Log) (staged : Stag
   abbrev staging : Staging
   staging = record { id = work.flight.id; body = body_of log; shards = s.shards }
 
-  same_manifest : manifest_in work.stage.load (body_of log) s.shards ≡ manifest_under ask.set at work.flight.id (length (body_of log)) s.shards
+  same_manifest : manifest_in work.stage.load (body_of log) s.shards ≡ manifest_under ask.set (register_of ask.target) work.flight.id (length (body_of log)) s.shards
   same_manifest = λ i. record {
-    name = (s.stage_of.name_is ∙ named) i;
+    name = s.stage_of.name_is i;
     drives = (s.stage_of.set_is i).drives;
     parity = (s.stage_of.set_is i).parity;
     parts = record { id = s.stage_of.id_is i; length = length (body_of log); roots = map root_of s.shards } ∷ [];
@@ -63,7 +61,7 @@ module _ (ask : PutAsk) (work : Work) (claim : Claim) (log : Log) (staged : Stag
 
   -- the letter of each drive
   staged_letter : (k : ℕ) → k < ask.set.drives → (why : Why) → why_at work.stage k ≡ why → StageLetter ask.set work.flight.id log k why
-      → StagedLetter ask.set at staging log k why
+      → StagedLetter ask.set (register_of ask.target) staging log k why
   staged_letter k below Good is used =
       let low = subst (λ (p : SetPlan). k < p.drives) (sym s.stage_of.set_is) below in
       let serves : is_good (why_at work.stage k) ≡ true = ap is_good is in
@@ -81,7 +79,7 @@ module _ (ask : PutAsk) (work : Work) (claim : Claim) (log : Log) (staged : Stag
   staged_letter k below (Behind ballot) is letter = letter
   staged_letter k below (Lacks kind) is letter = letter
 
-  pub is_staged : IsStaged ask.set at work.flight.id (body_of log) log
+  pub is_staged : IsStaged ask.set (register_of ask.target) work.flight.id (body_of log) log
   is_staged = record {
     shards = s.shards;
     are = subst (λ (p : SetPlan). AreShards p.drives (data_drives p.drives p.parity) (body_of log) s.shards) s.stage_of.set_is s.taken.are;

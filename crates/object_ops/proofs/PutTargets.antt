@@ -8,11 +8,9 @@ use Rattle.desk_base.specs.Answering.{bytes_after}
 use Rattle.desk_base.specs.Calls.{IsKey, stated_length}
 use Rattle.drive_base.specs.declared.plan.SetPlan.{SetPlan}
 use Rattle.put_stage.specs.declared.answers.Staged.{Staged}
-use Rattle.receipts.specs.Committing.{KeyIsBarred}
 use Rattle.receipts.specs.Events.{Log, body_of}
-use Rattle.receipts.specs.Looks.{EndsAtLook}
 use Rattle.receipts.specs.Owes.{OwesCall}
-use Rattle.receipts.specs.Putting.{BodyIsNotTaken, DigestDiffers, PutIsNotBegun}
+use Rattle.receipts.specs.Putting.{PutIsAnswered}
 use Rattle.receipts.specs.Spans.{GivesBytes}
 use Rattle.slot_core.specs.Commits.{FitsFlight}
 use Rattle.slot_core.specs.declared.holding.Flight.{Flight}
@@ -20,7 +18,7 @@ use Rattle.slot_data.specs.Disks.{IsForKeyOf}
 use Rattle.slot_history.specs.Names.{key_name, path_of}
 use Rattle.slot_rules.specs.Deeds.{IsLawfulDeed, IsNamedDeed, IsOfNoPart, brings_of, name_of}
 use Rattle.stamp_id.specs.declared.version.VersionId.{VersionId}
-use Rattle.object_ops.specs.PutTarget.{Puts, call_of, deed_of, key_of, kind_of, register_of}
+use Rattle.object_ops.specs.PutTarget.{call_of, deed_of, key_of, kind_of, put_of, register_of}
 use Rattle.object_ops.specs.declared.put_target.PutTarget.{PutTarget}
 use Rattle.object_ops.specs.declared.put_target.PutTarget.TheVariants.{Object}
 use Rattle.object_ops.proofs.ReadingKey.{key_short}
@@ -89,12 +87,7 @@ gives_none (Object at kind) set stated long other log = refl
 
 -- what it is answered
 abbrev pub OwesPut : PutTarget → SetPlan → Option (List ℕ) → ℕ → Reply → Log → Type 0
-OwesPut target set stated now reply log = EndsAtLook (key_of target).bucket reply log
-    ⊎ Puts target set stated now reply log
-    ⊎ KeyIsBarred (key_of target) reply log
-    ⊎ PutIsNotBegun (key_of target) reply log
-    ⊎ DigestDiffers (key_of target) stated reply log
-    ⊎ BodyIsNotTaken set (key_of target) stated reply log
+OwesPut target set stated now reply log = PutIsAnswered set (put_of target set now) stated reply log
 
 pub owes_call : (target : PutTarget) (set : SetPlan) (stated : Option (List ℕ)) (long now : ℕ) (reply : Reply) (log : Log) → length (body_of log) ≡ long
     → OwesPut target set stated now reply log → OwesCall set (call_of target stated long) now reply log

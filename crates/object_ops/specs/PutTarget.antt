@@ -9,7 +9,8 @@ use Rattle.desk_base.specs.declared.call.Call.TheVariants as call
 use Rattle.drive_base.specs.declared.plan.SetPlan.{SetPlan}
 use Rattle.put_stage.specs.declared.answers.Staged.{Staged}
 use Rattle.receipts.specs.Events.{Log}
-use Rattle.receipts.specs.Putting.{PutIsCommitted}
+use Rattle.receipts.specs.Committing.{KeyIsCommitted}
+use Rattle.receipts.specs.Putting.{PutOf, PutsBody}
 use Rattle.slot_history.specs.Names.{key_name}
 use Rattle.slot_rules.specs.declared.commit.Commit.{Commit}
 use Rattle.slot_rules.specs.declared.commit.Commit.TheVariants.{Key as KeyCommit}
@@ -37,6 +38,10 @@ call_of (Object at kind) stated long = call.Put at kind stated long
 abbrev pub deed_of : PutTarget → Mode → VersionId → Staged → Commit
 deed_of (Object at kind) mode id staged = KeyCommit at mode (act.Put id staged.print staged.length staged.etag kind)
 
--- its body was put, or its commit was refused
-abbrev pub Puts : PutTarget → SetPlan → Option (List ℕ) → ℕ → Reply → Log → Type 0
-Puts (Object at kind) set stated now reply log = PutIsCommitted set at kind stated now reply log
+-- how its commit ends, by the id that its body was staged under, and the body
+abbrev pub EndsOf : PutTarget → SetPlan → ℕ → VersionId → List ℕ → Reply → Log → Type 0
+EndsOf (Object at kind) set now id body reply log = KeyIsCommitted at now (PutsBody set kind body id) reply log
+
+-- what is said of it in what calls owe
+abbrev pub put_of : PutTarget → SetPlan → ℕ → PutOf
+put_of target set now = record { at = key_of target; register = register_of target; Ends = EndsOf target set now }

@@ -38,10 +38,10 @@ use Rattle.receipts.specs.Uploads.{upload_of}
 use Rattle.receipts.proofs.JoinLemmas.{bodies_join, notes_join}
 
 -- a refusal serves nothing
-unserved : (reply : Reply) (why : Refusal) → reply ≡ reply_of.Refused why → IsServed reply → ⊥
+pub unserved : (reply : Reply) (why : Refusal) → reply ≡ reply_of.Refused why → IsServed reply → ⊥
 unserved reply why is served = subst IsServed is served
 
-at_look : (bucket : List ℕ) (reply : Reply) (log : Log) → EndsAtLook bucket reply log → IsServed reply → ⊥
+pub at_look : (bucket : List ℕ) (reply : Reply) (log : Log) → EndsAtLook bucket reply log → IsServed reply → ⊥
 at_look bucket reply log (inl x) served = unserved reply _ x.told served
 at_look bucket reply log (inr (inl x)) served = unserved reply _ x.refuses.told served
 at_look bucket reply log (inr (inr x)) served = unserved reply _ x.barred.told served
@@ -62,7 +62,7 @@ note_there sections x h =
     (h.0, omega (arith, long, lt), get_or-map (λ (section : Section). section.note) sections h.0 x x.note lt ∙ ap (λ (section : Section). section.note) h.2)
 
 -- what a commit shows
-shows_commit : (target : Target) (before : List Section) (reply : Reply) (log : Log) → EndsAtCommit target before reply log → IsServed reply
+pub shows_commit : (target : Target) (before : List Section) (reply : Reply) (log : Log) → EndsAtCommit target before reply log → IsServed reply
     → IsDoneIn target.slot target.register (λ call. (change : Option ChangeId) × target.IsCall change call) reply (notes_of log)
 shows_commit target before reply log x served = elim x.ends [
   | inl made ↦ record {

@@ -12,13 +12,17 @@ use Rattle.drive_base.specs.Trail.{Append, DriveCall, Rename, Sync}
 use Rattle.drive_base.specs.declared.plan.SetPlan.{SetPlan}
 use Rattle.body_print.specs.Names.{loose_manifest_name, loose_shard_name, manifest_name, shard_name}
 use Rattle.body_print.specs.Staging.{appends}
-use Rattle.call_types.specs.declared.names.Key.{Key}
 use Rattle.stamp_id.specs.declared.version.VersionId.{VersionId}
 use Rattle.receipts.specs.Asking.{PutsAskDrives, PutsReachAll, RefusedReadsAskDrives}
 use Rattle.receipts.specs.Events.{Event, Log, Saw, body_of, called_in, calls_at}
 use Rattle.receipts.specs.Events.Event.{Called, Turned}
-use Rattle.receipts.specs.Registers.{key_slot}
+use Rattle.receipts.specs.Registers.{key_register, key_slot}
 use Rattle.receipts.specs.Letters.{IsBadManifest, IsInUse, ManifestLetter, Wanted}
+use Rattle.receipts.specs.Putting.{PutIsCommitted, PutOf, object_put}
+use Rattle.body_print.specs.Plans.{data_plan}
+use Rattle.drive_base.specs.Plan.{write_drives}
+use Rattle.call_types.specs.declared.reply.Reply.{Reply}
+use Rattle.std.specs.Prelude.{Option}
 use Rattle.receipts.specs.Staging.{Staging, StagedLetter, TookData}
 use Rattle.receipts.proofs.JoinLemmas.{calls_join}
 
@@ -61,14 +65,15 @@ took_some id shard manifest log k took none =
     ∷ Sync (loose_manifest_name id) (Ok tt) ∷ Rename (loose_manifest_name id) (manifest_name id) (Ok tt) ∷ Rename (loose_shard_name id) (shard_name id) (Ok tt) ∷ []) in
     absurd (omega (arith, long, parts))
 
-pub puts_ask_drives : PutsAskDrives
-puts_ask_drives set at kind stated now reply log none put some =
+pub put_asks_drives : (set : SetPlan) (of : PutOf) (stated : Option (List ℕ)) (reply : Reply) (log : Log) → ((k : ℕ) → calls_at k log ≡ [])
+    → (put : PutIsCommitted set of stated reply log) → 0 < write_drives (data_plan set put.id).drives (data_plan set put.id).parity → ⊥
+put_asks_drives set of stated reply log none put some =
     let enough = put.staged.enough in
     let good = some_good put.staged.whys (omega (arith, some, enough)) in
     let low : good.0 < set.drives = (let counted = put.staged.counted in let inside = good.1 in omega (arith, counted, inside)) in
     let staging : Staging = record { id = put.id; body = body_of log; shards = put.staged.shards } in
-    let behind : Log = Turned (key_slot at) (Some put.own) put.shown ∷ put.rest in
-    let letter = subst (λ (w : Why). StagedLetter set at staging put.front good.0 w) good.2 (put.staged.each good.0 low) in
+    let behind : Log = Turned (key_slot of.at) (Some put.own) put.shown ∷ put.rest in
+    let letter = subst (λ (w : Why). StagedLetter set of.register staging put.front good.0 w) good.2 (put.staged.each good.0 low) in
     took_some put.id _ _ put.front good.0 letter.1 (front_none (calls_at good.0 put.front) (calls_at good.0 behind)
     (sym (calls_join good.0 put.front behind) ∙ (ap (calls_at good.0) (sym put.parts) ∙ none good.0)))
   where
@@ -76,22 +81,25 @@ puts_ask_drives set at kind stated now reply log none put some =
     front_none [] rest none = refl
     front_none (call ∷ front) rest none = absurd cc
 
+pub puts_ask_drives : PutsAskDrives
+puts_ask_drives set at kind stated now reply log none put some = put_asks_drives set (object_put set at kind now) stated reply log none put some
+
 -- a drive in use that failed at nothing and forgot nothing took its data, by its letter
-healthy_took : (set : SetPlan) (at : Key) (staging : Staging) (log : Log) (k : ℕ) (why : Why) → IsInUse set k
+healthy_took : (set : SetPlan) (register : List ℕ) (staging : Staging) (log : Log) (k : ℕ) (why : Why) → IsInUse set k
     → ((name : List ℕ) (before after : ℕ) → Saw log k (Faulted name before after) → ⊥) → ((name : List ℕ) → Saw log k (Unwritten name) → ⊥)
-    → StagedLetter set at staging log k why → StagedLetter set at staging log k Good
-healthy_took set at staging log k Good used sound kept letter = letter
-healthy_took set at staging log k (Failed b a) used sound kept letter = absurd (elim letter.1 [ inl shard ↦ sound _ b a shard | inr manifest ↦ sound _ b a manifest ])
-healthy_took set at staging log k (Damaged damage) used sound kept letter = absurd letter
-healthy_took set at staging log k (Behind ballot) used sound kept letter = absurd letter
-healthy_took set at staging log k (Lacks Format) used sound kept letter = absurd (used letter)
-healthy_took set at staging log k (Lacks Register) used sound kept letter = absurd letter
-healthy_took set at staging log k (Lacks ManifestKind) used sound kept letter = absurd (kept _ letter.1)
-healthy_took set at staging log k (Lacks Shard) used sound kept letter = absurd (kept _ letter.1)
+    → StagedLetter set register staging log k why → StagedLetter set register staging log k Good
+healthy_took set register staging log k Good used sound kept letter = letter
+healthy_took set register staging log k (Failed b a) used sound kept letter = absurd (elim letter.1 [ inl shard ↦ sound _ b a shard | inr manifest ↦ sound _ b a manifest ])
+healthy_took set register staging log k (Damaged damage) used sound kept letter = absurd letter
+healthy_took set register staging log k (Behind ballot) used sound kept letter = absurd letter
+healthy_took set register staging log k (Lacks Format) used sound kept letter = absurd (used letter)
+healthy_took set register staging log k (Lacks Register) used sound kept letter = absurd letter
+healthy_took set register staging log k (Lacks ManifestKind) used sound kept letter = absurd (kept _ letter.1)
+healthy_took set register staging log k (Lacks Shard) used sound kept letter = absurd (kept _ letter.1)
 
 pub puts_reach_all : PutsReachAll
 puts_reach_all set at kind stated now reply log put k low used sound kept =
-    (healthy_took set at (record { id = put.id; body = body_of log; shards = put.staged.shards }) put.front k (slice_index_or put.staged.whys k Good) used sound kept
+    (healthy_took set (key_register at) (record { id = put.id; body = body_of log; shards = put.staged.shards }) put.front k (slice_index_or put.staged.whys k Good) used sound kept
     (put.staged.each k low)).1
 
 letter_calls : (set : SetPlan) (wanted : Wanted) (log : Log) (k : ℕ) (why : Why) → IsInUse set k → ManifestLetter set wanted log k why → calls_at k log ≡ [] → ⊥

@@ -7,6 +7,7 @@ pub mod ListOweLemmas
 pub mod OrderLemmas
 pub mod OutcomeLemmas
 pub mod OweLemmas
+pub mod PartLemmas
 pub mod PayLemmas
 pub mod RegisterLemmas
 pub mod SectionLemmas

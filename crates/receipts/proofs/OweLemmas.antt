@@ -21,7 +21,6 @@ use Rattle.std.specs.List.{flat_map}
 use Rattle.desk_base.specs.declared.call.Call.{Call}
 use Rattle.desk_base.specs.declared.call.Call.TheVariants as call_of
 use Rattle.receipts.specs.Bucketing.{BucketActOwes, BucketIsThere, GetVersioningOwes, HeadBucketOwes, PutVersioningOwes, bucket_target}
-use Rattle.receipts.specs.Committing.{KeyIsCommitted}
 use Rattle.md5.specs.Md5.{md5}
 use Rattle.call_types.specs.declared.refusal.Refusal.TheVariants.{BadDigest}
 use Rattle.call_types.specs.declared.names.Mode.{Mode}
@@ -33,7 +32,7 @@ use Rattle.receipts.specs.Events.{Event, Log, body_of}
 use Rattle.receipts.specs.Events.Event.{Turned}
 use Rattle.receipts.specs.Letters.{BlockLetter, CannotRead, FewBlocks, FewTook, IsBadManifest, IsBadShard, IsGoodBlock, ManifestLetter, NoneServes, ShowedAt, ShowedBlock, ShowedTable, StageLetter, Wanted, Wants, bytes_in}
 use Rattle.receipts.specs.Owes.{IsWhole, OwesCall}
-use Rattle.receipts.specs.Putting.{BodyIsNotTaken, DigestDiffers, IsAgreed, PutIsCommitted, PutIsNotBegun, PutOwes, PutsBody}
+use Rattle.receipts.specs.Putting.{BodyIsNotTaken, DigestDiffers, IsAgreed, PutIsAnswered, PutIsCommitted, PutIsNotBegun, PutOf, PutOwes, PutsBody, object_put}
 use Rattle.receipts.specs.Reading.{BodyIsLost, EndsBeforeRead, GetOwes, HeadOwes, ReadsKey, SpanIsTold, TellsRead}
 use Rattle.receipts.specs.Registers.{key_slot}
 use Rattle.receipts.specs.Pages.{keys_rule, versions_rule}
@@ -177,11 +176,12 @@ pub body_lost : (set : SetPlan) (version : Version) (span : Span) (next : ℕ) (
 body_lost set version span next whys log later g x =
     record { wanted = x.wanted; is_wanted = x.is_wanted; some = x.some; cause = cannot_read set x.wanted next whys log later g x.cause }
 
--- puts
-put_committed : (set : SetPlan) (at : Key) (kinds : List ℕ) (stated : Option (List ℕ)) (now : ℕ) (reply : Reply) (log later : Log) → Grows log later
-    → PutIsCommitted set at kinds stated now reply log → PutIsCommitted set at kinds stated now reply later
-put_committed set at kinds stated now reply log later g x =
-    let own = Turned (key_slot at) (Some x.own) x.shown in
+-- puts, where the ends of commits stay
+put_committed : (set : SetPlan) (put : PutOf) (stated : Option (List ℕ)) (reply : Reply) (log later : Log) → Grows log later
+    → ((id : VersionId) (body : List ℕ) → put.Ends id body reply log → put.Ends id body reply later)
+    → PutIsCommitted set put stated reply log → PutIsCommitted set put stated reply later
+put_committed set put stated reply log later g ends x =
+    let own = Turned (key_slot put.at) (Some x.own) x.shown in
     let grown = g.since (x.front ++ own ∷ []) x.rest (x.parts ∙ sym (append_assoc x.front (own ∷ []) x.rest)) in
     record {
       agreed = subst (λ body. IsAgreed stated body) (sym g.body) x.agreed;
@@ -193,8 +193,8 @@ put_committed set at kinds stated now reply log later g x =
       rest = grown.0;
       parts = grown.1 ∙ append_assoc x.front (own ∷ []) grown.0;
       looked = x.looked;
-      staged = subst (λ body. IsStaged set at x.id body x.front) (sym g.body) x.staged;
-      commit = subst (λ body. KeyIsCommitted at now (PutsBody set kinds body x.id) reply later) (sym g.body) (key_committed at now _ reply log later g x.commit);
+      staged = subst (λ body. IsStaged set put.register x.id body x.front) (sym g.body) x.staged;
+      commit = subst (λ body. put.Ends x.id body reply later) (sym g.body) (ends x.id (body_of log) x.commit);
     }
 
 put_not_begun : (at : Key) (reply : Reply) (log later : Log) → Grows log later → PutIsNotBegun at reply log → PutIsNotBegun at reply later
@@ -237,14 +237,23 @@ not_taken set at stated reply log later g x = record {
   told = x.told;
 }
 
+pub put_answered : (set : SetPlan) (put : PutOf) (stated : Option (List ℕ)) (reply : Reply) (log later : Log) → Grows log later
+    → ((id : VersionId) (body : List ℕ) → put.Ends id body reply log → put.Ends id body reply later)
+    → PutIsAnswered set put stated reply log → PutIsAnswered set put stated reply later
+put_answered set put stated reply log later g ends (inl x) = inl (ends_at_look put.at.bucket reply log later g x)
+put_answered set put stated reply log later g ends (inr (inl x)) = inr (inl (put_committed set put stated reply log later g ends x))
+put_answered set put stated reply log later g ends (inr (inr (inl x))) = inr (inr (inl (key_barred put.at reply log later g x)))
+put_answered set put stated reply log later g ends (inr (inr (inr (inl x)))) = inr (inr (inr (inl (put_not_begun put.at reply log later g x))))
+put_answered set put stated reply log later g ends (inr (inr (inr (inr (inl x))))) =
+    inr (inr (inr (inr (inl (digest_differs put.at stated reply log later g x)))))
+put_answered set put stated reply log later g ends (inr (inr (inr (inr (inr x))))) =
+    inr (inr (inr (inr (inr (not_taken set put.at stated reply log later g x)))))
+
 put_owes : (set : SetPlan) (at : Key) (kinds : List ℕ) (stated : Option (List ℕ)) (now : ℕ) (reply : Reply) (log later : Log) → Grows log later
     → PutOwes set at kinds stated now reply log → PutOwes set at kinds stated now reply later
-put_owes set at kinds stated now reply log later g (inl x) = inl (ends_at_look at.bucket reply log later g x)
-put_owes set at kinds stated now reply log later g (inr (inl x)) = inr (inl (put_committed set at kinds stated now reply log later g x))
-put_owes set at kinds stated now reply log later g (inr (inr (inl x))) = inr (inr (inl (key_barred at reply log later g x)))
-put_owes set at kinds stated now reply log later g (inr (inr (inr (inl x)))) = inr (inr (inr (inl (put_not_begun at reply log later g x))))
-put_owes set at kinds stated now reply log later g (inr (inr (inr (inr (inl x))))) = inr (inr (inr (inr (inl (digest_differs at stated reply log later g x)))))
-put_owes set at kinds stated now reply log later g (inr (inr (inr (inr (inr x))))) = inr (inr (inr (inr (inr (not_taken set at stated reply log later g x)))))
+put_owes set at kinds stated now reply log later g x =
+    put_answered set (object_put set at kinds now) stated reply log later g
+    (λ id body ended. key_committed at now (PutsBody set kinds body id) reply log later g ended) x
 
 -- reads
 reads_key : (at : Key) (pick : Pick) (whole : Reply) (log later : Log) → Grows log later → ReadsKey at pick whole log → ReadsKey at pick whole later

@@ -7,15 +7,17 @@ use Rattle.bucket_book.specs.declared.step.BucketAct.TheVariants.{Make, SetMode 
 use Rattle.call_types.specs.Refusals.{refusal_of}
 use Rattle.call_types.specs.declared.act.Act.{Act}
 use Rattle.call_types.specs.declared.act.Brief.{Brief}
-use Rattle.call_types.specs.declared.act.Brief.TheVariants.{Change, MakeBucket, Read, SetMode}
+use Rattle.call_types.specs.declared.act.Brief.TheVariants.{Change, MakeBucket, Part, Read, SetMode}
 use Rattle.call_types.specs.declared.names.Mode.{Mode}
 use Rattle.call_types.specs.declared.names.Pick.{Pick}
 use Rattle.call_types.specs.declared.refusal.KeyRefusal.{KeyRefusal}
 use Rattle.call_types.specs.declared.reply.Reply.{Reply}
 use Rattle.call_types.specs.declared.reply.Reply.TheVariants.{Found, Refused}
+use Rattle.call_types.specs.declared.version.PartRecord.{PartRecord}
 use Rattle.call_types.specs.declared.version.Version.{Version}
 use Rattle.stamp_id.specs.declared.stamp.ChangeId.{ChangeId}
 use Rattle.stamp_id.specs.declared.version.VersionId.{VersionId}
+use Rattle.upload_book.specs.Storing.{Stores}
 use Rattle.version_list.specs.Reads.{Reads}
 use Rattle.version_list.specs.Step.{Step, told}
 use Rattle.version_list.specs.declared.state.KeyState.{KeyState}
@@ -50,10 +52,19 @@ pub record IsDueBucket (act : BucketAct) (change : Option ChangeId) (now : ℕ) 
   pub drawn : new ≢ old → IsSome change
   pub step : BucketSteps old act now reply new
 
--- a call that an entry tells of can have this reply. Calls on the parts of uploads are not served yet
+-- a store of a part can have this reply, and drew a change where it makes another row
+pub record IsDuePart (upload : VersionId) (part : PartRecord) (change : Option ChangeId) (now : ℕ) (reply : Reply) : Type 0 where
+  pub state : KeyState
+  pub old : Option PartRecord
+  pub new : Option PartRecord
+  pub drawn : new ≢ old → IsSome change
+  pub step : Stores state upload part now old reply new
+
+-- a call that an entry tells of can have this reply. The parts that a CompleteMultipartUpload joins are not served yet
 abbrev pub IsDueReply : Brief → Reply → Type 0
 IsDueReply (Read at mode pick) reply = IsDueRead mode pick reply
 IsDueReply (Change at mode act change now) reply = IsDueChange (key_slot at) mode act change now reply
+IsDueReply (Part at upload number part change now) reply = IsDuePart upload part change now reply
 IsDueReply (MakeBucket bucket change now) reply = IsDueBucket Make change now reply
 IsDueReply (SetMode bucket mode change now) reply = IsDueBucket (SetModeAct mode) change now reply
 IsDueReply other reply = ⊥

@@ -13,6 +13,8 @@ pub mod Looks
 pub mod Owes
 pub mod Pages
 pub mod Paging
+pub mod PartLaws
+pub mod Parts
 pub mod Paying
 pub mod Putting
 pub mod Reading

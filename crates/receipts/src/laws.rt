@@ -3,6 +3,7 @@
 ghost use Rattle.receipts.specs.Asking.{PutsAskDrives, PutsReachAll, RefusedReadsAskDrives};
 ghost use Rattle.receipts.specs.Laws.{CutBodyChangesNothing, NotesAreOwed, OutcomesAreOne, PayIsTold, ReceiptShowsAct};
 ghost use Rattle.receipts.specs.Laws.{BodiesJoin, CallsJoin, CutsJoin, NotesJoin, SectionsJoin, TalesJoin};
+ghost use Rattle.receipts.specs.PartLaws.{PartIsStored, PartTellsTag, PartsAskDrives, QuietKeepsPart};
 ghost use Rattle.receipts.specs.Laws.{QuietKeepsNotes, QuietKeepsPay, QuietKeepsReply};
 
 /// Each reading of two logs in a row is that of the first and then that of the second. It does nothing.
@@ -41,4 +42,13 @@ pub fn asking_law()
     ensures puts { PutsAskDrives }
     ensures all { PutsReachAll }
     ensures reads { RefusedReadsAskDrives }
+{}
+
+/// What is owed to an UploadPart stays owed over quiet events. Where its reply isn't a refusal it tells the MD5 of exactly its body, some note has the store of that
+/// body's part, and data drives were called. It does nothing.
+pub fn part_law()
+    ensures stays { QuietKeepsPart }
+    ensures tag { PartTellsTag }
+    ensures stored { PartIsStored }
+    ensures asks { PartsAskDrives }
 {}

@@ -14,5 +14,5 @@ mod laws;
 mod uploads;
 
 pub use barred::Barred;
-pub use laws::{act_law, asking_law, join_law, outcome_law, quiet_law};
+pub use laws::{act_law, asking_law, join_law, outcome_law, part_law, quiet_law};
 pub use uploads::{nobody, upload_of};
