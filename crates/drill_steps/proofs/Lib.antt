@@ -1,3 +1,4 @@
+mod HonestLemmas
 pub mod LifeLemmas
 pub mod RestLemmas
 pub mod WorldLemmas
