@@ -1,3 +1,5 @@
 pub mod Laws
+pub mod Lines
 pub mod Lives
+pub mod Scripts
 pub mod Worlds

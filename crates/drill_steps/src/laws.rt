@@ -2,6 +2,7 @@
 
 ghost use Rattle.drill_steps.specs.Laws.{WorldsHold};
 ghost use Rattle.drill_steps.specs.Lives.{ChangesApplyOnce, LivesHold};
+ghost use Rattle.drill_steps.specs.Scripts.{LinesAreTurns};
 
 use audit_trail::Audit;
 use desk_base::Teller;
@@ -44,3 +45,8 @@ pub fn once_law()
     showing_laws();
     run_laws();
 }
+
+/// Whatever the lines of a script do, they are turns of lives, and where none of them is a `hurt` or a `stop` they ask nothing of damage. It does nothing.
+pub fn line_law<O: Op, D: Drive, A: Audit, T: Teller>()
+    ensures { LinesAreTurns D.Drive A.entries A.count T.takes T.breaks O.Op }
+{}
