@@ -1,6 +1,5 @@
 -- What lanes and data drives show stays honest where they keep what they kept and show what they showed.
 use Rattle.std.proofs.Common.{◌≡◌, ◌∙◌, ◌<◌, ℕ, zero, suc, IsTrue, List, [], ◌∷◌, length, sym, ap, refl, subst, subst₂, arith}
-use Rattle.std.specs.Int.{IsBitSet}
 use Rattle.drive_base.specs.Files.{Files, Named}
 use Rattle.drive_base.specs.HonestDamage.{HonestDamage}
 use Rattle.drive_base.specs.View.{AtEach, DriveView, view_at, views}
@@ -22,7 +21,7 @@ use Rattle.op_steps.proofs.SlotLemmas.{order_set}
 use Rattle.log_laws.specs.StoreTroubles.{ShowsHonestly, StoreTroubled}
 use Rattle.store_shared.specs.Holders.{ArePartsAt, AreLost, DrivesRest, RigHolds}
 use Rattle.store_shared.specs.Opening.{with_out}
-use Rattle.store_shared.specs.Strikes.{AreStruck, IsStruck}
+use Rattle.store_shared.specs.Strikes.{AreStruck}
 use Rattle.store_shared.specs.declared.pass.StoreParts.{StoreParts}
 use Rattle.term_gate.specs.Formats.{IsUnsealed, format_name}
 use Rattle.drill_steps.specs.Laws.{FormatsAreHonest}

@@ -1,5 +1,5 @@
 -- The lines of a script are turns of lives, and those that do no damage ask nothing of it.
-use Rattle.std.proofs.Common.{◌≡◌, ◌⊎◌, ℕ, Bool, true, false, List, [], ◌∷◌, ◌++◌, Option, inl, inr, refl, sym, subst}
+use Rattle.std.proofs.Common.{◌≡◌, ℕ, Bool, true, false, List, [], ◌∷◌, ◌++◌, Option, inl, inr, refl, sym, subst}
 use Rattle.audit_trail.specs.declared.entry.Entry.{Entry}
 use Rattle.desk_base.specs.Telling.{Effect}
 use Rattle.drill_script.specs.declared.line.Line.{Line}
@@ -9,7 +9,7 @@ use Rattle.drive_base.specs.declared.plan.SetPlan.{SetPlan}
 use Rattle.receipts.specs.Events.{Log}
 use Rattle.op_steps.specs.declared.op.Op.{Ghosts as Ops}
 use Rattle.drill_steps.specs.Laws.{IsHonestRun}
-use Rattle.drill_steps.specs.Lines.{ByGo, ByRun, ByUpTo, Driving, Drives, Either, HurtDoes, IsGo, IsRun, IsUpTo, LifeEnds, OpeningDoes, StartDoes, StepsDo, StopDoes, StopsSo, StrikeDoes, Wording, ends_go}
+use Rattle.drill_steps.specs.Lines.{ByGo, ByRun, ByUpTo, Driving, Either, HurtDoes, IsGo, IsRun, IsUpTo, LifeEnds, OpeningDoes, StartDoes, StepsDo, StopDoes, StopsSo, StrikeDoes, Wording, ends_go}
 use Rattle.drill_steps.specs.Lives.{AreHonestLives, Lives, LivesRan, Place, Turn}
 use Rattle.drill_steps.specs.Lives.Turn.{Closed, Damaged, Lived, Opened, Refused, Rested}
 use Rattle.drill_steps.specs.Scripts.{AreHarmless, AreTurns, IsHarmless, LineDoes, LinesAreTurns, LinesDo}

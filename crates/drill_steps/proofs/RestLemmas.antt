@@ -1,7 +1,6 @@
 -- Data drives go on to rest: they tell, keep the term of the life, and show their formats honestly.
 use Rattle.std.proofs.Common.{◌≡◌, ◌<◌, ◌≤◌, ◌∙◌, ℕ, List, [], ◌∷◌, Some, length, inl, inr, sym, subst, arith}
 use Rattle.std.specs.Prelude.{IsTrue}
-use Rattle.std.specs.Int.{IsBitSet}
 use Rattle.desk_base.specs.Telling.{Effect}
 use Rattle.drive_base.specs.DriveSet.{count_in}
 use Rattle.drive_base.specs.Files.{Named}
@@ -14,7 +13,7 @@ use Rattle.op_steps.specs.Troubles.{IsTroubled}
 use Rattle.op_steps.specs.declared.op.Op.{Ghosts as Ops}
 use Rattle.store_shared.specs.Holders.{AreLost, DrivesRest, IsLastUsed, KeptDrivesRest}
 use Rattle.term_gate.specs.Formats.{format_name}
-use Rattle.term_gate.specs.Terms.{IsKept, KeepsTerm}
+use Rattle.term_gate.specs.Terms.{KeepsTerm}
 use Rattle.term_gate.specs.Table.{format_file}
 use Rattle.drill_steps.specs.Laws.{FormatsAreHonest, IsHonestRun}
 use Rattle.drill_steps.specs.Worlds.{Move, World, WorldRan, store_with}

@@ -1,28 +1,27 @@
 -- Over moves of a world the data of each slot goes on to hold.
-use Rattle.std.proofs.Common.{◌≡◌, ◌⊎◌, ◌<◌, ◌∙◌, ℕ, zero, suc, List, [], ◌∷◌, ◌++◌, length, map, flat_map, slice_index_or, append-nil, append_assoc, Option, None, Some, inl, inr, refl, sym, ap, subst, arith}
+use Rattle.std.proofs.Common.{◌≡◌, ◌∙◌, ℕ, List, [], ◌∷◌, ◌++◌, append-nil, append_assoc, Option, None, Some, inl, inr, refl, sym, ap, subst, arith}
 use Rattle.std.proofs.lemmas.Grind.{flat_map-append}
 use Rattle.std.proofs.lemmas.List.{map-append}
 use Rattle.audit_trail.specs.declared.entry.Entry.{Entry}
 use Rattle.desk_base.specs.Telling.{Effect}
-use Rattle.drive_base.specs.View.{DriveView}
 use Rattle.drive_base.specs.declared.drive.Drive.{Ghosts}
 use Rattle.drive_base.specs.declared.plan.SetPlan.{SetPlan}
 use Rattle.receipts.specs.Events.{Log}
 use Rattle.slot_data.specs.Disks.{Disks}
 use Rattle.slot_core.specs.Views.{SlotNumbers}
-use Rattle.op_steps.specs.Claims.{Claim, among, no_claim}
+use Rattle.op_steps.specs.Claims.{among, no_claim}
 use Rattle.log_laws.specs.Coming.{ClaimsCome, ClaimsGo}
 use Rattle.op_steps.specs.Holding.{StoreHolds}
 use Rattle.log_laws.specs.Laws.{AllHold, LogKeepsData, RanKeepsHistory}
 use Rattle.op_steps.specs.Leading.{with_entries}
 use Rattle.op_steps.specs.Leading.{Standing, entered_at, entered_in, entries_at, entries_of}
-use Rattle.log_laws.specs.Laws.{AllLead, LeadsJoin, LeadsStay}
+use Rattle.log_laws.specs.Laws.{LeadsJoin, LeadsStay}
 use Rattle.op_steps.specs.Steps.{IsSlotAt}
-use Rattle.op_steps.specs.Store.{AreInOrder, SlotSeen, Store}
+use Rattle.op_steps.specs.Store.{AreInOrder, SlotSeen}
 use Rattle.log_laws.specs.StoreTroubles.{ShowsHonestly, TroubleKeepsData}
 use Rattle.op_steps.specs.declared.op.Op.{Ghosts as Ops}
 use Rattle.drill_steps.specs.Laws.{IsHonestMove, IsHonestRun, WorldHolds, WorldHoldsLater, WorldsHold, log_of}
-use Rattle.drill_steps.specs.Worlds.{Actor, Ends, Hurts, Move, Moves, Seat, Starts, Steps, World, WorldRan, claims_of, held_at, steps_of, store_with}
+use Rattle.drill_steps.specs.Worlds.{Ends, Hurts, Move, Moves, Seat, Starts, Steps, World, WorldRan, claims_of, held_at, steps_of, store_with}
 use Rattle.drill_steps.specs.Worlds.Move.{Ended, Hurt, Started, Stepped, Struck}
 use Rattle.drill_steps.specs.Worlds.Seat.{Leaves, Works}
 use Rattle.drill_steps.proofs.HonestLemmas.{shows_honestly, slot_at}

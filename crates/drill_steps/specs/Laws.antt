@@ -1,5 +1,5 @@
 -- The laws of worlds: whatever actors do there and in whatever order, the histories of the slots run, and the data of each slot goes on to hold.
-use Rattle.std.specs.Prelude.{◌≡◌, ℕ, ◌<◌, List, [], ◌∷◌, ◌++◌, length}
+use Rattle.std.specs.Prelude.{◌≡◌, ℕ, List, [], ◌∷◌}
 use Rattle.std.specs.Int.{IsBitSet}
 use Rattle.std.specs.List.{flat_map}
 use Rattle.desk_base.specs.Telling.{Effect}
@@ -18,7 +18,7 @@ use Rattle.log_laws.specs.StoreTroubles.{ShowsHonestly}
 use Rattle.op_steps.specs.declared.op.Op.{Ghosts as Ops}
 use Rattle.term_gate.specs.Complete.{ShowsNone}
 use Rattle.term_gate.specs.Terms.{EachHonest}
-use Rattle.drill_steps.specs.Worlds.{Move, Moves, World, WorldRan, claims_of, steps_of}
+use Rattle.drill_steps.specs.Worlds.{Move, World, WorldRan, claims_of, steps_of}
 use Rattle.drill_steps.specs.Worlds.Move.{Ended, Hurt, Started, Stepped, Struck}
 
 -- the steps of moves, in their order
