@@ -18,6 +18,7 @@ use Rattle.op_steps.specs.Steps.{IsSlotAt}
 use Rattle.op_steps.specs.Store.{AreInOrder, SlotSeen}
 use Rattle.op_steps.specs.Troubles.{IsTroubled}
 use Rattle.op_steps.proofs.SlotLemmas.{order_set}
+use Rattle.log_laws.proofs.PlaceLemmas.{slot_at}
 use Rattle.log_laws.specs.StoreTroubles.{ShowsHonestly, StoreTroubled}
 use Rattle.store_shared.specs.Holders.{ArePartsAt, AreLost, DrivesRest, RigHolds}
 use Rattle.store_shared.specs.Opening.{with_out}
@@ -44,12 +45,6 @@ honest_manifests : (old new : Files) → new.kept ≡ old.kept → new.shown ≡
 honest_manifests old new kept shown honest =
     subst₂ (λ (a b : Named (List ℕ)). HasHonestManifests (record { kept = a; shown = b; loose = new.loose })) (sym kept) (sym shown) honest
 
--- the slot of a place
-pub slot_at : {D : Type 0} (slots : List (SlotSeen D)) (k : ℕ) → k < length slots → (was : SlotSeen D) × IsSlotAt slots k was
-slot_at [] k inside = absurd (omega (arith, inside))
-slot_at (slot ∷ more) zero inside = (slot, (omega arith, λ d. refl))
-slot_at (slot ∷ more) (suc k) inside = (let x = slot_at more k (omega (arith, inside)) in (x.0, (let low = x.1.0 in omega (arith, low), λ d. x.1.1 d)))
-
 module _ {D : Type 0} (ghosts : Ghosts D) where
   -- and lanes
   lanes_stay : (out : ℕ) (name : List ℕ) (old new : List D) → AtEach (λ k. KeepsWhereTold) (views ghosts old) (views ghosts new)
@@ -61,6 +56,24 @@ module _ {D : Type 0} (ghosts : Ghosts D) where
       let kept = at_each_drive ghosts (λ k. KeepsWhereTold) old new keeps k d inside in
       let shown = at_each_drive ghosts (λ k. ShowsTheSame) old new shows k d inside in
       subst₂ (λ (a b : Named (List ℕ)). IsHonest (a name) (b name)) (sym (kept (told k d inside used))) (sym shown) (honest k d inside used)
+
+  -- a store that trouble befell is in order
+  pub struck_order : (set : SetPlan) (slots after : List (SlotSeen D)) (disks later : List DriveView) → StoreTroubled ghosts slots disks after later
+      → AreInOrder set slots disks → AreInOrder set after later
+  struck_order set slots after disks later befell order = record {
+    count = befell.count ∙ order.count;
+    index = λ k d inside.
+        let now = slot_at after k inside in
+        let s = befell.slots k now.0 now.1 in
+        ap (λ (seen : SlotSeen D). seen.numbers.index) (now.1.1 d) ∙ (ap (λ (n : SlotNumbers). n.index) s.2.numbers
+        ∙ (ap (λ (seen : SlotSeen D). seen.numbers.index) (sym (s.1.1 s.0)) ∙ order.index k s.0 s.1.0));
+    set_is = λ k d inside.
+        let now = slot_at after k inside in
+        let s = befell.slots k now.0 now.1 in
+        ap (λ (seen : SlotSeen D). seen.numbers.set) (now.1.1 d) ∙ (ap (λ (n : SlotNumbers). n.set) s.2.numbers
+        ∙ (ap (λ (seen : SlotSeen D). seen.numbers.set) (sym (s.1.1 s.0)) ∙ order.set_is k s.0 s.1.0));
+    drives = befell.disks.long ∙ order.drives;
+  }
 
   -- so what a store shows that holds goes on to be honest
   pub shows_honestly : (set : SetPlan) (slots after : List (SlotSeen D)) (disks later : List DriveView) (unseen : Disks) (claims : List Claim) (at : ℕ → Standing)

@@ -1,5 +1,6 @@
 mod HonestLemmas
 pub mod LifeLemmas
 mod LineLemmas
+mod PutLemmas
 pub mod RestLemmas
 pub mod WorldLemmas

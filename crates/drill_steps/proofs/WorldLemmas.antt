@@ -24,7 +24,8 @@ use Rattle.drill_steps.specs.Laws.{IsHonestMove, IsHonestRun, WorldHolds, WorldH
 use Rattle.drill_steps.specs.Worlds.{Ends, Hurts, Move, Moves, Seat, Starts, Steps, World, WorldRan, claims_of, held_at, steps_of, store_with}
 use Rattle.drill_steps.specs.Worlds.Move.{Ended, Hurt, Started, Stepped, Struck}
 use Rattle.drill_steps.specs.Worlds.Seat.{Leaves, Works}
-use Rattle.drill_steps.proofs.HonestLemmas.{shows_honestly, slot_at}
+use Rattle.log_laws.proofs.PlaceLemmas.{slot_at, slot_is_one}
+use Rattle.drill_steps.proofs.HonestLemmas.{shows_honestly, struck_order}
 
 -- the claims of seats, of which one is looked at
 claims_apart : {O T : Type 0} (front : List (Seat O T)) (seat : Seat O T) (rest : List (Seat O T))
@@ -43,10 +44,6 @@ with_more (Some l) one two = ap Some (append_assoc l one two)
 -- the entries of a log behind another
 entries_join : (k : ℕ) (one two : Log) → entries_at k (one ++ two) ≡ entries_at k one ++ entries_at k two
 entries_join k one two = ap entries_of (flat_map-append (entered_in k) one two) ∙ map-append _ (entered_at k one) (entered_at k two)
-
--- what stands at a place is one slot
-slot_is_one : {D : Type 0} (slots : List (SlotSeen D)) (k : ℕ) (a b : SlotSeen D) → IsSlotAt slots k a → IsSlotAt slots k b → a ≡ b
-slot_is_one slots k a b one two = sym (one.1 a) ∙ two.1 a
 
 module _ {D O T : Type 0} (ghosts : Ghosts D) (set : SetPlan) (leads_stay : LeadsStay) where
   -- a world of which the slots stay goes on by no entry
@@ -159,20 +156,7 @@ module _ {D O T : Type 0} (ghosts : Ghosts D) (takes breaks : Effect T) (ops : O
         later = at;
         lead = λ k. leads_stay set k (at k);
         after = record {
-          order = record {
-            count = befell.count ∙ holds.order.count;
-            index = λ k d inside.
-                let now = slot_at new.slots k inside in
-                let s = befell.slots k now.0 now.1 in
-                ap (λ (seen : SlotSeen D). seen.numbers.index) (now.1.1 d) ∙ (ap (λ (n : SlotNumbers). n.index) s.2.numbers
-                ∙ (ap (λ (seen : SlotSeen D). seen.numbers.index) (sym (s.1.1 s.0)) ∙ holds.order.index k s.0 s.1.0));
-            set_is = λ k d inside.
-                let now = slot_at new.slots k inside in
-                let s = befell.slots k now.0 now.1 in
-                ap (λ (seen : SlotSeen D). seen.numbers.set) (now.1.1 d) ∙ (ap (λ (n : SlotNumbers). n.set) s.2.numbers
-                ∙ (ap (λ (seen : SlotSeen D). seen.numbers.set) (sym (s.1.1 s.0)) ∙ holds.order.set_is k s.0 s.1.0));
-            drives = befell.disks.long ∙ holds.order.drives;
-          };
+          order = struck_order ghosts set old.slots new.slots old.disks new.disks befell holds.order;
           holds = subst (λ s. StoreHolds ghosts.tells ghosts.files unseen new.slots new.disks (claims_of s) at) (sym x.seats) kept;
         };
         audits = λ k was now is_was is_now.

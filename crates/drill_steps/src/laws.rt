@@ -2,6 +2,7 @@
 
 ghost use Rattle.drill_steps.specs.Laws.{WorldsHold};
 ghost use Rattle.drill_steps.specs.Lives.{ChangesApplyOnce, LivesHold};
+ghost use Rattle.drill_steps.specs.Puts.{PutIdsRise};
 ghost use Rattle.drill_steps.specs.Scripts.{LinesAreTurns};
 
 use audit_trail::Audit;
@@ -50,3 +51,10 @@ pub fn once_law()
 pub fn line_law<O: Op, D: Drive, A: Audit, T: Teller>()
     ensures { LinesAreTurns D.Drive A.entries A.count T.takes T.breaks O.Op }
 {}
+
+/// Over any moves of a life the puts that begin in a slot have rising numbers, above the last that the slot drew before, so no id is given twice. It does nothing.
+pub fn put_law<O: Op, D: Drive, T: Teller>()
+    ensures { PutIdsRise D.Drive T.takes T.breaks O.Op }
+{
+    history_law::<D, T>();
+}
