@@ -1,5 +1,5 @@
 -- What lanes and data drives show stays honest where they keep what they kept and show what they showed.
-use Rattle.std.proofs.Common.{◌≡◌, ◌∙◌, ◌<◌, ℕ, zero, suc, IsTrue, List, [], ◌∷◌, length, sym, ap, refl, subst, subst₂, arith}
+use Rattle.std.proofs.Common.{◌≡◌, ◌∙◌, ◌<◌, ℕ, IsTrue, List, length, sym, ap, subst, subst₂, arith}
 use Rattle.drive_base.specs.Files.{Files, Named}
 use Rattle.drive_base.specs.HonestDamage.{HonestDamage}
 use Rattle.drive_base.specs.View.{AtEach, DriveView, view_at, views}
@@ -14,7 +14,6 @@ use Rattle.slot_core.specs.declared.slot.SlotParts.{SlotParts}
 use Rattle.op_steps.specs.Claims.{Claim, DisksTell, HasHonestManifests}
 use Rattle.op_steps.specs.Holding.{StoreHolds}
 use Rattle.op_steps.specs.Leading.{Standing}
-use Rattle.op_steps.specs.Steps.{IsSlotAt}
 use Rattle.op_steps.specs.Store.{AreInOrder, SlotSeen}
 use Rattle.op_steps.specs.Troubles.{IsTroubled}
 use Rattle.op_steps.proofs.SlotLemmas.{order_set}

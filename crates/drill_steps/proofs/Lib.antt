@@ -1,3 +1,4 @@
+mod FileLemmas
 mod HonestLemmas
 pub mod LifeLemmas
 mod LineLemmas

@@ -1,5 +1,5 @@
 -- The numbers of puts that begin over moves rise.
-use Rattle.std.proofs.Common.{◌≡◌, ◌<◌, ◌≤◌, ◌∙◌, ℕ, List, [], ◌∷◌, Option, Some, length, slice_index_or, slice_set, inl, inr, sym, ap, subst, subst₂, arith}
+use Rattle.std.proofs.Common.{◌≡◌, ◌≤◌, ◌∙◌, ℕ, List, [], ◌∷◌, Option, slice_set, inl, inr, sym, ap, subst, subst₂, arith}
 use Rattle.std.proofs.lemmas.Bool.Decides.{eqb_tells}
 use Rattle.desk_base.specs.Telling.{Effect}
 use Rattle.drive_base.specs.View.{DriveView}
@@ -42,10 +42,10 @@ module _ {D T : Type 0} (ghosts : Ghosts D) (takes breaks : Effect T) (set : Set
   }
 
   -- a section
-  turn_draws : (j : ℕ) (note : Option Note) (shown : Shown) (old new : Store D T) → AreInOrder set old.slots old.disks
-      → (x : Turns ghosts j note shown old new) → (k : ℕ) (was now : SlotSeen D) → IsSlotAt old.slots k was → IsSlotAt new.slots k now
+  turn_draws : (j : ℕ) (made : Option Note) (shown : Shown) (old new : Store D T) → AreInOrder set old.slots old.disks
+      → (x : Turns ghosts j made shown old new) → (k : ℕ) (was now : SlotSeen D) → IsSlotAt old.slots k was → IsSlotAt new.slots k now
       → StepDraws k was now old new
-  turn_draws j note shown old new order x k was now is later =
+  turn_draws j made shown old new order x k was now is later =
       let set_now : IsSlotAt (slice_set old.slots j x.now) k now = subst (λ (s : Store D T). IsSlotAt s.slots k now) x.leaves later in
       elim (eqb_tells j k) [
         | inl own ↦ (let first : x.was ≡ was = slot_is_one old.slots j x.was was x.is (subst (λ i. IsSlotAt old.slots i was) (sym own.1) is) in
@@ -60,18 +60,18 @@ module _ {D T : Type 0} (ghosts : Ghosts D) (takes breaks : Effect T) (set : Set
                   ]);
             })
         | inr other ↦ record {
-            rises = not_less was now (slot_is_one old.slots k was now is (set_other old.slots j k x.now now (λ same. other.1 (sym same)) set_now));
-            put = λ f begins. elim (x.moves.gains.flight f begins.has) [
-              | inl same ↦ absurd (begins.had same)
-              | inr begun ↦ absurd (other.1 (sym (order_index set old.slots old.disks j x.was order x.is) ∙ (sym begun.slot ∙ begins.slot)))
-            ];
-          }
+          rises = not_less was now (slot_is_one old.slots k was now is (set_other old.slots j k x.now now (λ same. other.1 (sym same)) set_now));
+          put = λ f begins. elim (x.moves.gains.flight f begins.has) [
+            | inl same ↦ absurd (begins.had same)
+            | inr begun ↦ absurd (other.1 (sym (order_index set old.slots old.disks j x.was order x.is) ∙ (sym begun.slot ∙ begins.slot)))
+          ];
+        }
       ]
 
   -- any step
   step_draws : (event : Event) (old new : Store D T) → AreInOrder set old.slots old.disks → StepMoves ghosts takes breaks set event old new
       → (k : ℕ) (was now : SlotSeen D) → IsSlotAt old.slots k was → IsSlotAt new.slots k now → StepDraws k was now old new
-  step_draws (Turned j note shown) old new order x k was now is later = turn_draws j note shown old new order x k was now is later
+  step_draws (Turned j made shown) old new order x k was now is later = turn_draws j made shown old new order x k was now is later
   step_draws (BarredFrom j why) old new order x k was now is later =
       none_draws k was now old new (ap (λ (s : Store D T). s.slots) x.leaves) (ap (λ (s : Store D T). s.claim.flight) x.leaves) is later
   step_draws (Called j made) old new order x k was now is later =

@@ -28,7 +28,7 @@ use Rattle.log_laws.proofs.PlaceLemmas.{slot_at, slot_is_one}
 use Rattle.drill_steps.proofs.HonestLemmas.{shows_honestly, struck_order}
 
 -- the claims of seats, of which one is looked at
-claims_apart : {O T : Type 0} (front : List (Seat O T)) (seat : Seat O T) (rest : List (Seat O T))
+pub claims_apart : {O T : Type 0} (front : List (Seat O T)) (seat : Seat O T) (rest : List (Seat O T))
     → claims_of (front ++ seat ∷ rest) ≡ among (claims_of front) (held_at seat) (claims_of rest)
 claims_apart front seat rest = map-append held_at front (seat ∷ rest)
 

@@ -1,5 +1,6 @@
 pub mod Laws
 pub mod Lines
+pub mod LiveFiles
 pub mod Lives
 pub mod Puts
 pub mod Scripts

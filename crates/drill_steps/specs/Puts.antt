@@ -3,7 +3,6 @@ use Rattle.std.specs.Prelude.{◌≡◌, ℕ, ◌<◌, ◌≤◌, List, [], ◌�
 use Rattle.desk_base.specs.Telling.{Effect}
 use Rattle.drive_base.specs.declared.drive.Drive.{Ghosts}
 use Rattle.drive_base.specs.declared.plan.SetPlan.{SetPlan}
-use Rattle.receipts.specs.Events.{Log}
 use Rattle.slot_history.specs.Contents.{number_of_id}
 use Rattle.slot_history.specs.Standing.{Flying}
 use Rattle.slot_core.specs.Views.{last_of}

@@ -1,6 +1,7 @@
 //! The laws of worlds and of lives.
 
 ghost use Rattle.drill_steps.specs.Laws.{WorldsHold};
+ghost use Rattle.drill_steps.specs.LiveFiles.{WorldKeepsFiles};
 ghost use Rattle.drill_steps.specs.Lives.{ChangesApplyOnce, LivesHold};
 ghost use Rattle.drill_steps.specs.Puts.{PutIdsRise};
 ghost use Rattle.drill_steps.specs.Scripts.{LinesAreTurns};
@@ -8,7 +9,7 @@ ghost use Rattle.drill_steps.specs.Scripts.{LinesAreTurns};
 use audit_trail::Audit;
 use desk_base::Teller;
 use drive_base::Drive;
-use log_laws::{claim_laws, data_law, history_law, showing_laws, trouble_law};
+use log_laws::{claim_laws, data_law, history_law, live_law, showing_laws, trouble_law};
 use op_steps::Op;
 use slot_history::run_laws;
 use store_shared::{opened_law, pass_law, struck_law};
@@ -57,4 +58,11 @@ pub fn put_law<O: Op, D: Drive, T: Teller>()
     ensures { PutIdsRise D.Drive T.takes T.breaks O.Op }
 {
     history_law::<D, T>();
+}
+
+/// In a world that holds no step of an actor takes a file of live data from a drive that tells, but of the actor's own put under way. It does nothing.
+pub fn file_law<O: Op, D: Drive, T: Teller>()
+    ensures { WorldKeepsFiles D.Drive T.takes T.breaks O.Op }
+{
+    live_law::<D, T>();
 }
