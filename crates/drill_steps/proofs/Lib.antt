@@ -1,3 +1,7 @@
+mod FileLemmas
+mod HonestLemmas
 pub mod LifeLemmas
+mod LineLemmas
+mod PutLemmas
 pub mod RestLemmas
 pub mod WorldLemmas

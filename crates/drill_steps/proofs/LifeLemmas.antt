@@ -1,5 +1,5 @@
 -- Lives, one after another, leave a store that holds.
-use Rattle.std.proofs.Common.{◌≡◌, ◌<◌, ◌∙◌, ℕ, List, [], ◌∷◌, ◌++◌, Option, flat_map, inl, inr, refl, sym, ap, subst, arith}
+use Rattle.std.proofs.Common.{◌≡◌, ◌<◌, ◌∙◌, ℕ, List, [], ◌∷◌, ◌++◌, Option, inl, inr, refl, sym, ap, subst}
 use Rattle.std.proofs.lemmas.Grind.{flat_map-append}
 use Rattle.audit_trail.specs.declared.entry.Entry.{Entry}
 use Rattle.desk_base.specs.Telling.{Effect}
@@ -22,10 +22,11 @@ use Rattle.store_shared.specs.Passes.{disks_of, set_of, slots_of}
 use Rattle.store_shared.specs.Strikes.{RigIsStruck, StruckRigHolds}
 use Rattle.store_shared.specs.declared.pass.StoreParts.{StoreParts}
 use Rattle.drill_steps.specs.Laws.{IsHonestRun, WorldsHold}
-use Rattle.drill_steps.specs.Lives.{AllRun, AreHonestLives, ChangesApplyOnce, Closes, IsHonestTurn, IsRefused, LifeHolds, Lives, LivesHold, LivesLeave, LivesRan, Opens, PartsAreHonest, Place, PlaceHolds, Rests, Rises, TermsRise, Turn, TurnDoes, log_in, steps_in}
+use Rattle.drill_steps.specs.Lives.{AllRun, AreHonestLives, ChangesApplyOnce, Closes, IsHonestTurn, IsRefused, LifeHolds, Lives, LivesHold, LivesLeave, LivesRan, Opens, PartsAreHonest, Place, PlaceHolds, Rests, Rises, Suffers, TermsRise, Turn, TurnDoes, log_in, steps_in}
 use Rattle.drill_steps.specs.Lives.Place.{Open, Shut}
-use Rattle.drill_steps.specs.Lives.Turn.{Closed, Lived, Opened, Refused, Rested}
+use Rattle.drill_steps.specs.Lives.Turn.{Closed, Damaged, Lived, Opened, Refused, Rested}
 use Rattle.drill_steps.specs.Worlds.{Move, World, claims_of}
+use Rattle.drill_steps.proofs.HonestLemmas.{parts_stay}
 use Rattle.drill_steps.proofs.RestLemmas.{moves_rest, struck_rest}
 
 -- whichever drives are out, terms are kept as before
@@ -99,7 +100,7 @@ module _ {D A O T : Type 0} (ghosts : Ghosts D) (entries : A → Option (List En
       let before = rests ghosts set used x.lost at old x.parts x.was holds in
       let after = opens set used x.lost before.0 at x.parts x.pass x.is_open before.1 serve in
       let files = counted before.0 x.lost (views ghosts (disks_of x.pass)) in
-      let world : World D O T = record { slots = slots_seen entries count (slots_of x.pass); disks = views ghosts (disks_of x.pass); seats = [] } in
+      let world : World D O T = record { begun = 0; slots = slots_seen entries count (slots_of x.pass); disks = views ghosts (disks_of x.pass); seats = [] } in
       let life : LifeHolds ghosts set (set_of x.pass) x.is_open.opened.term files at world = record {
         holds = record { order = passes x.pass; holds = after.holds };
         disks = after.disks;
@@ -149,10 +150,10 @@ module _ {D A O T : Type 0} (ghosts : Ghosts D) (set : SetPlan) where
             (subst (λ n. RigHolds ghosts set n x.plan.out before.0 at x.parts) before.1 of_set);
       }
 
-  -- trouble that befell what rests
-  struck : StruckRigHolds A ghosts → (used : ℕ) (at : ℕ → Standing) (old new : Place D A O T) (x : Rests ghosts old new)
-      → PartsAreHonest ghosts set x.lost x.after → PlaceHolds ghosts set used at old → TurnLeaves ghosts set Rested used at new
-  struck strikes used at old new x honest holds =
+  -- damage of what rests
+  damaged : StruckRigHolds A ghosts → (used : ℕ) (at : ℕ → Standing) (old new : Place D A O T) (x : Suffers ghosts old new)
+      → PartsAreHonest ghosts set x.lost x.after → PlaceHolds ghosts set used at old → TurnLeaves ghosts set Damaged used at new
+  damaged strikes used at old new x honest holds =
       let before = rests ghosts set used x.lost at old x.before x.was holds in
       let rig = before.1 in
       let next = struck_rest set used x.lost (views ghosts x.before.disks.items) (views ghosts x.after.disks.items) x.disks.long
@@ -170,6 +171,16 @@ module _ {D A O T : Type 0} (ghosts : Ghosts D) (set : SetPlan) where
         holds = rested ghosts set used x.lost at new x.after before.0 x.now
             (strikes set used x.lost before.0 at x.before x.after rig rig_struck next.0 next.1);
       }
+
+  -- and trouble that isn't
+  struck : StruckRigHolds A ghosts → (used : ℕ) (at : ℕ → Standing) (old new : Place D A O T) → Rests ghosts old new → PlaceHolds ghosts set used at old
+      → TurnLeaves ghosts set Rested used at new
+  struck strikes used at old new x holds =
+      let befell = x.trouble in
+      let before = rests ghosts set used befell.lost at old befell.before befell.was holds in
+      let honest = parts_stay ghosts set used befell.lost before.0 at befell.before befell.after before.1 befell.disks befell.lanes x.disks x.lanes in
+      let after = damaged strikes used at old new befell honest holds in
+      record { last = after.last; later = after.later; rise = after.rise; run = after.run; holds = after.holds }
 
 module _ {D A O T : Type 0} (ghosts : Ghosts D) (takes breaks : Effect T) (ops : Ops O) (set : SetPlan) (worlds : WorldsHold ghosts takes breaks ops)
     (files : RanKeepsFiles ghosts takes breaks) (kept : KeptDrivesRest) where
@@ -199,6 +210,7 @@ rises_so used Refused One Two so x = so used x
 rises_so used (Lived moves) One Two so x = so used x
 rises_so used Closed One Two so x = so used x
 rises_so used Rested One Two so x = so used x
+rises_so used Damaged One Two so x = so used x
 
 module _ {D A O T : Type 0} (ghosts : Ghosts D) (entries : A → Option (List Entry)) (count : A → ℕ) (takes breaks : Effect T) (ops : Ops O) (set : SetPlan)
     (opens : OpenedStoreHolds ghosts entries count) (tried : TriedRigHolds A ghosts) (closes : ClosedStoreHolds A ghosts) (strikes : StruckRigHolds A ghosts)
@@ -211,7 +223,8 @@ module _ {D A O T : Type 0} (ghosts : Ghosts D) (entries : A → Option (List En
   turned Refused used at old new x honest holds = refused ghosts set tried used at old new x honest holds
   turned (Lived moves) used at old new x honest holds = moved ghosts takes breaks ops set worlds files kept moves used at old new x honest holds
   turned Closed used at old new x honest holds = closed ghosts set closes used at old new x holds
-  turned Rested used at old new x honest holds = struck ghosts set strikes used at old new x honest holds
+  turned Rested used at old new x honest holds = struck ghosts set strikes used at old new x holds
+  turned Damaged used at old new x honest holds = damaged ghosts set strikes used at old new x honest holds
 
   -- and any turns
   lives_leave : (turns : List Turn) (used : ℕ) (at : ℕ → Standing) (old new : Place D A O T)

@@ -1,23 +1,24 @@
 -- Data drives go on to rest: they tell, keep the term of the life, and show their formats honestly.
 use Rattle.std.proofs.Common.{◌≡◌, ◌<◌, ◌≤◌, ◌∙◌, ℕ, List, [], ◌∷◌, Some, length, inl, inr, sym, subst, arith}
 use Rattle.std.specs.Prelude.{IsTrue}
-use Rattle.std.specs.Int.{IsBitSet}
 use Rattle.desk_base.specs.Telling.{Effect}
 use Rattle.drive_base.specs.DriveSet.{count_in}
 use Rattle.drive_base.specs.Files.{Named}
 use Rattle.drive_base.specs.Plan.{write_drives}
-use Rattle.drive_base.specs.View.{DriveView, view_at}
+use Rattle.drive_base.specs.View.{AtEach, DriveView, view_at}
 use Rattle.drive_base.specs.declared.drive.Drive.{Ghosts}
 use Rattle.drive_base.specs.declared.plan.SetPlan.{SetPlan}
 use Rattle.log_laws.specs.Laws.{RanKeepsFiles}
+use Rattle.op_steps.specs.Troubles.{IsTroubled}
 use Rattle.op_steps.specs.declared.op.Op.{Ghosts as Ops}
 use Rattle.store_shared.specs.Holders.{AreLost, DrivesRest, IsLastUsed, KeptDrivesRest}
 use Rattle.term_gate.specs.Formats.{format_name}
-use Rattle.term_gate.specs.Terms.{IsKept, KeepsTerm}
+use Rattle.term_gate.specs.Terms.{KeepsTerm}
 use Rattle.term_gate.specs.Table.{format_file}
 use Rattle.drill_steps.specs.Laws.{FormatsAreHonest, IsHonestRun}
 use Rattle.drill_steps.specs.Worlds.{Move, World, WorldRan, store_with}
-use Rattle.drill_steps.specs.Worlds.Move.{Ended, Started, Stepped, Struck}
+use Rattle.drill_steps.specs.Worlds.Move.{Ended, Hurt, Started, Stepped, Struck}
+use Rattle.drill_steps.proofs.HonestLemmas.{formats_stay, troubled_keep}
 
 -- a drive tells and keeps what it did
 pub record TellsAndKeeps (old new : DriveView) : Type 0 where
@@ -59,6 +60,10 @@ struck_rest set used lost old new long same honest rest are = (
   record { within = are.within; lived = are.lived; lack = honest.lack },
 )
 
+-- drives that trouble befell tell and keep what they did
+tells_and_keeps : (old new : List DriveView) → AtEach (λ k. IsTroubled) old new → (k : ℕ) → k < length old → TellsAndKeeps (view_at old k) (view_at new k)
+tells_and_keeps old new x k inside = (let one = x.each k inside in record { tells = one.tells; kept = one.kept })
+
 module _ {D O T : Type 0} (ghosts : Ghosts D) (takes breaks : Effect T) (ops : Ops O) (plan : SetPlan) (files : RanKeepsFiles ghosts takes breaks)
     (kept : KeptDrivesRest) where
   -- so do those of a world, over any moves
@@ -67,17 +72,20 @@ module _ {D O T : Type 0} (ghosts : Ghosts D) (takes breaks : Effect T) (ops : O
       → DrivesRest plan used new.disks × AreLost plan used plan.out new.disks
   moves_rest [] used old new same honest rest are =
       subst (λ (w : World D O T). DrivesRest plan used w.disks × AreLost plan used plan.out w.disks) (sym same) (rest, are)
-  moves_rest (Stepped more ∷ moves) used old new (mid, x, ran) honest rest are =
+  moves_rest (Stepped number more ∷ moves) used old new (mid, x, ran) honest rest are =
       let went = files plan more (store_with old x.was x.claim) (store_with mid x.now x.later) x.ran in
       let next = kept plan used plan.out old.disks mid.disks went rest are in
       moves_rest moves used mid new ran honest.1 next.0 next.1
-  moves_rest (Started ∷ moves) used old new (mid, x, ran) honest rest are =
+  moves_rest (Started number ∷ moves) used old new (mid, x, ran) honest rest are =
       moves_rest moves used mid new ran honest.1 (subst (λ d. DrivesRest plan used d) (sym x.disks) rest)
       (subst (λ d. AreLost plan used plan.out d) (sym x.disks) are)
-  moves_rest (Ended ∷ moves) used old new (mid, x, ran) honest rest are =
+  moves_rest (Ended number log ∷ moves) used old new (mid, x, ran) honest rest are =
       moves_rest moves used mid new ran honest.1 (subst (λ d. DrivesRest plan used d) (sym x.disks) rest)
       (subst (λ d. AreLost plan used plan.out d) (sym x.disks) are)
   moves_rest (Struck ∷ moves) used old new (mid, x, ran) honest rest are =
-      let next = struck_rest plan used plan.out old.disks mid.disks x.troubled.disks.long
-      (λ k inside. (let one = x.troubled.disks.each k inside in record { tells = one.tells; kept = one.kept })) honest.0.1 rest are in
+      let next = struck_rest plan used plan.out old.disks mid.disks x.trouble.troubled.disks.long (tells_and_keeps old.disks mid.disks x.trouble.troubled.disks)
+      (formats_stay plan used plan.out old.disks mid.disks (troubled_keep old.disks mid.disks x.trouble.troubled.disks) x.same.disks rest are) rest are in
+      moves_rest moves used mid new ran honest.1 next.0 next.1
+  moves_rest (Hurt ∷ moves) used old new (mid, x, ran) honest rest are =
+      let next = struck_rest plan used plan.out old.disks mid.disks x.troubled.disks.long (tells_and_keeps old.disks mid.disks x.troubled.disks) honest.0.1 rest are in
       moves_rest moves used mid new ran honest.1 next.0 next.1

@@ -1,33 +1,34 @@
 -- Over moves of a world the data of each slot goes on to hold.
-use Rattle.std.proofs.Common.{◌≡◌, ◌⊎◌, ◌<◌, ◌∙◌, ℕ, zero, suc, List, [], ◌∷◌, ◌++◌, length, map, flat_map, slice_index_or, append-nil, append_assoc, Option, None, Some, inl, inr, refl, sym, ap, subst, arith}
+use Rattle.std.proofs.Common.{◌≡◌, ◌∙◌, ℕ, List, [], ◌∷◌, ◌++◌, append-nil, append_assoc, Option, None, Some, inl, inr, refl, sym, ap, subst, arith}
 use Rattle.std.proofs.lemmas.Grind.{flat_map-append}
 use Rattle.std.proofs.lemmas.List.{map-append}
 use Rattle.audit_trail.specs.declared.entry.Entry.{Entry}
 use Rattle.desk_base.specs.Telling.{Effect}
-use Rattle.drive_base.specs.View.{DriveView}
 use Rattle.drive_base.specs.declared.drive.Drive.{Ghosts}
 use Rattle.drive_base.specs.declared.plan.SetPlan.{SetPlan}
 use Rattle.receipts.specs.Events.{Log}
 use Rattle.slot_data.specs.Disks.{Disks}
 use Rattle.slot_core.specs.Views.{SlotNumbers}
-use Rattle.op_steps.specs.Claims.{Claim, among, no_claim}
+use Rattle.op_steps.specs.Claims.{among, no_claim}
 use Rattle.log_laws.specs.Coming.{ClaimsCome, ClaimsGo}
 use Rattle.op_steps.specs.Holding.{StoreHolds}
 use Rattle.log_laws.specs.Laws.{AllHold, LogKeepsData, RanKeepsHistory}
 use Rattle.op_steps.specs.Leading.{with_entries}
 use Rattle.op_steps.specs.Leading.{Standing, entered_at, entered_in, entries_at, entries_of}
-use Rattle.log_laws.specs.Laws.{AllLead, LeadsJoin, LeadsStay}
+use Rattle.log_laws.specs.Laws.{LeadsJoin, LeadsStay}
 use Rattle.op_steps.specs.Steps.{IsSlotAt}
-use Rattle.op_steps.specs.Store.{AreInOrder, SlotSeen, Store}
+use Rattle.op_steps.specs.Store.{AreInOrder, SlotSeen}
 use Rattle.log_laws.specs.StoreTroubles.{ShowsHonestly, TroubleKeepsData}
 use Rattle.op_steps.specs.declared.op.Op.{Ghosts as Ops}
 use Rattle.drill_steps.specs.Laws.{IsHonestMove, IsHonestRun, WorldHolds, WorldHoldsLater, WorldsHold, log_of}
-use Rattle.drill_steps.specs.Worlds.{Actor, Ends, Move, Moves, Seat, Starts, Steps, Strikes, World, WorldRan, claims_of, held_at, steps_of, store_with}
-use Rattle.drill_steps.specs.Worlds.Move.{Ended, Started, Stepped, Struck}
+use Rattle.drill_steps.specs.Worlds.{Ends, Hurts, Move, Moves, Seat, Starts, Steps, World, WorldRan, claims_of, held_at, steps_of, store_with}
+use Rattle.drill_steps.specs.Worlds.Move.{Ended, Hurt, Started, Stepped, Struck}
 use Rattle.drill_steps.specs.Worlds.Seat.{Leaves, Works}
+use Rattle.log_laws.proofs.PlaceLemmas.{slot_at, slot_is_one}
+use Rattle.drill_steps.proofs.HonestLemmas.{shows_honestly, struck_order}
 
 -- the claims of seats, of which one is looked at
-claims_apart : {O T : Type 0} (front : List (Seat O T)) (seat : Seat O T) (rest : List (Seat O T))
+pub claims_apart : {O T : Type 0} (front : List (Seat O T)) (seat : Seat O T) (rest : List (Seat O T))
     → claims_of (front ++ seat ∷ rest) ≡ among (claims_of front) (held_at seat) (claims_of rest)
 claims_apart front seat rest = map-append held_at front (seat ∷ rest)
 
@@ -43,15 +44,6 @@ with_more (Some l) one two = ap Some (append_assoc l one two)
 -- the entries of a log behind another
 entries_join : (k : ℕ) (one two : Log) → entries_at k (one ++ two) ≡ entries_at k one ++ entries_at k two
 entries_join k one two = ap entries_of (flat_map-append (entered_in k) one two) ∙ map-append _ (entered_at k one) (entered_at k two)
-
--- what stands at a place is one slot, and one stands at each
-slot_is_one : {D : Type 0} (slots : List (SlotSeen D)) (k : ℕ) (a b : SlotSeen D) → IsSlotAt slots k a → IsSlotAt slots k b → a ≡ b
-slot_is_one slots k a b one two = sym (one.1 a) ∙ two.1 a
-
-slot_at : {D : Type 0} (slots : List (SlotSeen D)) (k : ℕ) → k < length slots → (was : SlotSeen D) × IsSlotAt slots k was
-slot_at [] k inside = absurd (omega (arith, inside))
-slot_at (slot ∷ more) zero inside = (slot, (omega arith, λ d. refl))
-slot_at (slot ∷ more) (suc k) inside = (let x = slot_at more k (omega (arith, inside)) in (x.0, (let low = x.1.0 in omega (arith, low), λ d. x.1.1 d)))
 
 module _ {D O T : Type 0} (ghosts : Ghosts D) (set : SetPlan) (leads_stay : LeadsStay) where
   -- a world of which the slots stay goes on by no entry
@@ -89,9 +81,9 @@ module _ {D O T : Type 0} (ghosts : Ghosts D) (takes breaks : Effect T) (ops : O
     (log_keeps : LogKeepsData ghosts takes breaks) (history : RanKeepsHistory ghosts takes breaks) (comes : ClaimsCome ghosts.tells ghosts.files)
     (goes : ClaimsGo ghosts.tells ghosts.files) (troubled : TroubleKeepsData ghosts) (leads_stay : LeadsStay) (leads_join : LeadsJoin) where
   -- steps of one actor
-  stepped : (more : Log) (old new : World D O T) (unseen : Disks) (at : ℕ → Standing) → Steps ghosts takes breaks ops set more old new
+  stepped : (number : ℕ) (more : Log) (old new : World D O T) (unseen : Disks) (at : ℕ → Standing) → Steps ghosts takes breaks ops set number more old new
       → WorldHolds ghosts set unseen at old → WorldHoldsLater ghosts set more unseen at old new
-  stepped more old new unseen at x holds =
+  stepped number more old new unseen at x holds =
       let before = store_with old x.was x.claim in
       let after = store_with new x.now x.later in
       let apart = claims_apart x.front (Works x.was x.claim x.log) x.rest in
@@ -126,9 +118,9 @@ module _ {D O T : Type 0} (ghosts : Ghosts D) (takes breaks : Effect T) (ops : O
   }
 
   -- one begins
-  started : (old new : World D O T) (unseen : Disks) (at : ℕ → Standing) → Starts ops old new → WorldHolds ghosts set unseen at old
+  started : (number : ℕ) (old new : World D O T) (unseen : Disks) (at : ℕ → Standing) → Starts ops set number old new → WorldHolds ghosts set unseen at old
       → WorldHoldsLater ghosts set [] unseen at old new
-  started old new unseen at x holds =
+  started number old new unseen at x holds =
       let with_one : claims_of new.seats ≡ claims_of old.seats ++ no_claim x.slot ∷ [] =
       ap claims_of x.seats ∙ map-append held_at old.seats (Works x.actor (no_claim x.slot) [] ∷ []) in
       let came = comes unseen old.slots old.disks (claims_of old.seats) [] x.slot at
@@ -137,12 +129,12 @@ module _ {D O T : Type 0} (ghosts : Ghosts D) (takes breaks : Effect T) (ops : O
       (subst (λ l. StoreHolds ghosts.tells ghosts.files unseen old.slots old.disks l at) (sym with_one) came))
 
   -- one ends
-  ended : (old new : World D O T) (unseen : Disks) (at : ℕ → Standing) → Ends ops old new → WorldHolds ghosts set unseen at old
+  ended : (number : ℕ) (log : Log) (old new : World D O T) (unseen : Disks) (at : ℕ → Standing) → Ends ops set number log old new → WorldHolds ghosts set unseen at old
       → WorldHoldsLater ghosts set [] unseen at old new
-  ended old new unseen at x holds =
+  ended number log old new unseen at x holds =
       let claims : StoreHolds ghosts.tells ghosts.files unseen old.slots old.disks (among (claims_of x.front) x.claim (claims_of x.rest)) at =
       subst (λ l. StoreHolds ghosts.tells ghosts.files unseen old.slots old.disks l at)
-      (ap claims_of x.was ∙ claims_apart x.front (Works x.actor x.claim x.log) x.rest) holds.holds in
+      (ap claims_of x.was ∙ claims_apart x.front (Works x.actor x.claim log) x.rest) holds.holds in
       let left : StoreHolds ghosts.tells ghosts.files unseen old.slots old.disks (claims_of (x.front ++ (x.place ++ x.rest))) at = elim x.left [
         | inl nothing ↦ subst (λ p. StoreHolds ghosts.tells ghosts.files unseen old.slots old.disks (claims_of (x.front ++ (p ++ x.rest))) at) (sym nothing.1)
             (subst (λ l. StoreHolds ghosts.tells ghosts.files unseen old.slots old.disks l at) (sym (map-append held_at x.front x.rest))
@@ -155,29 +147,16 @@ module _ {D O T : Type 0} (ghosts : Ghosts D) (takes breaks : Effect T) (ops : O
       (subst (λ l. StoreHolds ghosts.tells ghosts.files unseen old.slots old.disks l at) (sym (ap claims_of x.now)) left))
 
   -- trouble
-  struck : (old new : World D O T) (unseen : Disks) (at : ℕ → Standing) → Strikes ghosts old new → ShowsHonestly ghosts set new.slots new.disks
+  hurt : (old new : World D O T) (unseen : Disks) (at : ℕ → Standing) → Hurts ghosts old new → ShowsHonestly ghosts set new.slots new.disks
       → WorldHolds ghosts set unseen at old → WorldHoldsLater ghosts set [] unseen at old new
-  struck old new unseen at x honest holds =
+  hurt old new unseen at x honest holds =
       let befell = x.troubled in
       let kept = troubled set old.slots old.disks new.slots new.disks unseen (claims_of old.seats) at holds.order befell honest holds.holds in
       record {
         later = at;
         lead = λ k. leads_stay set k (at k);
         after = record {
-          order = record {
-            count = befell.count ∙ holds.order.count;
-            index = λ k d inside.
-                let now = slot_at new.slots k inside in
-                let s = befell.slots k now.0 now.1 in
-                ap (λ (seen : SlotSeen D). seen.numbers.index) (now.1.1 d) ∙ (ap (λ (n : SlotNumbers). n.index) s.2.numbers
-                ∙ (ap (λ (seen : SlotSeen D). seen.numbers.index) (sym (s.1.1 s.0)) ∙ holds.order.index k s.0 s.1.0));
-            set_is = λ k d inside.
-                let now = slot_at new.slots k inside in
-                let s = befell.slots k now.0 now.1 in
-                ap (λ (seen : SlotSeen D). seen.numbers.set) (now.1.1 d) ∙ (ap (λ (n : SlotNumbers). n.set) s.2.numbers
-                ∙ (ap (λ (seen : SlotSeen D). seen.numbers.set) (sym (s.1.1 s.0)) ∙ holds.order.set_is k s.0 s.1.0));
-            drives = befell.disks.long ∙ holds.order.drives;
-          };
+          order = struck_order ghosts set old.slots new.slots old.disks new.disks befell holds.order;
           holds = subst (λ s. StoreHolds ghosts.tells ghosts.files unseen new.slots new.disks (claims_of s) at) (sym x.seats) kept;
         };
         audits = λ k was now is_was is_now.
@@ -192,10 +171,13 @@ module _ {D O T : Type 0} (ghosts : Ghosts D) (takes breaks : Effect T) (ops : O
   -- one move
   moved : (move : Move) (old new : World D O T) (unseen : Disks) (at : ℕ → Standing) → Moves ghosts takes breaks ops set move old new
       → IsHonestMove ghosts set move new → WorldHolds ghosts set unseen at old → WorldHoldsLater ghosts set (steps_of move) unseen at old new
-  moved (Stepped more) old new unseen at x honest holds = stepped more old new unseen at x holds
-  moved Started old new unseen at x honest holds = started old new unseen at x holds
-  moved Ended old new unseen at x honest holds = ended old new unseen at x holds
-  moved Struck old new unseen at x honest holds = struck old new unseen at x honest.0 holds
+  moved (Started number) old new unseen at x honest holds = started number old new unseen at x holds
+  moved (Stepped number more) old new unseen at x honest holds = stepped number more old new unseen at x holds
+  moved (Ended number log) old new unseen at x honest holds = ended number log old new unseen at x holds
+  moved Struck old new unseen at x honest holds =
+      hurt old new unseen at x.trouble (shows_honestly ghosts set old.slots new.slots old.disks new.disks unseen (claims_of old.seats) at x.trouble.troubled x.same
+      holds.order holds.holds) holds
+  moved Hurt old new unseen at x honest holds = hurt old new unseen at x honest.0 holds
 
   -- any moves
   worlds_hold : (moves : List Move) (old new : World D O T) (unseen : Disks) (at : ℕ → Standing)

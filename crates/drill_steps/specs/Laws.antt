@@ -1,5 +1,5 @@
 -- The laws of worlds: whatever actors do there and in whatever order, the histories of the slots run, and the data of each slot goes on to hold.
-use Rattle.std.specs.Prelude.{◌≡◌, ℕ, ◌<◌, List, [], ◌∷◌, ◌++◌, length}
+use Rattle.std.specs.Prelude.{◌≡◌, ℕ, List, [], ◌∷◌}
 use Rattle.std.specs.Int.{IsBitSet}
 use Rattle.std.specs.List.{flat_map}
 use Rattle.desk_base.specs.Telling.{Effect}
@@ -18,8 +18,8 @@ use Rattle.log_laws.specs.StoreTroubles.{ShowsHonestly}
 use Rattle.op_steps.specs.declared.op.Op.{Ghosts as Ops}
 use Rattle.term_gate.specs.Complete.{ShowsNone}
 use Rattle.term_gate.specs.Terms.{EachHonest}
-use Rattle.drill_steps.specs.Worlds.{Move, Moves, World, WorldRan, claims_of, steps_of}
-use Rattle.drill_steps.specs.Worlds.Move.{Ended, Started, Stepped, Struck}
+use Rattle.drill_steps.specs.Worlds.{Move, World, WorldRan, claims_of, steps_of}
+use Rattle.drill_steps.specs.Worlds.Move.{Ended, Hurt, Started, Stepped, Struck}
 
 -- the steps of moves, in their order
 abbrev pub log_of : List Move → Log
@@ -31,15 +31,16 @@ pub record FormatsAreHonest (lost : ℕ) (disks : List DriveView) : Type 0 where
   pub lack : (k : ℕ) → IsBitSet lost k → ShowsNone (view_at disks k)
 
 module _ {D O T : Type 0} (ghosts : Ghosts D) (set : SetPlan) where
-  -- what lanes and data drives show is honest after trouble
+  -- what lanes and data drives show is honest after damage; of no other move anything is asked
   abbrev pub IsHonestMove : Move → World D O T → Type 0
-  IsHonestMove (Stepped more) world = Unit {0}
-  IsHonestMove Started world = Unit {0}
-  IsHonestMove Ended world = Unit {0}
-  IsHonestMove Struck world = ShowsHonestly ghosts set world.slots world.disks × FormatsAreHonest set.out world.disks
+  IsHonestMove (Started number) world = Unit {0}
+  IsHonestMove (Stepped number more) world = Unit {0}
+  IsHonestMove (Ended number log) world = Unit {0}
+  IsHonestMove Struck world = Unit {0}
+  IsHonestMove Hurt world = ShowsHonestly ghosts set world.slots world.disks × FormatsAreHonest set.out world.disks
 
 module _ {D O T : Type 0} (ghosts : Ghosts D) (takes breaks : Effect T) (ops : Ops O) (set : SetPlan) where
-  -- after each trouble of these moves it is so
+  -- after each damage of these moves it is so
   abbrev pub IsHonestRun : (moves : List Move) (old new : World D O T) → WorldRan ghosts takes breaks ops set moves old new → Type 0
   IsHonestRun [] old new ran = Unit {0}
   IsHonestRun (move ∷ moves) old new ran = IsHonestMove ghosts set move ran.0 × IsHonestRun moves ran.0 new ran.2

@@ -1,10 +1,10 @@
 -- The lives of a store, one after another, with what happens to its lanes and data drives between them.
-use Rattle.std.specs.Prelude.{◌≡◌, ℕ, ◌<◌, ◌≤◌, List, [], ◌∷◌, ◌++◌, Option}
+use Rattle.std.specs.Prelude.{◌≡◌, ℕ, ◌<◌, List, [], ◌∷◌, ◌++◌, Option}
 use Rattle.std.specs.Int.{IsBitSet}
 use Rattle.std.specs.List.{flat_map}
 use Rattle.audit_trail.specs.declared.entry.Entry.{Entry}
 use Rattle.desk_base.specs.Telling.{Effect}
-use Rattle.drive_base.specs.View.{view_at, views}
+use Rattle.drive_base.specs.View.{AtEach, view_at, views}
 use Rattle.drive_base.specs.declared.drive.Drive.{Ghosts}
 use Rattle.drive_base.specs.declared.plan.SetPlan.{SetPlan}
 use Rattle.receipts.specs.Events.{Log}
@@ -25,20 +25,21 @@ use Rattle.store_shared.specs.Strikes.{AreStruck}
 use Rattle.store_shared.specs.declared.pass.StoreParts.{StoreParts}
 use Rattle.store_shared.specs.declared.pass.PlainPass.{PlainPass}
 use Rattle.drill_steps.specs.Laws.{FormatsAreHonest, IsHonestRun, WorldHolds, log_of}
-use Rattle.drill_steps.specs.Worlds.{Move, World, WorldRan}
+use Rattle.drill_steps.specs.Worlds.{Move, ShowsTheSame, World, WorldRan}
 
 -- a store between two turns: it rests with these drives lost, or it is open over a set, some drives of which may be out, in the life of a term
 pub data Place (D A O T : Type 0) : Type 0 where
   Shut : ℕ → StoreParts D A → Place D A O T
   Open : SetPlan → ℕ → World D O T → Place D A O T
 
--- a turn: the store was opened under a term, an opening was refused, these moves were made, the life ended, or drives were struck while it rested
+-- a turn: the store was opened under a term, an opening was refused, these moves were made, the life ended, or drives were struck or hurt while it rested
 pub data Turn : Type 0 where
   Opened : ℕ → Turn
   Refused : Turn
   Lived : List Move → Turn
   Closed : Turn
   Rested : Turn
+  Damaged : Turn
 
 -- the steps of turns
 abbrev pub steps_in : Turn → Log
@@ -47,6 +48,7 @@ steps_in Refused = []
 steps_in (Lived moves) = log_of moves
 steps_in Closed = []
 steps_in Rested = []
+steps_in Damaged = []
 
 abbrev pub log_in : List Turn → Log
 log_in turns = flat_map steps_in turns
@@ -58,6 +60,7 @@ Rises used Refused Later = Later used
 Rises used (Lived moves) Later = Later used
 Rises used Closed Later = Later used
 Rises used Rested Later = Later used
+Rises used Damaged Later = Later used
 
 abbrev pub TermsRise : ℕ → List Turn → ℕ → Type 0
 TermsRise used [] last = last ≡ used
@@ -77,7 +80,7 @@ module _ {D A O T : Type 0} (ghosts : Ghosts D) (entries : A → Option (List En
     pub term_is : is_open.opened.term ≡ term
     pub was : old ≡ Shut lost parts
     pub now : new ≡ Open (set_of pass) term
-        (record { slots = slots_seen entries count (slots_of pass); disks = views ghosts (disks_of pass); seats = [] })
+        (record { begun = 0; slots = slots_seen entries count (slots_of pass); disks = views ghosts (disks_of pass); seats = [] })
 
 module _ {D A O T : Type 0} (ghosts : Ghosts D) where
   -- an opening of one that rests was tried
@@ -99,8 +102,8 @@ module _ {D A O T : Type 0} (ghosts : Ghosts D) where
     pub was : old ≡ Open plan term world
     pub now : new ≡ Shut plan.out parts
 
-  -- lanes and data drives of one that rests were struck by trouble, or stopped
-  pub record Rests (old new : Place D A O T) : Type 0 where
+  -- lanes and data drives of one that rests were struck by trouble, or stopped; they may be damaged
+  pub record Suffers (old new : Place D A O T) : Type 0 where
     pub lost : ℕ
     pub before : StoreParts D A
     pub after : StoreParts D A
@@ -109,6 +112,13 @@ module _ {D A O T : Type 0} (ghosts : Ghosts D) where
         → (was : SlotParts D A) × ArePartsAt before.slots.items k was × AreStruck (views ghosts was.lanes.items) (views ghosts now.lanes.items)
     pub was : old ≡ Shut lost before
     pub now : new ≡ Shut lost after
+
+  -- so were those of one that rests, and each shows what it showed
+  pub record Rests (old new : Place D A O T) : Type 0 where
+    pub trouble : Suffers old new
+    pub disks : AtEach (λ k. ShowsTheSame) (views ghosts trouble.before.disks.items) (views ghosts trouble.after.disks.items)
+    pub lanes : (k : ℕ) (was now : SlotParts D A) → ArePartsAt trouble.before.slots.items k was → ArePartsAt trouble.after.slots.items k now
+        → AtEach (λ k. ShowsTheSame) (views ghosts was.lanes.items) (views ghosts now.lanes.items)
 
 module _ {D A O T : Type 0} (ghosts : Ghosts D) (takes breaks : Effect T) (ops : Ops O) where
   -- moves were made in one that is open
@@ -129,6 +139,7 @@ module _ {D A O T : Type 0} (ghosts : Ghosts D) (entries : A → Option (List En
   TurnDoes (Lived moves) old new = Lives ghosts takes breaks ops moves old new
   TurnDoes Closed old new = Closes ghosts old new
   TurnDoes Rested old new = Rests ghosts old new
+  TurnDoes Damaged old new = Suffers ghosts old new
 
   -- turns lead from one place to another
   abbrev pub LivesRan : List Turn → Place D A O T → Place D A O T → Type 0
@@ -138,7 +149,7 @@ module _ {D A O T : Type 0} (ghosts : Ghosts D) (entries : A → Option (List En
 -- ---- what is asked of damage
 
 module _ {D A : Type 0} (ghosts : Ghosts D) (set : SetPlan) where
-  -- what lanes and data drives show that were struck while they rested is honest, but where they are lost
+  -- what lanes and data drives show that were damaged while they rested is honest, but where they are lost
   pub record PartsAreHonest (lost : ℕ) (parts : StoreParts D A) : Type 0 where
     pub formats : FormatsAreHonest lost (views ghosts parts.disks.items)
     pub manifests : (k : ℕ) → k < set.drives → (IsBitSet lost k → ⊥) → HasHonestManifests (view_at (views ghosts parts.disks.items) k).files
@@ -152,7 +163,8 @@ module _ {D A O T : Type 0} (ghosts : Ghosts D) (entries : A → Option (List En
   IsHonestTurn Refused old new x = LostServe x.lost (views ghosts x.before.disks.items) (views ghosts x.after.disks.items)
   IsHonestTurn (Lived moves) old new x = IsHonestRun ghosts takes breaks ops x.plan moves x.before x.after x.ran
   IsHonestTurn Closed old new x = Unit {0}
-  IsHonestTurn Rested old new x = PartsAreHonest ghosts set x.lost x.after
+  IsHonestTurn Rested old new x = Unit {0}
+  IsHonestTurn Damaged old new x = PartsAreHonest ghosts set x.lost x.after
 
   abbrev pub AreHonestLives : (turns : List Turn) (old new : Place D A O T) → LivesRan ghosts entries count takes breaks ops set turns old new → Type 0
   AreHonestLives [] old new ran = Unit {0}

@@ -1,12 +1,15 @@
 //! The laws of worlds and of lives.
 
 ghost use Rattle.drill_steps.specs.Laws.{WorldsHold};
+ghost use Rattle.drill_steps.specs.LiveFiles.{WorldKeepsFiles};
 ghost use Rattle.drill_steps.specs.Lives.{ChangesApplyOnce, LivesHold};
+ghost use Rattle.drill_steps.specs.Puts.{PutIdsRise};
+ghost use Rattle.drill_steps.specs.Scripts.{LinesAreTurns};
 
 use audit_trail::Audit;
 use desk_base::Teller;
 use drive_base::Drive;
-use log_laws::{claim_laws, data_law, history_law, showing_laws, trouble_law};
+use log_laws::{claim_laws, data_law, history_law, live_law, showing_laws, trouble_law};
 use op_steps::Op;
 use slot_history::run_laws;
 use store_shared::{opened_law, pass_law, struck_law};
@@ -43,4 +46,23 @@ pub fn once_law()
 {
     showing_laws();
     run_laws();
+}
+
+/// Whatever the lines of a script do, they are turns of lives, and where none of them is a `hurt` or a `stop` they ask nothing of damage. It does nothing.
+pub fn line_law<O: Op, D: Drive, A: Audit, T: Teller>()
+    ensures { LinesAreTurns D.Drive A.entries A.count T.takes T.breaks O.Op }
+{}
+
+/// Over any moves of a life the puts that begin in a slot have rising numbers, above the last that the slot drew before, so no id is given twice. It does nothing.
+pub fn put_law<O: Op, D: Drive, T: Teller>()
+    ensures { PutIdsRise D.Drive T.takes T.breaks O.Op }
+{
+    history_law::<D, T>();
+}
+
+/// In a world that holds no step of an actor takes a file of live data from a drive that tells, but of the actor's own put under way. It does nothing.
+pub fn file_law<O: Op, D: Drive, T: Teller>()
+    ensures { WorldKeepsFiles D.Drive T.takes T.breaks O.Op }
+{
+    live_law::<D, T>();
 }

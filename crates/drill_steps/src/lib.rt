@@ -4,4 +4,4 @@
 
 mod laws;
 
-pub use laws::{lives_law, once_law, world_law};
+pub use laws::{file_law, line_law, lives_law, once_law, put_law, world_law};
